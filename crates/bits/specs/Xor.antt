@@ -1,0 +1,85 @@
+-- Laws of XOR and AND, beside those of the kit's lib.Bits: by halves and lowest digits; associative; an XOR undoes itself; AND
+-- distributes; what keeps an equation's truth. Assumes nothing.
+use mathlib.Core.Path.{_≡_, refl, sym, ap, _∙_}
+use Prim.Native.Nat.{ℕ, zero, suc, _+_, _*_, _/_, _%_, _<_, min}
+use native.Mathlib.Decide.{ℕ-discrete}
+use native.Mathlib.Nat.{mul-zero, mul-one}
+use native.Mathlib.Omega.{arith}
+use borrow.Author.Tests.{eq-eqb, ne-eqb}
+use lib.Arith.{bin-ind}
+use lib.Bits.{bitAnd, bitXor, differ, and-step, xor-step, xor-shr, and-shr, xor-self, xor-zero-r, and-zero-r}
+use lib.Dec.{eqb}
+
+-- halves and lowest digits decide a number
+pub dig-ext : (a b : ℕ) → a / 2 ≡ b / 2 → a % 2 ≡ b % 2 → a ≡ b
+dig-ext a b h l = omega arith
+
+differ-mod : (x y : ℕ) → x < 2 → y < 2 → differ x y ≡ (x + y) % 2
+differ-mod zero zero hx hy = refl
+differ-mod zero (suc zero) hx hy = refl
+differ-mod zero (suc (suc y)) hx hy = absurd (omega arith)
+differ-mod (suc zero) zero hx hy = refl
+differ-mod (suc zero) (suc zero) hx hy = refl
+differ-mod (suc zero) (suc (suc y)) hx hy = absurd (omega arith)
+differ-mod (suc (suc x)) y hx hy = absurd (omega arith)
+
+pub xor-half : (a b : ℕ) → bitXor a b / 2 ≡ bitXor (a / 2) (b / 2)
+xor-half a b = xor-shr a b 1
+
+pub and-half : (a b : ℕ) → bitAnd a b / 2 ≡ bitAnd (a / 2) (b / 2)
+and-half a b = and-shr a b 1
+
+pub xor-odd : (a b : ℕ) → bitXor a b % 2 ≡ (a % 2 + b % 2) % 2
+xor-odd a b = omega (arith, xor-step a b, differ-mod (a % 2) (b % 2) (omega arith) (omega arith))
+
+pub and-odd : (a b : ℕ) → bitAnd a b % 2 ≡ min (a % 2) (b % 2)
+and-odd a b = omega (arith, and-step a b)
+
+add3 : (a b c : ℕ) → ((a + b) % 2 + c) % 2 ≡ (a + (b + c) % 2) % 2
+add3 a b c = omega arith
+
+pub xor-assoc : (a b c : ℕ) → bitXor (bitXor a b) c ≡ bitXor a (bitXor b c)
+xor-assoc a b c =
+    bin-ind (λ (n : ℕ). (b c : ℕ) → bitXor (bitXor n b) c ≡ bitXor n (bitXor b c)) (λ b c. refl)
+    (λ n ih b c.
+    dig-ext _ _ (simp xor-half (ih (b / 2) (c / 2))) (simp xor-odd (add3 (n % 2) (b % 2) (c % 2))))
+    a b c
+
+-- an xor undoes itself
+pub xor-cancel : (a b : ℕ) → bitXor a (bitXor a b) ≡ b
+xor-cancel a b = rw (← xor-assoc a a b, xor-self a)
+
+pub xor-cancel-r : (a b : ℕ) → bitXor (bitXor a b) b ≡ a
+xor-cancel-r a b = rw (xor-assoc a b b, xor-self b, xor-zero-r)
+
+minx : (a x y : ℕ) → a < 2 → x < 2 → y < 2 → min a ((x + y) % 2) ≡ (min a x + min a y) % 2
+minx zero x y ha hx hy = omega arith
+minx (suc zero) x y ha hx hy = omega arith
+minx (suc (suc a)) x y ha hx hy = absurd (omega arith)
+
+pub and-xor : (a x y : ℕ) → bitAnd a (bitXor x y) ≡ bitXor (bitAnd a x) (bitAnd a y)
+and-xor a x y =
+    bin-ind (λ (n : ℕ). (x y : ℕ) → bitAnd n (bitXor x y) ≡ bitXor (bitAnd n x) (bitAnd n y)) (λ x y. refl)
+    (λ n ih x y.
+    dig-ext _ _ (simp (xor-half, and-half) (ih (x / 2) (y / 2)))
+    (simp (xor-odd, and-odd) (minx (n % 2) (x % 2) (y % 2) (omega arith) (omega arith) (omega arith))))
+    a x y
+
+-- XOR of both sides keeps an equation's truth
+pub eqb-xor : (a b w : ℕ) → eqb (bitXor a w) (bitXor b w) ≡ eqb a b
+eqb-xor a b w = go (ℕ-discrete a b)
+  where
+    go : Dec (a ≡ b) → eqb (bitXor a w) (bitXor b w) ≡ eqb a b
+    go (yes e) = rw (eq-eqb a b e, eq-eqb (bitXor a w) (bitXor b w) (ap (λ (x : ℕ). bitXor x w) e))
+    go (no n) =
+        rw (
+          ne-eqb a b n,
+          ne-eqb (bitXor a w) (bitXor b w)
+              (λ e. n (sym (xor-cancel-r a w) ∙ ap (λ (x : ℕ). bitXor x w) e ∙ xor-cancel-r b w)),
+        )
+
+-- a number times a digit, under AND
+pub and-times : (m u d : ℕ) → d < 2 → bitAnd m (u * d) ≡ bitAnd m u * d
+and-times m u zero h = rw (mul-zero u, mul-zero (bitAnd m u)) (and-zero-r m)
+and-times m u (suc zero) h = rw (mul-one u, mul-one (bitAnd m u))
+and-times m u (suc (suc d)) h = absurd (omega arith)

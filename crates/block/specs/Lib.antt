@@ -1,0 +1,11 @@
+-- The meaning of 01, one file for each of its sections, in their order. Laws about it stand in other crates.
+pub mod Limits
+pub mod Words
+pub mod Measure
+pub mod Basis
+pub mod Rows
+pub mod Refusals
+pub mod Tables
+pub mod Lists
+pub mod Text
+pub mod Sheet

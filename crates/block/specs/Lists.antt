@@ -1,0 +1,102 @@
+-- The operations on lists of rows (01, Numbers that come back): for each its checks in their order, its answer and its results.
+-- Assumes nothing.
+use mathlib.Core.Bool.{Bool, not, cond, _||_}
+use mathlib.Core.List.{List, [], _∷_}
+use Prim.Native.Nat.{ℕ, suc, _+_, _^_}
+use lib.Dec.{eqb, ltb}
+use lib.ListN.{length}
+use Rattle.slices.specs.Places.{at, tab, first}
+use Rattle.block.specs.Limits.{listInputs, tableInputs, givenRows, smallerRows}
+use Rattle.block.specs.Words.{ofRows}
+use Rattle.block.specs.Measure.{shift, measure}
+use Rattle.block.specs.Basis.{basisOf, smallerOf}
+use Rattle.block.specs.Rows.{moved}
+use Rattle.block.specs.Refusals.{Check, check, verdict, carried, outside, sizeChecks, some, badRow, rowAt, second, sharing}
+use Rattle.block.specs.Tables.{withValue}
+use Rattle.block.specs.declared.Row.{Row}
+use Rattle.block.specs.declared.Answer.{Answer}
+use Rattle.block.specs.declared.ValueAnswer.{ValueAnswer}
+use Rattle.block.specs.declared.RowMethodAnswer.{RowMethodAnswer}
+
+-- 4: the number of rows
+abbrev pub countCheck : ℕ → List Row → Check
+countCheck most rs = check (outside 1 most (length rs)) 4 0 0
+
+-- 6: the least malformed row
+abbrev pub badRowCheck : ℕ → ℕ → List Row → Check
+badRowCheck n k rs =
+    check (some (length rs) (λ i. badRow n k (rowAt rs i))) 6 0 (first (length rs) (λ i. badRow n k (rowAt rs i)))
+
+-- 7: the first pair of rows that share a point, smallest first row and then smallest second
+abbrev pub shareCheck : ℕ → List Row → Check
+shareCheck n rs = check (ltb (sharing n rs) (length rs)) 7 (sharing n rs) (second n rs (sharing n rs))
+
+-- ---- a single shift value of a list: 1, 2, 3 (t), 4, 6, 7
+
+unfoldable pub rowValueVerdict : ℕ → ℕ → ℕ → List Row → Answer
+rowValueVerdict n k t rs =
+    verdict (sizeChecks listInputs n k (
+    check (not (ltb t (2 ^ n))) 3 0 0
+    ∷ countCheck givenRows rs
+    ∷ badRowCheck n k rs
+    ∷ shareCheck n rs
+    ∷ []))
+
+unfoldable pub rowValue : ℕ → ℕ → ℕ → List Row → ValueAnswer
+rowValue n k t rs = withValue (rowValueVerdict n k t rs) (shift (ofRows rs) n t)
+
+-- ---- the row method: 1, 2, 3 (w), 4, 5, 6, 7, 9
+
+-- the rows after the first i steps
+unfoldable pub rowsAfter : ℕ → ℕ → ℕ → List Row → List Row
+rowsAfter n w i rs = moved n (at (basisOf (ofRows rs) n w)) i rs
+
+-- 9: the least i with more than 512 rows after step i + 1; n where there is none
+unfoldable pub passing : ℕ → ℕ → List Row → ℕ
+passing n w rs = first n (λ i. ltb smallerRows (length (rowsAfter n w (suc i) rs)))
+
+-- `short` says that the lent room is too short: 512 rows, and n numbers for each matrix
+unfoldable pub methodChecks : ℕ → ℕ → ℕ → List Row → Bool → List Check
+methodChecks n k w rs short =
+    sizeChecks listInputs n k (
+    check (outside 1 n w) 3 0 0
+    ∷ countCheck givenRows rs
+    ∷ check short 5 0 0
+    ∷ badRowCheck n k rs
+    ∷ shareCheck n rs
+    ∷ check (ltb (passing n w rs) n) 9 (suc (passing n w rs)) 0
+    ∷ [])
+
+unfoldable pub rowMethodVerdict : ℕ → ℕ → ℕ → List Row → ℕ → ℕ → ℕ → Answer
+rowMethodVerdict n k w rs roomT roomSigma roomRows =
+    verdict (methodChecks n k w rs (ltb roomT n || (ltb roomSigma n || ltb roomRows smallerRows)))
+
+-- the smaller rows
+unfoldable pub smallerList : ℕ → ℕ → List Row → List Row
+smallerList n w rs = rowsAfter n w n rs
+
+unfoldable pub rowMethod : ℕ → ℕ → ℕ → List Row → ℕ → ℕ → ℕ → RowMethodAnswer
+rowMethod n k w rs roomT roomSigma roomRows =
+    let v : Answer = rowMethodVerdict n k w rs roomT roomSigma roomRows in
+    record {
+      number = v .number;
+      a = v .a;
+      b = v .b;
+      before = carried v (measure (ofRows rs) n);
+      after = carried v (measure (smallerOf (ofRows rs) n w) n);
+      count = carried v (length (smallerList n w rs));
+    }
+
+-- ---- filling a table from rows: 1, 2, 4 (up to 512 rows), 5, 6, 7
+
+unfoldable pub fillVerdict : ℕ → ℕ → List Row → ℕ → Answer
+fillVerdict n k rs room =
+    verdict (sizeChecks tableInputs n k (
+    countCheck smallerRows rs
+    ∷ check (ltb room (2 ^ n)) 5 0 0
+    ∷ badRowCheck n k rs
+    ∷ shareCheck n rs
+    ∷ []))
+
+unfoldable pub filled : ℕ → List Row → List ℕ
+filled n rs = tab (2 ^ n) (ofRows rs)

@@ -1,0 +1,75 @@
+-- The operations on tables (01, Numbers that come back): for each its checks in their order, its answer and its results.
+-- Assumes nothing.
+use mathlib.Core.Bool.{Bool, not, cond, _||_}
+use mathlib.Core.List.{List, [], _∷_}
+use Prim.Native.Nat.{ℕ, _^_}
+use lib.Dec.{eqb, ltb}
+use lib.ListN.{length}
+use Rattle.slices.specs.Places.{at, tab}
+use Rattle.block.specs.Limits.{tableInputs}
+use Rattle.block.specs.Words.{ofTable}
+use Rattle.block.specs.Measure.{shift, measure}
+use Rattle.block.specs.Basis.{apply, smallerOf}
+use Rattle.block.specs.Refusals.{check, verdict, carried, outside, sizeChecks, badEntry, badNumber, malformed, dependent}
+use Rattle.block.specs.declared.Answer.{Answer}
+use Rattle.block.specs.declared.ValueAnswer.{ValueAnswer}
+use Rattle.block.specs.declared.TableMethodAnswer.{TableMethodAnswer}
+
+-- ---- a single shift value of a table: 1, 2, 3 (t), 4, 6
+
+unfoldable pub tableValueVerdict : ℕ → ℕ → ℕ → List ℕ → Answer
+tableValueVerdict n k t table =
+    verdict (sizeChecks tableInputs n k (
+    check (not (ltb t (2 ^ n))) 3 0 0
+    ∷ check (not (eqb (length table) (2 ^ n))) 4 0 0
+    ∷ malformed 0 (badEntry k) table
+    ∷ []))
+
+-- an answer with a value
+abbrev pub withValue : Answer → ℕ → ValueAnswer
+withValue v x = record { number = v .number; a = v .a; b = v .b; value = carried v x }
+
+unfoldable pub tableValue : ℕ → ℕ → ℕ → List ℕ → ValueAnswer
+tableValue n k t table = withValue (tableValueVerdict n k t table) (shift (ofTable table) n t)
+
+-- ---- the table method: 1, 2, 3 (w), 4, 5, 6; roomT, roomSigma and roomTable are the lengths of the lent storage
+
+unfoldable pub tableMethodVerdict : ℕ → ℕ → ℕ → List ℕ → ℕ → ℕ → ℕ → Answer
+tableMethodVerdict n k w table roomT roomSigma roomTable =
+    verdict (sizeChecks tableInputs n k (
+    check (outside 1 n w) 3 0 0
+    ∷ check (not (eqb (length table) (2 ^ n))) 4 0 0
+    ∷ check (ltb roomT n || (ltb roomSigma n || ltb roomTable (2 ^ n))) 5 0 0
+    ∷ malformed 0 (badEntry k) table
+    ∷ []))
+
+-- the table of the smaller block
+unfoldable pub smallerTable : (ℕ → ℕ) → ℕ → ℕ → List ℕ
+smallerTable f n w = tab (2 ^ n) (smallerOf f n w)
+
+unfoldable pub tableMethod : ℕ → ℕ → ℕ → List ℕ → ℕ → ℕ → ℕ → TableMethodAnswer
+tableMethod n k w table roomT roomSigma roomTable =
+    let v : Answer = tableMethodVerdict n k w table roomT roomSigma roomTable in
+    record {
+      number = v .number;
+      a = v .a;
+      b = v .b;
+      before = carried v (measure (ofTable table) n);
+      after = carried v (measure (smallerOf (ofTable table) n w) n);
+    }
+
+-- ---- restoring a table from sigma and a smaller table: 1, 2, 4, 5, 6 (the matrix first), 8
+
+unfoldable pub restoreVerdict : ℕ → ℕ → List ℕ → List ℕ → ℕ → Answer
+restoreVerdict n k sigma table room =
+    verdict (sizeChecks tableInputs n k (
+    check (not (eqb (length sigma) n) || not (eqb (length table) (2 ^ n))) 4 0 0
+    ∷ check (ltb room (2 ^ n)) 5 0 0
+    ∷ malformed 1 (badNumber n) sigma
+    ∷ malformed 0 (badEntry k) table
+    ∷ check (ltb (dependent n (at sigma)) n) 8 (dependent n (at sigma)) 0
+    ∷ []))
+
+-- the block at x is the smaller block at sigma x
+unfoldable pub restored : ℕ → List ℕ → List ℕ → List ℕ
+restored n sigma table = tab (2 ^ n) (λ x. ofTable table (apply (at sigma) n x))

@@ -1,0 +1,97 @@
+// The meaning of 01: the types that callers and answers share, and in specs/ every definition that a contract cites, one file for
+// each section of 01. This crate has no functions. What is proved about the definitions stands in the crates above it.
+
+// A row: the mask of its fixed inputs, their values, and its output word.
+#[repr(C)]
+pub struct Row {
+    pub mask: u32,
+    pub values: u32,
+    pub word: u32,
+}
+
+// An answer's number and its two places, 0 where not named.
+#[repr(C)]
+pub struct Answer {
+    pub number: u32,
+    pub a: usize,
+    pub b: usize,
+}
+
+// The answer to a single shift value.
+#[repr(C)]
+pub struct ValueAnswer {
+    pub number: u32,
+    pub a: usize,
+    pub b: usize,
+    pub value: u64,
+}
+
+// The answer of the table method: the measure of the block and of the smaller block.
+#[repr(C)]
+pub struct TableMethodAnswer {
+    pub number: u32,
+    pub a: usize,
+    pub b: usize,
+    pub before: u64,
+    pub after: u64,
+}
+
+// The answer of the row method: the measures, and the number of smaller rows.
+#[repr(C)]
+pub struct RowMethodAnswer {
+    pub number: u32,
+    pub a: usize,
+    pub b: usize,
+    pub before: u64,
+    pub after: u64,
+    pub count: usize,
+}
+
+// The answer of an operation that writes text: the number of bytes.
+#[repr(C)]
+pub struct TextAnswer {
+    pub number: u32,
+    pub a: usize,
+    pub b: usize,
+    pub count: usize,
+}
+
+// The answer of the text reader in numbers: n, k and the number of rows.
+#[repr(C)]
+pub struct ReadAnswer {
+    pub number: u32,
+    pub a: usize,
+    pub b: usize,
+    pub n: usize,
+    pub k: usize,
+    pub count: usize,
+}
+
+// Why the text reader refuses: the ranges of n, k and rows, the lent room, or a line's form.
+pub enum Kind {
+    Inputs,
+    Outputs,
+    Count,
+    Room,
+    Form,
+}
+
+// A refusal of the text reader: its kind and its two places.
+pub struct Refusal {
+    pub kind: Kind,
+    pub a: usize,
+    pub b: usize,
+}
+
+// What an accepted text says: n, k and the number of rows.
+pub struct Headings {
+    pub n: usize,
+    pub k: usize,
+    pub count: usize,
+}
+
+// The text reader's answer.
+pub enum Reading {
+    Accepted(Headings),
+    Refused(Refusal),
+}

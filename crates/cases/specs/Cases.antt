@@ -1,0 +1,157 @@
+-- The blocks that 01 marks P (01, Blocks to try by hand), as one statement over a table: each question has the numbers that stand
+-- beside it. Every question goes through the answer that an operation's contract cites. Assumes nothing.
+use mathlib.Core.Path.{_≡_, refl, ap₂}
+use mathlib.Core.Bool.{Bool, true, false, cond, _&&_}
+use mathlib.Core.List.{List, [], _∷_, _++_}
+use Prim.Native.Nat.{ℕ, zero, suc, _^_}
+use lib.Count.{ones, onesIn}
+use lib.Dec.{T, eqb, eqb→eq}
+use lib.ListN.{length}
+use Rattle.bits.specs.Digits.{parity}
+use Rattle.slices.specs.Places.{tab, first}
+use Rattle.sums.specs.Sums.{sum, count}
+use Rattle.block.specs.Words.{wordAt, ofTable, ofRows, row}
+use Rattle.block.specs.Measure.{same, shift, measure}
+use Rattle.block.specs.Basis.{span, candidate, before, better, best, next, chosen, columns, apply, inverse, basisOf, sigmaOf, smallerOf}
+use Rattle.block.specs.Rows.{highest, partner, exchange, rest, shear, reached, splitRow, splitRows, moved}
+use Rattle.block.specs.Refusals.{verdict, answered, badRow, share, second, sharing, dependent}
+use Rattle.block.specs.Tables.{tableValueVerdict, tableValue, tableMethodVerdict, tableMethod, smallerTable, restoreVerdict, restored}
+use Rattle.block.specs.Lists.{rowValueVerdict, rowValue, rowsAfter, passing, methodChecks, rowMethodVerdict, rowMethod, smallerList}
+use Rattle.block.specs.Text.{equal}
+use Rattle.block.specs.declared.Row.{Row}
+use Rattle.block.specs.declared.Answer.{Answer}
+
+and-left : (p q : Bool) → T (p && q) → T p
+and-left true q h = tt
+and-left false q h = h
+
+and-right : (p q : Bool) → T (p && q) → T q
+and-right true q h = h
+and-right false q h = absurd h
+
+-- lists that the test finds equal are equal
+equal-same : (a b : List ℕ) → T (equal a b) → a ≡ b
+unfolding equal
+equal-same [] [] h = refl
+equal-same [] (y ∷ ys) h = absurd h
+equal-same (x ∷ xs) [] h = absurd h
+equal-same (x ∷ xs) (y ∷ ys) h =
+    ap₂ _∷_ (eqb→eq x y (and-left (eqb x y) (equal xs ys) h)) (equal-same xs ys (and-right (eqb x y) (equal xs ys) h))
+
+-- a question to one operation; the lent room is just what it asks for
+pub data Question : Type 0 where
+  tableValues : ℕ → ℕ → List ℕ → Question
+  tableMethods : ℕ → ℕ → ℕ → List ℕ → Question
+  rowValues : ℕ → ℕ → ℕ → List Row → Question
+  rowMethods : ℕ → ℕ → ℕ → List Row → Question
+  restores : ℕ → ℕ → List ℕ → List ℕ → Question
+
+-- a result beside an answer, nothing beside a refusal
+abbrev pub with : Answer → List ℕ → List ℕ
+with v s = cond (answered v) s []
+
+-- rows as numbers: mask, values, word
+pub flat : List Row → List ℕ
+flat [] = []
+flat (r ∷ rs) = r .mask ∷ r .values ∷ r .word ∷ flat rs
+
+-- number, A, B; then R at every t; or the measures, T, sigma and the smaller table; or the value; or the measures, the count, T,
+-- sigma and the smaller rows; or the restored table
+pub ask : Question → List ℕ
+ask (tableValues n k table) = tab (2 ^ n) (λ t. tableValue n k t table .value)
+ask (tableMethods n k w table) =
+    let r = tableMethod n k w table n n (2 ^ n) in
+    r .number ∷ r .a ∷ r .b ∷ r .before ∷ r .after
+    ∷ with (tableMethodVerdict n k w table n n (2 ^ n))
+    (basisOf (ofTable table) n w ++ sigmaOf (ofTable table) n w ++ smallerTable (ofTable table) n w)
+ask (rowValues n k t rs) = let r = rowValue n k t rs in r .number ∷ r .a ∷ r .b ∷ r .value ∷ []
+ask (rowMethods n k w rs) =
+    let r = rowMethod n k w rs n n 512 in
+    r .number ∷ r .a ∷ r .b ∷ r .before ∷ r .after ∷ r .count
+    ∷ with (rowMethodVerdict n k w rs n n 512)
+    (basisOf (ofRows rs) n w ++ sigmaOf (ofRows rs) n w ++ flat (smallerList n w rs))
+ask (restores n k sigma table) =
+    let v = restoreVerdict n k sigma table (2 ^ n) in
+    v .number ∷ v .a ∷ v .b ∷ with v (restored n sigma table)
+
+pub record Case : Type 0 where
+  pub question : Question
+  pub says : List ℕ
+
+abbrev pub case : Question → List ℕ → Case
+case q s = record { question = q; says = s }
+
+pub tableA : List ℕ
+tableA = 0 ∷ 1 ∷ 1 ∷ 0 ∷ []
+
+-- "- 1"
+pub rowsC : List Row
+rowsC = row 0 0 1 ∷ []
+
+-- "0 011111111", "1 111111111"
+pub rowsD : List Row
+rowsD = row 1 0 255 ∷ row 1 1 511 ∷ []
+
+-- "00- 01", "11- 01", "01- 10", "10- 10"
+unfoldable pub rowsE : List Row
+rowsE = row 6 0 1 ∷ row 6 6 1 ∷ row 6 2 2 ∷ row 6 4 2 ∷ []
+
+-- "--0 01", "001 10", "111 10", "011 11", "101 11"
+pub rowsF : List Row
+rowsF = row 1 0 1 ∷ row 7 1 2 ∷ row 7 7 2 ∷ row 7 3 3 ∷ row 7 5 3 ∷ []
+
+-- "-00 01", "110 01", "010 00", "001 10", "111 10", "011 11", "101 11"
+pub rowsG : List Row
+rowsG = row 3 0 1 ∷ row 7 6 1 ∷ row 7 2 0 ∷ row 7 1 2 ∷ row 7 7 2 ∷ row 7 3 3 ∷ row 7 5 3 ∷ []
+
+-- "0-", "-0"
+pub rowsH : List Row
+rowsH = row 2 0 0 ∷ row 1 0 0 ∷ []
+
+-- the cases a to j
+pub table : List Case
+table =
+    case (tableValues 2 1 tableA) (4 ∷ 0 ∷ 0 ∷ 4 ∷ [])
+    ∷ case (tableMethods 2 1 2 tableA) (0 ∷ 0 ∷ 0 ∷ 0 ∷ 4 ∷ 3 ∷ 1 ∷ 2 ∷ 3 ∷ 0 ∷ 0 ∷ 1 ∷ 1 ∷ [])
+    ∷ case (tableMethods 2 1 1 tableA) (0 ∷ 0 ∷ 0 ∷ 0 ∷ 0 ∷ 1 ∷ 2 ∷ 1 ∷ 2 ∷ 0 ∷ 1 ∷ 1 ∷ 0 ∷ [])
+    ∷ case (rowMethods 1 1 1 rowsC) (0 ∷ 0 ∷ 0 ∷ 2 ∷ 2 ∷ 1 ∷ 1 ∷ 1 ∷ 0 ∷ 0 ∷ 1 ∷ [])
+    ∷ case (rowValues 1 9 1 rowsD) (0 ∷ 0 ∷ 0 ∷ 0 ∷ [])
+    ∷ case (rowMethods 3 2 3 rowsE)
+    (0 ∷ 0 ∷ 0 ∷ 8 ∷ 16 ∷ 4 ∷ 1 ∷ 6 ∷ 2 ∷ 1 ∷ 4 ∷ 6 ∷ 6 ∷ 0 ∷ 1 ∷ 6 ∷ 2 ∷ 1 ∷ 6 ∷ 4 ∷ 2 ∷ 6 ∷ 6 ∷ 2 ∷ [])
+    ∷ case (rowMethods 3 2 3 rowsF)
+    (0 ∷ 0 ∷ 0 ∷ 8 ∷ 12 ∷ 5 ∷ 6 ∷ 2 ∷ 1 ∷ 4 ∷ 6 ∷ 1 ∷ 4 ∷ 0 ∷ 1 ∷ 7 ∷ 4 ∷ 2 ∷ 7 ∷ 5 ∷ 2 ∷ 7 ∷ 6 ∷ 3 ∷ 7 ∷ 7 ∷ 3 ∷ [])
+    ∷ case (rowMethods 3 2 3 rowsG)
+    (0 ∷ 0 ∷ 0 ∷ 4 ∷ 8 ∷ 8 ∷ 6 ∷ 2 ∷ 1 ∷ 4 ∷ 6 ∷ 1
+    ∷ 7 ∷ 0 ∷ 1 ∷ 7 ∷ 3 ∷ 1 ∷ 7 ∷ 1 ∷ 1 ∷ 7 ∷ 2 ∷ 0 ∷ 7 ∷ 4 ∷ 2 ∷ 7 ∷ 5 ∷ 2 ∷ 7 ∷ 6 ∷ 3 ∷ 7 ∷ 7 ∷ 3 ∷ [])
+    ∷ case (rowMethods 2 1 2 rowsH) (7 ∷ 0 ∷ 1 ∷ 0 ∷ 0 ∷ 0 ∷ [])
+    ∷ case (restores 2 1 (2 ∷ 3 ∷ []) (0 ∷ 0 ∷ 1 ∷ 1 ∷ [])) (0 ∷ 0 ∷ 0 ∷ 0 ∷ 1 ∷ 1 ∷ 0 ∷ [])
+    ∷ case (restores 2 1 (3 ∷ 3 ∷ []) (0 ∷ 0 ∷ 1 ∷ 1 ∷ [])) (8 ∷ 1 ∷ 0 ∷ [])
+    ∷ case (restores 2 1 (0 ∷ 1 ∷ []) (0 ∷ 0 ∷ 1 ∷ 1 ∷ [])) (8 ∷ 0 ∷ 0 ∷ [])
+    ∷ []
+
+-- the test of a table of cases, which antt computes
+right : List Case → Bool
+right [] = true
+right (c ∷ cs) = equal (ask (c .question)) (c .says) && right cs
+
+-- each question has the answer that stands beside it
+abbrev pub Right : List Case → Type 0
+Right [] = Unit {0}
+Right (c ∷ cs) = (ask (c .question) ≡ c .says) × Right cs
+
+right-all : (cs : List Case) → T (right cs) → Right cs
+unfolding right
+right-all [] h = tt
+right-all (c ∷ cs) h = (
+  equal-same (ask (c .question)) (c .says) (and-left (equal (ask (c .question)) (c .says)) (right cs) h),
+  right-all cs (and-right (equal (ask (c .question)) (c .says)) (right cs) h),
+)
+
+pub cases : Right table
+unfolding
+    ask flat table right tableA rowsC rowsD rowsE rowsF rowsG rowsH ones onesIn parity tab first sum count wordAt same shift measure
+    span candidate before better best next chosen columns apply inverse basisOf sigmaOf smallerOf highest partner exchange rest shear
+    reached splitRow splitRows moved verdict badRow share second sharing dependent tableValueVerdict tableValue tableMethodVerdict
+    tableMethod smallerTable restoreVerdict restored rowValueVerdict rowValue rowsAfter passing methodChecks rowMethodVerdict
+    rowMethod smallerList equal
+cases = right-all table tt

@@ -1,0 +1,144 @@
+-- Laws of sums and counts over a range: one term more; equal terms; bounds; sums of sums; even and odd places; one place alone;
+-- places that are only moved; what a count of 0, or another, says. Assumes nothing.
+use mathlib.Core.Path.{_≡_, refl, sym, ap, ap₂, _∙_}
+use mathlib.Core.Bool.{Bool, true, false, _&&_}
+use Prim.Native.Nat.{ℕ, zero, suc, _+_, _*_, _^_, _≤_, _<_}
+use native.Mathlib.Decide.{decLt}
+use native.Mathlib.Nat.{mul-zero, mul-one, zero-mul}
+use native.Mathlib.Numerals.{add-one}
+use native.Mathlib.Omega.{arith}
+use borrow.Author.Tests.{eq-eqb, ne-eqb}
+use lib.Dec.{eqb}
+use Rattle.sums.specs.Sums.{sum, one, count}
+
+pub sum-zero : (f : ℕ → ℕ) → sum f 0 ≡ 0
+unfolding sum
+sum-zero f = refl
+
+pub sum-suc : (f : ℕ → ℕ) (m : ℕ) → sum f (suc m) ≡ sum f m + f m
+unfolding sum
+sum-suc f m = refl
+
+pub sum-more : (f : ℕ → ℕ) (m : ℕ) → sum f (m + 1) ≡ sum f m + f m
+unfolding sum
+sum-more f m = rw add-one
+
+pub sum-cong : (f g : ℕ → ℕ) (m : ℕ) → ((i : ℕ) → i < m → f i ≡ g i) → sum f m ≡ sum g m
+unfolding sum
+sum-cong f g zero h = refl
+sum-cong f g (suc m) h = ap₂ _+_ (sum-cong f g m (λ i hi. h i (omega arith))) (h m (omega arith))
+
+pub sum-none : (f : ℕ → ℕ) (m : ℕ) → ((i : ℕ) → i < m → f i ≡ 0) → sum f m ≡ 0
+unfolding sum
+sum-none f zero h = refl
+sum-none f (suc m) h = omega (arith, sum-none f m (λ i hi. h i (omega arith)), h m (omega arith))
+
+pub sum-le : (f : ℕ → ℕ) (b m : ℕ) → ((i : ℕ) → i < m → f i ≤ b) → sum f m ≤ m * b
+unfolding sum
+sum-le f b zero h = omega arith
+sum-le f b (suc m) h = omega (arith, sum-le f b m (λ i hi. h i (omega arith)), h m (omega arith))
+
+pub sum-add : (f g : ℕ → ℕ) (m : ℕ) → sum (λ i. f i + g i) m ≡ sum f m + sum g m
+unfolding sum
+sum-add f g zero = refl
+sum-add f g (suc m) = omega (arith, sum-add f g m)
+
+pub sum-mul : (f : ℕ → ℕ) (k m : ℕ) → sum (λ i. f i * k) m ≡ sum f m * k
+unfolding sum
+sum-mul f k zero = omega arith
+sum-mul f k (suc m) = omega (arith, sum-mul f k m)
+
+pub sum-swap : (f : ℕ → ℕ → ℕ) (a b : ℕ) → sum (λ i. sum (f i) b) a ≡ sum (λ j. sum (λ i. f i j) a) b
+unfolding sum
+sum-swap f zero b = sym (sum-none (λ j. 0) b (λ i hi. refl))
+sum-swap f (suc a) b = ap (λ (x : ℕ). x + sum (f a) b) (sum-swap f a b) ∙ sym (sum-add (λ j. sum (λ i. f i j) a) (f a) b)
+
+-- the even and the odd places apart
+pub sum-pairs : (f : ℕ → ℕ) (m : ℕ) → sum f (m * 2) ≡ sum (λ y. f (y * 2) + f (y * 2 + 1)) m
+unfolding sum
+sum-pairs f zero = refl
+sum-pairs f (suc m) = rw (twice m, sum-suc, sum-suc, sum-pairs f m, add-one) (omega arith)
+  where
+    twice : (m : ℕ) → suc m * 2 ≡ suc (suc (m * 2))
+    twice m = omega arith
+
+-- one place alone
+pub sum-one : (f : ℕ → ℕ) (m k : ℕ) → k < m → ((i : ℕ) → i < m → (i ≡ k → ⊥) → f i ≡ 0) → sum f m ≡ f k
+sum-one f zero k hk h = absurd (omega arith)
+sum-one f (suc m) k hk h = sum-suc f m ∙ go (λ l. sum-one f m k l (λ i hi. h i (omega arith))) (decLt k m)
+  where
+    last : ¬ (k < m) → m ≡ k
+    last n = omega arith
+
+    go : (k < m → sum f m ≡ f k) → Dec (k < m) → sum f m + f m ≡ f k
+    go ih (yes l) = omega (arith, ih l, h m (omega arith) (omega arith))
+    go ih (no n) = omega (arith, sum-none f m (λ i hi. h i (omega arith) (omega arith)), ap f (last n))
+
+pub one-le : (b : Bool) → one b ≤ 1
+one-le true = omega arith
+one-le false = omega arith
+
+pub count-le : (p : ℕ → Bool) (m : ℕ) → count p m ≤ m
+unfolding count
+count-le p m = omega (arith, sum-le (λ x. one (p x)) 1 m (λ i hi. one-le (p i)))
+
+-- a count of 0 says that none passes, and any other that one does
+pub count-none : (p : ℕ → Bool) (m : ℕ) → count p m ≡ 0 → (x : ℕ) → x < m → p x ≡ false
+unfolding count sum
+count-none p zero e x h = absurd (omega arith)
+count-none p (suc m) e x h = go (λ l. count-none p m (omega arith) x l) (decLt x m)
+  where
+    no-one : (b : Bool) → one b ≡ 0 → b ≡ false
+    no-one true e = absurd (omega arith)
+    no-one false e = refl
+
+    go : (x < m → p x ≡ false) → Dec (x < m) → p x ≡ false
+    go ih (yes l) = ih l
+    go ih (no n) = ap p (last n) ∙ no-one (p m) (omega arith)
+      where
+        last : ¬ (x < m) → x ≡ m
+        last n = omega arith
+
+pub count-some : (p : ℕ → Bool) (m : ℕ) → 0 < count p m → (x : ℕ) × (x < m) × (p x ≡ true)
+unfolding count sum
+count-some p zero h = absurd (omega arith)
+count-some p (suc m) h = go (λ l. count-some p m l) (p m) refl
+  where
+    go : (0 < count p m → (x : ℕ) × (x < m) × (p x ≡ true)) → (b : Bool) → p m ≡ b → (x : ℕ) × (x < suc m) × (p x ≡ true)
+    go ih true e = (m, omega arith, e)
+    go ih false e = let w = ih (omega (arith, ap one e)) in (w .0, omega (arith, w .1), w .2)
+
+-- a sum over places that are only moved: p and q undo each other below m
+pub sum-moved : (f p q : ℕ → ℕ) (m : ℕ) → ((z : ℕ) → z < m → p z < m) → ((x : ℕ) → x < m → q x < m)
+    → ((z : ℕ) → z < m → q (p z) ≡ z) → ((x : ℕ) → x < m → p (q x) ≡ x) → sum (λ z. f (p z)) m ≡ sum f m
+sum-moved f p q m hp hq qp pq =
+    sum-cong (λ z. f (p z)) (λ z. sum (λ x. f x * one (eqb x (p z))) m) m
+    (λ z hz.
+    sym
+    (sum-one (λ x. f x * one (eqb x (p z))) m (p z) (hp z hz) (λ x hx n. rw (ne-eqb x (p z) n) (mul-zero (f x)))
+    ∙ rw (eq-eqb (p z) (p z) refl) (mul-one (f (p z)))))
+    ∙ sum-swap (λ z x. f x * one (eqb x (p z))) m m
+    ∙ sum-cong (λ x. sum (λ z. f x * one (eqb x (p z))) m) f m
+    (λ x hx.
+    sum-one (λ z. f x * one (eqb x (p z))) m (q x) (hq x hx)
+    (λ z hz n. rw (ne-eqb x (p z) (λ e. n (sym (ap q e ∙ qp z hz)))) (mul-zero (f x)))
+    ∙ rw (eq-eqb x (p (q x)) (sym (pq x hx))) (mul-one (f x)))
+
+-- a count by its parts
+pub count-zero : (p : ℕ → Bool) → count p 0 ≡ 0
+unfolding count
+count-zero p = sum-zero (λ x. one (p x))
+
+pub count-more : (p : ℕ → Bool) (m : ℕ) → count p (m + 1) ≡ count p m + one (p m)
+unfolding count
+count-more p m = sum-more (λ x. one (p x)) m
+
+pub count-cong : (p q : ℕ → Bool) (m : ℕ) → ((i : ℕ) → i < m → p i ≡ q i) → count p m ≡ count q m
+unfolding count
+count-cong p q m h = sum-cong (λ x. one (p x)) (λ x. one (q x)) m (λ i l. ap one (h i l))
+
+-- both tests as a product
+pub one-and : (p q : Bool) → one (p && q) ≡ one p * one q
+one-and true true = refl
+one-and true false = refl
+one-and false q = sym (zero-mul (one q))

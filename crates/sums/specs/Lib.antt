@@ -1,0 +1,3 @@
+-- Sums and counts over 0 .. m - 1: `Sums` has the definitions, `Laws` the laws.
+pub mod Sums
+pub mod Laws
