@@ -68,3 +68,9 @@ over-at m f l d i h = List·getD-append (tab m f) (drop (length (tab m f)) l) d 
 -- a second result of the same length takes the first one's place
 pub over-over {ℓ} : {A : Type ℓ} (m : ℕ) (f g : ℕ → A) (l : List A) → over (tab m g) (over (tab m f) l) ≡ over (tab m g) l
 over-over m f g l = over-tab m g (over (tab m f) l) ∙ ap (λ k. tab m g ++ k) (drop-at (tab m f) (drop (length (tab m f)) l) m (length-tab m f) ∙ ap (λ (i : ℕ). drop i l) (length-tab m f)) ∙ sym (over-tab m g l)
+
+-- within a list the value past its end does not matter
+pub getD-any {ℓ} : {A : Type ℓ} (l : List A) (d e : A) (i : ℕ) → i < length l → getD l i d ≡ getD l i e
+getD-any [] d e i h = absurd (omega arith)
+getD-any (x ∷ xs) d e zero h = refl
+getD-any (x ∷ xs) d e (suc i) h = getD-any xs d e i (omega arith)

@@ -1,0 +1,2 @@
+-- The checks of restoring in the order of the code.
+pub mod Restoring

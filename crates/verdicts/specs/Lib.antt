@@ -1,0 +1,2 @@
+-- Laws of verdicts, the same for every operation.
+pub mod Verdicts

@@ -1,0 +1,118 @@
+-- The verdict of a list of checks is the first that holds: the answer of check i exactly where i is the least that holds, and 0
+-- exactly where none does; a list in two parts; what goes with an answer and with a refusal. Assumes nothing.
+use mathlib.Core.Path.{_≡_, refl, sym, ap, _∙_}
+use mathlib.Core.Bool.{Bool, true, false, cond, false≢true}
+use mathlib.Core.List.{List, [], _∷_, _++_}
+use Prim.Native.Nat.{ℕ, zero, suc, _<_}
+use native.Mathlib.Omega.{arith}
+use borrow.Author.Tests.{eqb-true, eqb-false, eq-eqb, ne-eqb}
+use lib.Dec.{eqb}
+use lib.ListN.{length, getD}
+use Rattle.slices.specs.Places.{over}
+use Rattle.block.specs.Refusals.{Check, check, answer, verdict, answered, carried, stored}
+use Rattle.block.specs.declared.Answer.{Answer}
+
+-- ---- one check
+
+pub verdict-hit : (c : Check) (cs : List Check) → c .holds ≡ true → verdict (c ∷ cs) ≡ answer (c .number) (c .a) (c .b)
+unfolding verdict
+verdict-hit c cs h = rw h
+
+pub verdict-miss : (c : Check) (cs : List Check) → c .holds ≡ false → verdict (c ∷ cs) ≡ verdict cs
+unfolding verdict
+verdict-miss c cs h = rw h
+
+pub verdict-none : verdict [] ≡ answer 0 0 0
+unfolding verdict
+verdict-none = refl
+
+-- ---- "given exactly when"
+
+-- a check that never holds, past the end of a list
+abbrev never : Check
+never = check false 0 0 0
+
+-- check i of a list
+abbrev pub checkAt : List Check → ℕ → Check
+checkAt cs i = getD cs i never
+
+-- check i holds and no earlier one does
+pub record First (cs : List Check) (i : ℕ) : Type 0 where
+  pub holds : checkAt cs i .holds ≡ true
+  pub earlier : (j : ℕ) → j < i → checkAt cs j .holds ≡ false
+
+-- then its numbers are the verdict
+pub verdict-first : (cs : List Check) (i : ℕ) → First cs i
+    → verdict cs ≡ answer (checkAt cs i .number) (checkAt cs i .a) (checkAt cs i .b)
+verdict-first [] i f = absurd (false≢true (f .holds))
+verdict-first (c ∷ cs) zero f = verdict-hit c cs (f .holds)
+verdict-first (c ∷ cs) (suc i) f =
+    verdict-miss c cs (f .earlier 0 (omega arith))
+    ∙ verdict-first cs i (record { holds = f .holds; earlier = λ j h. f .earlier (suc j) (omega arith) })
+
+-- where no check holds the verdict is 0
+pub verdict-clear : (cs : List Check) → ((j : ℕ) → j < length cs → checkAt cs j .holds ≡ false) → verdict cs ≡ answer 0 0 0
+verdict-clear [] h = verdict-none
+verdict-clear (c ∷ cs) h = verdict-miss c cs (h 0 (omega arith)) ∙ verdict-clear cs (λ j l. h (suc j) (omega arith))
+
+-- every check of a list has a number of its own, not 0
+abbrev pub Numbered : List Check → Type 0
+Numbered [] = Unit {0}
+Numbered (c ∷ cs) = (eqb (c .number) 0 ≡ false) × Numbered cs
+
+-- an answer of 0 says that no check holds
+pub answered-clear : (cs : List Check) → Numbered cs → answered (verdict cs) ≡ true
+    → (j : ℕ) → j < length cs → checkAt cs j .holds ≡ false
+answered-clear [] nn e j h = absurd (omega arith)
+answered-clear (c ∷ cs) nn e j h = go (answered-clear cs (nn .1)) (c .holds) refl j h
+  where
+    go : (answered (verdict cs) ≡ true → (j : ℕ) → j < length cs → checkAt cs j .holds ≡ false)
+        → (b : Bool) → c .holds ≡ b → (j : ℕ) → j < suc (length cs) → checkAt (c ∷ cs) j .holds ≡ false
+    go ih true d j h = absurd (false≢true (sym (nn .0) ∙ sym (ap answered (verdict-hit c cs d)) ∙ e))
+    go ih false d zero h = d
+    go ih false d (suc j) h = ih (sym (ap answered (verdict-miss c cs d)) ∙ e) j (omega arith)
+
+-- ---- a list in two parts: the second counts where the first answers 0
+
+pub verdict-then : (cs ds : List Check) → answered (verdict cs) ≡ true → Numbered cs → verdict (cs ++ ds) ≡ verdict ds
+verdict-then [] ds e nn = refl
+verdict-then (c ∷ cs) ds e nn = go (λ h. verdict-then cs ds h (nn .1)) (c .holds) refl
+  where
+    go : (answered (verdict cs) ≡ true → verdict (cs ++ ds) ≡ verdict ds) → (b : Bool) → c .holds ≡ b
+        → verdict (c ∷ (cs ++ ds)) ≡ verdict ds
+    go ih true d = absurd (false≢true (sym (nn .0) ∙ sym (ap answered (verdict-hit c cs d)) ∙ e))
+    go ih false d = verdict-miss c (cs ++ ds) d ∙ ih (sym (ap answered (verdict-miss c cs d)) ∙ e)
+
+pub verdict-stop : (cs ds : List Check) → answered (verdict cs) ≡ false → verdict (cs ++ ds) ≡ verdict cs
+verdict-stop [] ds e = absurd (false≢true (sym e ∙ ap answered verdict-none))
+verdict-stop (c ∷ cs) ds e = go (λ h. verdict-stop cs ds h) (c .holds) refl
+  where
+    go : (answered (verdict cs) ≡ false → verdict (cs ++ ds) ≡ verdict cs) → (b : Bool) → c .holds ≡ b
+        → verdict (c ∷ (cs ++ ds)) ≡ verdict (c ∷ cs)
+    go ih true d = verdict-hit c (cs ++ ds) d ∙ sym (verdict-hit c cs d)
+    go ih false d =
+        verdict-miss c (cs ++ ds) d ∙ ih (sym (ap answered (verdict-miss c cs d)) ∙ e) ∙ sym (verdict-miss c cs d)
+
+-- ---- what goes with an answer
+
+pub carried-yes : (v : Answer) (x : ℕ) → v .number ≡ 0 → carried v x ≡ x
+carried-yes v x h = rw (eq-eqb (v .number) 0 h)
+
+pub carried-no : (v : Answer) (x : ℕ) → (v .number ≡ 0 → ⊥) → carried v x ≡ 0
+carried-no v x h = rw (ne-eqb (v .number) 0 h)
+
+pub stored-yes {ℓ} : {A : Type ℓ} (v : Answer) (s l : List A) → v .number ≡ 0 → stored v s l ≡ over s l
+stored-yes v s l h = rw (eq-eqb (v .number) 0 h)
+
+pub stored-no {ℓ} : {A : Type ℓ} (v : Answer) (s l : List A) → (v .number ≡ 0 → ⊥) → stored v s l ≡ l
+stored-no v s l h = rw (ne-eqb (v .number) 0 h)
+
+-- ---- the same, as a function has it that goes through its checks in parts
+
+-- a part that refuses is the whole verdict
+pub part-refuses : (v : Answer) (cs ds : List Check) → v ≡ verdict cs → (v .number ≡ 0 → ⊥) → v ≡ verdict (cs ++ ds)
+part-refuses v cs ds e h = e ∙ sym (verdict-stop cs ds (sym (ap answered e) ∙ ne-eqb (v .number) 0 h))
+
+-- a part that answers 0 leaves the verdict to the next
+pub part-passes : (v : Answer) (cs ds : List Check) → v ≡ verdict cs → Numbered cs → v .number ≡ 0 → verdict ds ≡ verdict (cs ++ ds)
+part-passes v cs ds e nn h = sym (verdict-then cs ds (sym (ap answered e) ∙ eq-eqb (v .number) 0 h) nn)
