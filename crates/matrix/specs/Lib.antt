@@ -2,3 +2,4 @@
 -- candidates that are left, the inverse and the smaller block.
 pub mod Linear
 pub mod Steps
+pub mod Reached
