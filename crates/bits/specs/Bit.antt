@@ -7,8 +7,9 @@ use native.Mathlib.Nat.{mod-lt, zero-lt-suc, div-eq-of-lt, mul-zero, mul-one}
 use native.Mathlib.Numerals.{one-add}
 use native.Mathlib.Omega.{arith}
 use lib.Bits.{bitAnd, bitXor, xor-shr, and-shr, block-odd, block-half, and-block, and-comm, and-mask}
-use lib.Pow.{shr-shr, high, pow-pos, pow-lt, split}
-use Rattle.bits.specs.Digits.{bit}
+use lib.Pow.{shr-shr, shr-lt, high, pow-pos, pow-lt, split}
+use Rattle.bits.specs.Digits.{bit, parity}
+use Rattle.bits.specs.Parity.{parity-0, ones-pow}
 use Rattle.bits.specs.Xor.{dig-ext, xor-odd, and-odd}
 
 pub bit-zero : (x : ℕ) → bit x 0 ≡ x % 2
@@ -79,3 +80,20 @@ pub times-lt : (u d n : ℕ) → d < 2 → u < 2 ^ n → u * d < 2 ^ n
 times-lt u zero n h l = omega (arith, pow-pos n)
 times-lt u (suc zero) n h l = omega arith
 times-lt u (suc (suc d)) n h l = absurd (omega arith)
+
+-- the parity under a single bit is that bit
+pub parity-pow : (k x : ℕ) → parity (bitAnd (2 ^ k) x) ≡ bit x k
+unfolding parity
+parity-pow k x = ap parity (and-pow k x) ∙ go (bit x k) (bit-lt x k)
+  where
+    go : (d : ℕ) → d < 2 → parity (2 ^ k * d) ≡ d
+    go zero h = rw mul-zero parity-0
+    go (suc zero) h = rw (mul-one, ones-pow k)
+    go (suc (suc d)) h = absurd (omega arith)
+
+-- a number below 2^(m + 1) without bit m is below 2^m
+pub bit-top : (m y : ℕ) → y < 2 ^ suc m → bit y m ≡ 0 → y < 2 ^ m
+bit-top m y h b =
+    let two : y / 2 ^ m < 2 = shr-lt 1 m (rw one-add h) in
+    let none : y / 2 ^ m ≡ 0 = omega arith in
+    omega (arith, rw none at (split y m), mod-lt y (pow-pos m))

@@ -1,11 +1,12 @@
 -- Laws of the parity: of an XOR, and of a matrix row under AND. Assumes nothing.
 use mathlib.Core.Path.{_≡_, refl, sym, ap, _∙_}
-use Prim.Native.Nat.{ℕ, zero, suc, _+_, _*_, _/_, _%_, _<_}
+use Prim.Native.Nat.{ℕ, zero, suc, _+_, _*_, _/_, _%_, _^_, _<_}
 use native.Mathlib.Nat.{mul-zero, mul-one}
 use native.Mathlib.Omega.{arith}
 use lib.Arith.{bin-ind}
 use lib.Bits.{bitAnd, bitXor, and-comm}
-use lib.Count.{ones, ones-step}
+use lib.Count.{ones, onesIn, ones-step, ones-cat}
+use lib.Pow.{pow-pos}
 use Rattle.bits.specs.Digits.{parity}
 use Rattle.bits.specs.Xor.{xor-half, xor-odd, and-xor}
 
@@ -50,3 +51,11 @@ parity-times u (suc (suc d)) x h = absurd (omega arith)
 
 pub parity-xor-and : (a b x : ℕ) → parity (bitAnd (bitXor a b) x) ≡ (parity (bitAnd a x) + parity (bitAnd b x)) % 2
 parity-xor-and a b x = rw (and-comm (bitXor a b) x, and-comm a x, and-comm b x) (parity-and-xor x a b)
+
+-- a power of two has a single one-bit
+pub ones-pow : (k : ℕ) → ones (2 ^ k) ≡ 1
+unfolding ones onesIn
+ones-pow k = ap ones whole ∙ ones-cat k 1 0 (pow-pos k)
+  where
+    whole : 2 ^ k ≡ 1 * 2 ^ k + 0
+    whole = omega arith

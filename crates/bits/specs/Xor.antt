@@ -7,7 +7,7 @@ use native.Mathlib.Nat.{mul-zero, mul-one}
 use native.Mathlib.Omega.{arith}
 use borrow.Author.Tests.{eq-eqb, ne-eqb}
 use lib.Arith.{bin-ind}
-use lib.Bits.{bitAnd, bitXor, differ, and-step, xor-step, xor-shr, and-shr, xor-self, xor-zero-r, and-zero-r}
+use lib.Bits.{bitAnd, bitXor, differ, and-step, xor-step, xor-shr, and-shr, xor-self, xor-comm, xor-zero-r, and-zero-r}
 use lib.Dec.{eqb}
 
 -- halves and lowest digits decide a number
@@ -83,3 +83,20 @@ pub and-times : (m u d : ℕ) → d < 2 → bitAnd m (u * d) ≡ bitAnd m u * d
 and-times m u zero h = rw (mul-zero u, mul-zero (bitAnd m u)) (and-zero-r m)
 and-times m u (suc zero) h = rw (mul-one u, mul-one (bitAnd m u))
 and-times m u (suc (suc d)) h = absurd (omega arith)
+
+-- an XOR of XORs, grouped the other way
+pub xor-swap : (a b c d : ℕ) → bitXor (bitXor a b) (bitXor c d) ≡ bitXor (bitXor a c) (bitXor b d)
+xor-swap a b c d =
+    xor-assoc a b (bitXor c d)
+    ∙ ap (bitXor a) (sym (xor-assoc b c d) ∙ ap (λ (x : ℕ). bitXor x d) (xor-comm b c) ∙ xor-assoc c b d)
+    ∙ sym (xor-assoc a c (bitXor b d))
+
+-- a number times a sum of digits
+pub times-xor : (u p q : ℕ) → p < 2 → q < 2 → u * ((p + q) % 2) ≡ bitXor (u * p) (u * q)
+times-xor u zero zero hp hq = rw mul-zero
+times-xor u zero (suc zero) hp hq = rw (mul-zero, mul-one)
+times-xor u (suc zero) zero hp hq = rw (mul-zero, mul-one) (sym (xor-zero-r u))
+times-xor u (suc zero) (suc zero) hp hq = rw (mul-zero, mul-one) (sym (xor-self u))
+times-xor u zero (suc (suc q)) hp hq = absurd (omega arith)
+times-xor u (suc zero) (suc (suc q)) hp hq = absurd (omega arith)
+times-xor u (suc (suc p)) q hp hq = absurd (omega arith)

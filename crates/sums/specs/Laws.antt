@@ -1,6 +1,6 @@
 -- Laws of sums and counts over a range: one term more; equal terms; bounds; sums of sums; even and odd places; one place alone;
 -- places that are only moved; what a count of 0, or another, says. Assumes nothing.
-use mathlib.Core.Path.{_≡_, refl, sym, ap, ap₂, _∙_}
+use mathlib.Core.Path.{_≡_, refl, sym, ap, ap₂, _∙_, subst}
 use mathlib.Core.Bool.{Bool, true, false, _&&_}
 use Prim.Native.Nat.{ℕ, zero, suc, _+_, _*_, _^_, _≤_, _<_}
 use native.Mathlib.Decide.{decLt}
@@ -142,3 +142,14 @@ pub one-and : (p q : Bool) → one (p && q) ≡ one p * one q
 one-and true true = refl
 one-and true false = refl
 one-and false q = sym (zero-mul (one q))
+
+-- what holds at each place below k, and at k, holds at each place below k + 1
+pub below-suc : (P : ℕ → Type 0) (k : ℕ) → ((i : ℕ) → i < k → P i) → P k → (i : ℕ) → i < suc k → P i
+below-suc P k f p i h = go (decLt i k)
+  where
+    go : Dec (i < k) → P i
+    go (yes l) = f i l
+    go (no n) = subst P (last n) p
+      where
+        last : ¬ (i < k) → k ≡ i
+        last n = omega arith

@@ -1,0 +1,5 @@
+-- Laws of matrices over GF(2) (01, The basis and the matrix): linear maps first, then the steps, the matrix they reach, the
+-- candidates that are left, the inverse and the smaller block.
+pub mod Linear
+pub mod Steps
+pub mod Reached
