@@ -1,12 +1,12 @@
 -- Laws of listed values, and of a lent list that a loop overwrites from the front. Assumes nothing.
 use mathlib.Core.Path.{_≡_, refl, sym, ap, ap₂, _∙_}
 use mathlib.Core.List.{List, [], _∷_, _++_, append-assoc}
-use Prim.Native.Nat.{ℕ, zero, suc, _+_, _≤_, _<_}
+use Prim.Native.Nat.{ℕ, zero, suc, _+_, _-_, _≤_, _<_}
 use native.Mathlib.Decide.{decLt}
 use native.Mathlib.Numerals.{add-one}
 use native.Mathlib.Omega.{arith}
 use lib.ListN.{length, getD, drop, set, length-append, length-drop, List·getD-append}
-use lib.Seq.{set-at, drop-cons, drop-at, getD-append-add}
+use lib.Seq.{set-at, drop-cons, drop-at, ext-getD, getD-append-add, getD-drop}
 use Rattle.slices.specs.Places.{tab, at, over}
 
 pub length-tab {ℓ} : {A : Type ℓ} (m : ℕ) (f : ℕ → A) → length (tab m f) ≡ m
@@ -65,6 +65,14 @@ length-over m f l h =
 pub over-at {ℓ} : {A : Type ℓ} (m : ℕ) (f : ℕ → A) (l : List A) (d : A) (i : ℕ) → i < m → getD (over (tab m f) l) i d ≡ f i
 over-at m f l d i h = List·getD-append (tab m f) (drop (length (tab m f)) l) d i (rw (length-tab m f) h) ∙ tab-at m f d i h
 
+-- what stands beyond it is what stood there
+pub over-beyond {ℓ} : {A : Type ℓ} (m : ℕ) (f : ℕ → A) (l : List A) (d : A) (i : ℕ) → m ≤ i → getD (over (tab m f) l) i d ≡ getD l i d
+over-beyond m f l d i h =
+    let e : i ≡ length (tab m f) + (i - m) = omega (arith, length-tab m f) in
+    let g : m + (i - m) ≡ i = omega arith in
+    ap (λ k. getD k i d) (over-tab m f l) ∙ ap (λ (j : ℕ). getD (tab m f ++ drop m l) j d) e
+    ∙ getD-append-add (tab m f) (drop m l) (i - m) d ∙ getD-drop m l (i - m) d ∙ ap (λ (j : ℕ). getD l j d) g
+
 -- a second result of the same length takes the first one's place
 pub over-over {ℓ} : {A : Type ℓ} (m : ℕ) (f g : ℕ → A) (l : List A) → over (tab m g) (over (tab m f) l) ≡ over (tab m g) l
 over-over m f g l = over-tab m g (over (tab m f) l) ∙ ap (λ k. tab m g ++ k) (drop-at (tab m f) (drop (length (tab m f)) l) m (length-tab m f) ∙ ap (λ (i : ℕ). drop i l) (length-tab m f)) ∙ sym (over-tab m g l)
@@ -74,3 +82,12 @@ pub getD-any {ℓ} : {A : Type ℓ} (l : List A) (d e : A) (i : ℕ) → i < len
 getD-any [] d e i h = absurd (omega arith)
 getD-any (x ∷ xs) d e zero h = refl
 getD-any (x ∷ xs) d e (suc i) h = getD-any xs d e i (omega arith)
+
+-- a list that holds f below m, and from there on what l held
+pub over-is {ℓ} : {A : Type ℓ} (m : ℕ) (f : ℕ → A) (l k : List A) (d : A) → m ≤ length l → length k ≡ length l
+    → ((i : ℕ) → i < m → getD k i d ≡ f i) → ((i : ℕ) → m ≤ i → getD k i d ≡ getD l i d) → k ≡ over (tab m f) l
+over-is m f l k d h e low high = ext-getD d k (over (tab m f) l) (e ∙ sym (length-over m f l h)) (λ i b. go i (decLt i m))
+  where
+    go : (i : ℕ) → Dec (i < m) → getD k i d ≡ getD (over (tab m f) l) i d
+    go i (yes b) = low i b ∙ sym (over-at m f l d i b)
+    go i (no b) = high i (omega arith) ∙ sym (over-beyond m f l d i (omega arith))
