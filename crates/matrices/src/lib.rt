@@ -1,0 +1,117 @@
+// Matrices over GF(2) in slices, n numbers of n bits: a matrix at a point, and the two row operations that a step is made of.
+// Every function here is inner.
+ghost use mathlib.Core.Path.{_≡_};
+ghost use Prim.Native.Nat.{ℕ, _≤_, _<_, _^_};
+ghost use lib.Bits.{bitXor};
+ghost use lib.ListN.{length};
+ghost use Rattle.slices.specs.Places.{at, tab, over};
+ghost use Rattle.block.specs.Basis.{apply, columns};
+ghost use Rattle.block.specs.Rows.{highest, partner, exchange};
+ghost use Rattle.matrix.specs.Reach.{exchangeRows, shearRows};
+
+// The matrix with rows s at x: bit j is the parity of (row j AND x).
+pub fn apply_rows(s: &[u32], n: usize, x: u32) -> u32
+    requires { ⌜ (n ≤ length (now s)) × (n ≤ 24) ⌝ }
+    ensures { λ r. ⌜ r ≡ apply (at (now (s .entry))) n x ⌝ }
+{
+    let mut r: u32 = 0;
+    let mut j: usize = 0;
+    while j < n {
+        r = r + numbers::parity_of(s[j] & x) * numbers::power(j);
+        j += 1;
+    }
+    r
+}
+
+// The matrix with columns c at z: the XOR of the columns at the one-bits of z.
+pub fn apply_columns(c: &[u32], n: usize, z: u32) -> u32
+    requires { ⌜ (n ≤ length (now c)) × (n ≤ 24) ⌝ }
+    ensures { λ r. ⌜ r ≡ columns (at (now (c .entry))) n z ⌝ }
+{
+    let mut r: u32 = 0;
+    let mut j: usize = 0;
+    while j < n {
+        r = numbers::xor_where(r, c[j], numbers::bit_of(z, j));
+        j += 1;
+    }
+    r
+}
+
+// The unit numbers 1, 2, 4, .., which are the rows of the matrix that changes nothing.
+pub fn put_units(s: &mut [u32], n: usize)
+    requires { ⌜ (n ≤ length (now s)) × (n ≤ 24) ⌝ }
+    ensures { λ _. ⌜ now (s .exit) ≡ over (tab n (λ j. 2 ^ j)) (now (s .entry)) ⌝ }
+{
+    let mut j: usize = 0;
+    while j < n {
+        s[j] = numbers::power(j);
+        j += 1;
+    }
+}
+
+// The position of the highest one-bit of y below n, 0 where there is none.
+pub fn highest_bit(n: usize, y: u32) -> usize
+    requires { ⌜ n ≤ 24 ⌝ }
+    ensures { λ r. ⌜ r ≡ highest n y ⌝ }
+{
+    let mut m = n;
+    while 0 < m {
+        m -= 1;
+        if numbers::bit_of(y, m) == 1 {
+            return m;
+        }
+    }
+    0
+}
+
+// The position that is exchanged with k, for the chosen number y in the coordinates reached.
+pub fn partner_of(n: usize, k: usize, y: u32) -> usize
+    requires { ⌜ (k < n) × (n ≤ 24) ⌝ }
+    ensures { λ r. ⌜ r ≡ partner n k y ⌝ }
+{
+    if numbers::bit_of(y, k) == 1 {
+        return k;
+    }
+    highest_bit(n, y)
+}
+
+// y with positions k and h exchanged.
+pub fn exchange_bits(k: usize, h: usize, y: u32) -> u32
+    requires { ⌜ (k < 24) × (h < 24) ⌝ }
+    ensures { λ r. ⌜ r ≡ exchange k h y ⌝ }
+{
+    let d = (numbers::bit_of(y, k) + numbers::bit_of(y, h)) % 2;
+    numbers::xor_where(y, numbers::power(k) ^ numbers::power(h), d)
+}
+
+// The chosen number y after the exchange with h, without bit k.
+pub fn rest_of(k: usize, h: usize, y: u32) -> u32
+    requires { ⌜ (k < 24) × (h < 24) ⌝ }
+    ensures { λ r. ⌜ r ≡ bitXor (exchange k h y) (2 ^ k) ⌝ }
+{
+    exchange_bits(k, h, y) ^ numbers::power(k)
+}
+
+// Rows k and h exchanged.
+pub fn exchange_rows(s: &mut [u32], n: usize, k: usize, h: usize)
+    requires { ⌜ (n ≤ length (now s)) × (k < n) × (h < n) ⌝ }
+    ensures { λ _. ⌜ now (s .exit) ≡ over (tab n (exchangeRows k h (at (now (s .entry))))) (now (s .entry)) ⌝ }
+{
+    let a = s[k];
+    let b = s[h];
+    s[h] = a;
+    s[k] = b;
+}
+
+// Row k added to the rows where v has a one.
+pub fn shear_rows(s: &mut [u32], n: usize, k: usize, v: u32)
+    requires { ⌜ (n ≤ length (now s)) × (k < n) × (n ≤ 24) ⌝ }
+    ensures { λ _. ⌜ now (s .exit) ≡ over (tab n (shearRows k v (at (now (s .entry))))) (now (s .entry)) ⌝ }
+{
+    let r = s[k];
+    let mut j: usize = 0;
+    while j < n {
+        s[j] = numbers::xor_where(s[j], r, numbers::bit_of(v, j));
+        j += 1;
+    }
+}
