@@ -3,3 +3,4 @@
 pub mod Linear
 pub mod Steps
 pub mod Reached
+pub mod Reach
