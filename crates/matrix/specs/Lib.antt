@@ -4,3 +4,4 @@ pub mod Linear
 pub mod Steps
 pub mod Reached
 pub mod Reach
+pub mod Candidate
