@@ -5,3 +5,4 @@ pub mod Steps
 pub mod Reached
 pub mod Reach
 pub mod Candidate
+pub mod Inverse
