@@ -6,3 +6,4 @@ pub mod Reached
 pub mod Reach
 pub mod Candidate
 pub mod Inverse
+pub mod Smaller
