@@ -40,6 +40,11 @@ pub basis-tab : (f : ℕ → ℕ) (n w : ℕ) → basisOf f n w ≡ tab n (pick 
 unfolding basisOf
 basis-tab f n w = chosen-tab (shift f n) n w n
 
+-- column j is the number of step j + 1
+pub basis-at : (f : ℕ → ℕ) (n w j : ℕ) → j < n → at (basisOf f n w) j ≡ pick (shift f n) n w j
+unfolding basisOf
+basis-at f n w j h = chosen-at (shift f n) n w n j h
+
 -- ---- what the candidates depend on
 
 -- the XORs of k numbers depend on those k alone

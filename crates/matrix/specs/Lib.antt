@@ -3,3 +3,7 @@
 pub mod Linear
 pub mod Steps
 pub mod Reached
+pub mod Reach
+pub mod Candidate
+pub mod Inverse
+pub mod Smaller
