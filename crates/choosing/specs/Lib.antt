@@ -1,0 +1,2 @@
+-- A step of the choice, as the code has it.
+pub mod Steps
