@@ -77,11 +77,13 @@ exchange-twice k h y =
     (ap₂ _+_ (exchange-left k h y) (exchange-right k h y) ∙ omega arith)
     ∙ xor-cancel-r y (bitXor (2 ^ k) (2 ^ h) * ((bit y k + bit y h) % 2))
 
+-- it keeps n bits
 pub exchange-lt : (n k h y : ℕ) → k < n → h < n → y < 2 ^ n → exchange k h y < 2 ^ n
 unfolding exchange
 exchange-lt n k h y hk hh hy =
     xor-lt n y _ hy (times-lt _ _ n (mod2-lt (bit y k + bit y h)) (xor-lt n (2 ^ k) (2 ^ h) (pow-lt hk) (pow-lt hh)))
 
+-- it is linear
 pub exchange-linear : (k h : ℕ) → Linear (exchange k h)
 unfolding exchange
 exchange-linear k h =
@@ -113,10 +115,12 @@ pub shear-twice : (k v x : ℕ) → bit v k ≡ 0 → shear k v (shear k v x) �
 unfolding shear
 shear-twice k v x h = ap (λ (d : ℕ). bitXor (shear k v x) (v * d)) (shear-own k v x h) ∙ xor-cancel-r x (v * bit x k)
 
+-- it keeps n bits
 pub shear-lt : (n k v x : ℕ) → v < 2 ^ n → x < 2 ^ n → shear k v x < 2 ^ n
 unfolding shear
 shear-lt n k v x hv hx = xor-lt n x (v * bit x k) hx (times-lt v (bit x k) n (bit-lt x k) hv)
 
+-- it is linear
 pub shear-linear : (k v : ℕ) → Linear (shear k v)
 unfolding shear
 shear-linear k v = flips-linear v (λ x. bit x k) (λ x. bit-lt x k) (λ x y. bit-xor x y k)
