@@ -153,7 +153,7 @@ highest-above m k y l h b = go (ℕ-discrete (highest m y) k)
     go (yes e) = absurd (omega (arith, ap (bit y) e, highest-bit m k y l h .2))
     go (no n) = omega (arith, highest-bit m k y l h .0)
 
--- the same for the position that step k + 1 exchanges with k
+-- the position that step k + 1 exchanges with k stands at k or above, below n, and the chosen number has that bit
 pub partner-bit : (n k y : ℕ) → k < n → 2 ^ k ≤ y → y < 2 ^ n → (k ≤ partner n k y) × (partner n k y < n) × (bit y (partner n k y) ≡ 1)
 unfolding partner
 partner-bit n k y hk l h = go (ℕ-discrete (bit y k) 1)
