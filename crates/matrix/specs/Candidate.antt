@@ -82,11 +82,13 @@ candidate-fresh w c k t h = go (leb 1 (ones t)) (leb (ones t) w) (span c k t) h
 
 -- ---- the chosen numbers, for any R
 module _ (r : ℕ → ℕ) (n w : ℕ) (hw : 1 ≤ w) where
-  step-choice : (k : ℕ) → k < n → Independent (pick r n w) n k → Choice (before r) (candidate w (pick r n w) k) (2 ^ n) (pick r n w k)
+  step-choice : (k : ℕ) → k < n → Independent (pick r n w) n k
+      → Choice (before r) (candidate w (pick r n w) k) (2 ^ n) (pick r n w k)
   step-choice k h ind =
       let u = candidate-unit w n (pick r n w) k hw h ind in
       rw (pick-best r n w k)
-      (best-choice (before r) (candidate w (pick r n w) k) (before-strict r) (candidate-zero w (pick r n w) k) (2 ^ n) (2 ^ u .0) (pow-lt (u .1)) (u .2))
+      (best-choice (before r) (candidate w (pick r n w) k) (before-strict r) (candidate-zero w (pick r n w) k) (2 ^ n)
+      (2 ^ u .0) (pow-lt (u .1)) (u .2))
 
   -- they are independent
   pub pick-independent : (k : ℕ) → k ≤ n → Independent (pick r n w) n k

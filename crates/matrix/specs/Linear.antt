@@ -225,7 +225,8 @@ ltb-top k y = go (decLt y (2 ^ k)) (decLt y (2 ^ suc k))
     go (no a) (yes b) =
         rw (le-ltb y (2 ^ k) (omega arith), lt-ltb y (2 ^ suc k) b, low (omega arith) b) (lt-ltb (y - 2 ^ k) (2 ^ k) (omega arith))
     go (no a) (no b) =
-        rw (le-ltb y (2 ^ k) (omega arith), le-ltb y (2 ^ suc k) (omega arith)) (le-ltb (bitXor y (2 ^ k)) (2 ^ k) (not-lt (high (omega arith))))
+        rw (le-ltb y (2 ^ k) (omega arith), le-ltb y (2 ^ suc k) (omega arith))
+        (le-ltb (bitXor y (2 ^ k)) (2 ^ k) (not-lt (high (omega arith))))
       where
         not-lt : (bitXor y (2 ^ k) < 2 ^ k → ⊥) → 2 ^ k ≤ bitXor y (2 ^ k)
         not-lt h = omega arith
@@ -244,6 +245,7 @@ span-linear f l c n zero inj hc hs t ht = go (ℕ-discrete t 0)
         pos h = omega arith
 span-linear f l c n (suc k) inj hc hs t ht =
     ap₂ _||_ (span-linear f l c n k inj (λ j hj. hc j (omega arith)) (λ j hj. hs j (omega arith)) t ht)
-    (span-linear f l c n k inj (λ j hj. hc j (omega arith)) (λ j hj. hs j (omega arith)) (bitXor t (c k)) (xor-lt n t (c k) ht (hc k (omega arith)))
+    (span-linear f l c n k inj (λ j hj. hc j (omega arith)) (λ j hj. hs j (omega arith)) (bitXor t (c k))
+    (xor-lt n t (c k) ht (hc k (omega arith)))
     ∙ ap (λ (y : ℕ). ltb y (2 ^ k)) (l t (c k) ∙ ap (bitXor (f t)) (hs k (omega arith))))
     ∙ ltb-top k (f t)

@@ -89,7 +89,8 @@ shear-apply s n k v x hk hv =
     (λ j hj.
     apply-bit (shearRows k v s) n x j hj
     ∙ parity-xor-and (s j) (s k * bit v j) x
-    ∙ ap (λ (y : ℕ). (parity (bitAnd (s j) x) + y) % 2) (parity-times (s k) (bit v j) x (bit-lt v j) ∙ mul-comm (parity (bitAnd (s k) x)) (bit v j))
+    ∙ ap (λ (y : ℕ). (parity (bitAnd (s j) x) + y) % 2)
+    (parity-times (s k) (bit v j) x (bit-lt v j) ∙ mul-comm (parity (bitAnd (s k) x)) (bit v j))
     ∙ sym
     (shear-bit k v (apply s n x) j
     ∙ ap₂ (λ (y z : ℕ). (y + bit v j * z) % 2) (apply-bit s n x j hj) (apply-bit s n x k hk)))

@@ -83,7 +83,13 @@ spans n c k hc g t h =
 step : (n : ℕ) (c : ℕ → ℕ) (k : ℕ) → k < n → c k < 2 ^ n → Coordinates n c k → 2 ^ k ≤ reached n c k (c k) → Coordinates n c (suc k)
 unfolding reached returned
 step n c k hk hc g l =
-    record { keeps = keeps; gives = gives; back = back; forth = forth; sends = below-suc (λ j. reached n c (suc k) (c j) ≡ 2 ^ j) k old new }
+    record {
+      keeps = keeps;
+      gives = gives;
+      back = back;
+      forth = forth;
+      sends = below-suc (λ j. reached n c (suc k) (c j) ≡ 2 ^ j) k old new;
+    }
   where
     y : ℕ
     y = reached n c k (c k)
@@ -150,7 +156,8 @@ reaches n c (suc k) h i =
     (sym (spans n c k (λ j u. i .below j (omega arith)) g (c k) (i .below k (omega arith))) ∙ i .fresh k (omega arith)))
 
 -- a number is an XOR of some chosen ones exactly where its coordinates are below 2^k
-pub reached-span : (n : ℕ) (c : ℕ → ℕ) (k : ℕ) → k ≤ n → Independent c n k → (t : ℕ) → t < 2 ^ n → span c k t ≡ ltb (reached n c k t) (2 ^ k)
+pub reached-span : (n : ℕ) (c : ℕ → ℕ) (k : ℕ) → k ≤ n → Independent c n k → (t : ℕ) → t < 2 ^ n
+    → span c k t ≡ ltb (reached n c k t) (2 ^ k)
 reached-span n c k h i = spans n c k (i .below) (reaches n c k h i)
 
 -- the number chosen next has coordinates from 2^k on

@@ -77,11 +77,13 @@ exchange-twice k h y =
     (ap₂ _+_ (exchange-left k h y) (exchange-right k h y) ∙ omega arith)
     ∙ xor-cancel-r y (bitXor (2 ^ k) (2 ^ h) * ((bit y k + bit y h) % 2))
 
+-- it keeps n bits
 pub exchange-lt : (n k h y : ℕ) → k < n → h < n → y < 2 ^ n → exchange k h y < 2 ^ n
 unfolding exchange
 exchange-lt n k h y hk hh hy =
     xor-lt n y _ hy (times-lt _ _ n (mod2-lt (bit y k + bit y h)) (xor-lt n (2 ^ k) (2 ^ h) (pow-lt hk) (pow-lt hh)))
 
+-- it is linear
 pub exchange-linear : (k h : ℕ) → Linear (exchange k h)
 unfolding exchange
 exchange-linear k h =
@@ -113,10 +115,12 @@ pub shear-twice : (k v x : ℕ) → bit v k ≡ 0 → shear k v (shear k v x) �
 unfolding shear
 shear-twice k v x h = ap (λ (d : ℕ). bitXor (shear k v x) (v * d)) (shear-own k v x h) ∙ xor-cancel-r x (v * bit x k)
 
+-- it keeps n bits
 pub shear-lt : (n k v x : ℕ) → v < 2 ^ n → x < 2 ^ n → shear k v x < 2 ^ n
 unfolding shear
 shear-lt n k v x hv hx = xor-lt n x (v * bit x k) hx (times-lt v (bit x k) n (bit-lt x k) hv)
 
+-- it is linear
 pub shear-linear : (k v : ℕ) → Linear (shear k v)
 unfolding shear
 shear-linear k v = flips-linear v (λ x. bit x k) (λ x. bit-lt x k) (λ x y. bit-xor x y k)
@@ -141,7 +145,15 @@ highest-bit (suc m) k y l h = go (λ u. highest-bit m k y l u) (ℕ-discrete (bi
         let w = ih (bit-top m y h (omega (arith, bit-lt y m))) in
         rw (ne-eqb (bit y m) 1 n) (w .0, omega (arith, w .1), w .2)
 
--- so for the position that step k + 1 exchanges with k
+-- above k, where bit k is 0
+pub highest-above : (m k y : ℕ) → 2 ^ k ≤ y → y < 2 ^ m → bit y k ≡ 0 → k < highest m y
+highest-above m k y l h b = go (ℕ-discrete (highest m y) k)
+  where
+    go : Dec (highest m y ≡ k) → k < highest m y
+    go (yes e) = absurd (omega (arith, ap (bit y) e, highest-bit m k y l h .2))
+    go (no n) = omega (arith, highest-bit m k y l h .0)
+
+-- the position that step k + 1 exchanges with k stands at k or above, below n, and the chosen number has that bit
 pub partner-bit : (n k y : ℕ) → k < n → 2 ^ k ≤ y → y < 2 ^ n → (k ≤ partner n k y) × (partner n k y < n) × (bit y (partner n k y) ≡ 1)
 unfolding partner
 partner-bit n k y hk l h = go (ℕ-discrete (bit y k) 1)
