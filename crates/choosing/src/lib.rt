@@ -52,7 +52,15 @@ pub fn candidate_or(s: &[u32], n: usize, k: usize, w: usize, t: usize, b: usize)
 }
 
 // Of b, the best so far or 0 for none, and t, the one to keep. The order is asked first, since most numbers fail it.
-pub fn better_of(values: &[u32], s: &[u32], n: usize, k: usize, w: usize, b: usize, t: usize) -> usize
+pub fn better_of(
+    values: &[u32],
+    s: &[u32],
+    n: usize,
+    k: usize,
+    w: usize,
+    b: usize,
+    t: usize,
+) -> usize
     requires { ⌜ (2 ^ n ≤ length (now values)) × (n ≤ length (now s)) × (n ≤ 24) × (k ≤ n) × (w ≤ n) × (b < 2 ^ n) × (t < 2 ^ n) ⌝ }
     ensures { λ r. ⌜ r ≡ better (before (at (now (values .entry)))) (candidateBy (at (now (s .entry))) n k w) b t ⌝ }
 {

@@ -1,41 +1,56 @@
+-- `choosing::advance` meets its contract: an exchange and then a shear are a step. Assumes nothing.
+use mathlib.Core.Path.{_≡_, sym, ap, ap₂, _∙_}
+use Prim.Native.Nat.{ℕ, _≤_, _<_, _^_}
+use native.Mathlib.Omega.{arith}
+use lib.Bits.{bitXor}
+use denote.Ref.{now}
+use Rattle.slices.specs.Places.{at}
+use Rattle.block.specs.Basis.{apply}
+use Rattle.block.specs.Rows.{partner, exchange, rest}
+use Rattle.choosing.specs.Steps.{Advanced, partner-lt, step-made}
 use borrow.Author.Needs.{needs}
 use Rattle.choosing.proofs.advance.Statement.{statement}
 use Rattle.choosing.proofs.advance.Tie as tie
-use Rattle.choosing.proofs.advance.Reads as reads
-use Rattle.choosing.proofs.advance.Lts as lts
-use Rattle.matrices.proofs.apply_rows.Reads as apply-rows-reads
-use Rattle.matrices.proofs.exchange_rows.Reads as exchange-rows-reads
-use Rattle.matrices.proofs.partner_of.Reads as partner-of-reads
-use Rattle.matrices.proofs.rest_of.Reads as rest-of-reads
-use Rattle.matrices.proofs.shear_rows.Reads as shear-rows-reads
 
--- src/lib.rt:94:9
+-- what is left of the chosen number, by the numbers in hand
+rest-is : (n k h y x v : ℕ) → v ≡ bitXor (exchange k h y) (2 ^ k) → h ≡ partner n k y → y ≡ x → v ≡ rest n k x
+unfolding rest
+rest-is n k h y x v a b e = a ∙ ap (λ (h : ℕ). bitXor (exchange k h y) (2 ^ k)) b ∙ ap (λ (y : ℕ). bitXor (exchange k (partner n k y) y) (2 ^ k)) e
+
 apply-rows-requires : tie.Need-apply-rows-requires
 apply-rows-requires c κs = search needs
 
--- src/lib.rt:95:9
 partner-of-requires : tie.Need-partner-of-requires
 partner-of-requires c κs = search needs
 
--- src/lib.rt:96:9
 rest-of-requires : tie.Need-rest-of-requires
-rest-of-requires c κs = ?
+rest-of-requires c κs =
+    let s = c .before .before .before .before in
+    let near : c .partner-of .result < s .args .n = rw (c .partner-of .ensures) (partner-lt _ _ _ (s .pre .2)) in
+    omega arith
 
--- src/lib.rt:97:5
 exchange-rows-requires : tie.Need-exchange-rows-requires
-exchange-rows-requires c κs = ?
+exchange-rows-requires c κs =
+    let s = c .before .before .before .before .before .before in
+    (s .pre .0, s .pre .2, rw (c .before .before .partner-of .ensures) (partner-lt _ _ _ (s .pre .2)))
 
--- src/lib.rt:98:5
 shear-rows-requires : tie.Need-shear-rows-requires
 shear-rows-requires c κs = search needs
 
--- src/lib.rt:90:1
 same-length : tie.Need-same-length
 same-length c = search needs
 
--- src/lib.rt:90:1
 returns : tie.Need-returns
-returns c = ?
+returns c =
+    let a = c .before .before .before .before .before .before .before .before .before .before .before .before .before .args in
+    let y = c .before .before .before .before .before .before .before .before .before .before .apply-rows .ensures in
+    let e = c .before .before .before .before .before .before .before .before .before .partner-of .ensures ∙ ap (partner (a .n) (a .k)) y in
+    let d = rest-is (a .n) (a .k) _ _ _ _ (c .before .before .before .before .before .before .before .before .rest-of .ensures) (c .before .before .before .before .before .before .before .before .before .partner-of .ensures) y in
+    record {
+      rows = step-made _ _ (a .t) _ _ (now (a .s)) _ _ (c .before .before .before .before .before .before .before .before .before .before .before .before .before .pre .0) (c .before .before .before .before .before .before .before .before .before .before .before .before .before .pre .2) e d (c .before .before .before .before .before .before .exchange-rows .ensures) (c .before .before .shear-rows .ensures);
+      exchanged = e;
+      flipped = d;
+    }
 
 pub advance-spec : {M : Type 1} → statement M
 advance-spec =

@@ -1,34 +1,33 @@
+-- `choosing::better_of` meets its contract: where b is 0 or t stands before it the candidate's test decides. Assumes nothing.
+use mathlib.Core.Path.{_≡_, sym, _∙_}
+use mathlib.Core.Bool.{Bool, true, false, and-true, and-false, or-true}
+use native.Mathlib.Omega.{arith}
+use borrow.Author.Tests.{eq-eqb, ne-eqb}
+use Rattle.block.specs.Basis.{better}
 use borrow.Author.Needs.{needs}
 use Rattle.choosing.proofs.better_of.Statement.{statement}
 use Rattle.choosing.proofs.better_of.Tie as tie
-use Rattle.choosing.proofs.better_of.Reads as reads
-use Rattle.choosing.proofs.better_of.Lts as lts
-use Rattle.choosing.proofs.candidate_or.Reads as candidate-or-reads
-use Rattle.choosing.proofs.is_before.Reads as is-before-reads
 
--- src/lib.rt:60:9
 candidate-or-requires : tie.Need-candidate-or-requires
 candidate-or-requires c κs = search needs
 
--- src/lib.rt:60:9
 returns : tie.Need-returns
-returns c = ?
+unfolding better
+returns c = rw (eq-eqb _ _ (c .before .if1 .taken), and-true) (c .candidate-or .ensures)
 
--- src/lib.rt:62:8
 is-before-requires : tie.Need-is-before-requires
 is-before-requires c κs = search needs
 
--- src/lib.rt:63:9
 candidate-or-requires-2 : tie.Need-candidate-or-requires-2
 candidate-or-requires-2 c κs = search needs
 
--- src/lib.rt:63:9
 returns-2 : tie.Need-returns-2
-returns-2 c = ?
+unfolding better
+returns-2 c = rw (sym (c .before .before .is-before .ensures) ∙ c .before .if2 .taken, or-true, and-true) (c .candidate-or2 .ensures)
 
--- src/lib.rt:55:1
 returns-3 : tie.Need-returns-3
-returns-3 c = ?
+unfolding better
+returns-3 c = rw (ne-eqb _ _ (c .before .before .if1 .left), sym (c .before .is-before .ensures) ∙ c .if2 .left, and-false)
 
 pub better-of-spec : {M : Type 1} → statement M
 better-of-spec =

@@ -1,34 +1,36 @@
+-- `choosing::is_candidate` meets its contract: the three tests in their order. Assumes nothing.
+use mathlib.Core.Path.{_≡_, ap₂}
+use mathlib.Core.Bool.{and-false}
+use native.Mathlib.Omega.{arith}
+use borrow.Author.Tests.{le-leb, lt-leb}
+use lib.Dec.{leb}
+use Rattle.choosing.specs.Steps.{candidateBy}
 use borrow.Author.Needs.{needs}
 use Rattle.choosing.proofs.is_candidate.Statement.{statement}
 use Rattle.choosing.proofs.is_candidate.Tie as tie
-use Rattle.choosing.proofs.is_candidate.Reads as reads
-use Rattle.choosing.proofs.is_candidate.Lts as lts
-use Rattle.matrices.proofs.apply_rows.Reads as apply-rows-reads
-use Rattle.numbers.proofs.power.Reads as power-reads
 
--- src/lib.rt:35:9
 returns : tie.Need-returns
-returns c = ?
+unfolding candidateBy
+returns c = rw (lt-leb _ _ (c .if1 .taken))
 
--- src/lib.rt:37:9
 cast-if2 : tie.Need-cast-if2
 cast-if2 c = search needs
 
--- src/lib.rt:38:9
 returns-2 : tie.Need-returns-2
-returns-2 c = ?
+unfolding candidateBy
+returns-2 c = rw (le-leb _ _ (c .before .if1 .left), lt-leb _ _ (c .if2 .taken))
 
--- src/lib.rt:40:5
 power-requires : tie.Need-power-requires
 power-requires c κs = search needs
 
--- src/lib.rt:40:26
 apply-rows-requires : tie.Need-apply-rows-requires
 apply-rows-requires c κs = search needs
 
--- src/lib.rt:29:1
 returns-3 : tie.Need-returns-3
-returns-3 c = ?
+unfolding candidateBy
+returns-3 c =
+    rw (le-leb _ _ (c .before .before .before .if1 .left), le-leb _ _ (c .before .before .if2 .left))
+    (ap₂ leb (c .before .power .ensures) (c .apply-rows .ensures))
 
 pub is-candidate-spec : {M : Type 1} → statement M
 is-candidate-spec =

@@ -46,13 +46,13 @@ loop-less : tie.Need-loop-less Inv-loop μ-loop
 loop-less c = search needs
 
 loop-again : tie.Need-loop-again Inv-loop μ-loop
-loop-again c = 
+loop-again c =
     let a = c .before .before .before .before .before .before .args in
     let j = c .before .before .before .before .loop .j in
     (search needs, c .xor-where .ensures ∙ turn (at (now (a .c))) j (a .z) _ _ (c .before .before .before .before .loop .inv .1) (c .before .bit-of .ensures))
 
 returns : tie.Need-returns Inv-loop μ-loop
-returns c = 
+returns c =
     let s = c .before .before .before in
     let end : c .before .loop .j ≡ s .args .n = omega arith in
     c .before .loop .inv .1 ∙ ap (λ (k : ℕ). columns (at (now (s .args .c))) k (s .args .z)) end

@@ -63,7 +63,7 @@ loop-again : tie.Need-loop-again Inv-loop μ-loop
 loop-again c = (search needs, next c)
 
 returns : tie.Need-returns Inv-loop μ-loop
-returns c = 
+returns c =
     let s = c .before .before .before in
     let end : c .before .loop .j ≡ s .args .n = omega arith in
     c .before .loop .inv .1 ∙ ap (λ (k : ℕ). apply (at (now (s .args .s))) k (s .args .x)) end

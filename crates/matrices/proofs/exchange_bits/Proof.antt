@@ -30,7 +30,7 @@ xor-where-requires c κs = omega arith
 
 returns : tie.Need-returns
 unfolding exchange
-returns c = 
+returns c =
     let a = c .before .before .before .before .before .args in
     c .xor-where .ensures
     ∙ ap₂ (λ (u d : ℕ). bitXor (a .y) (u * (d % 2))) (ap₂ bitXor (c .before .before .power .ensures) (c .before .power2 .ensures))

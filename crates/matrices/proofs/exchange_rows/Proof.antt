@@ -60,7 +60,7 @@ same-length : tie.Need-same-length
 same-length c = search needs
 
 returns : tie.Need-returns
-returns c = 
+returns c =
     let a = c .before .before .args in
     exchanged (c .before .before .args .s .now) _ _ _ (omega arith) (omega arith) (omega arith)
 

@@ -51,7 +51,7 @@ loop-again c = (search needs, sym (down-no _ _ (omega arith) (λ e. c .if1 .left
 
 returns-2 : tie.Need-returns-2 Inv-loop μ-loop
 unfolding highest
-returns-2 c = 
+returns-2 c =
     let end : c .before .loop .m ≡ 0 = omega arith in
     sym (ap (λ (m : ℕ). highest m (c .before .before .args .y)) end) ∙ c .before .loop .inv .1
 

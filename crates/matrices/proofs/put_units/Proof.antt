@@ -41,7 +41,7 @@ same-length : tie.Need-same-length Inv-loop μ-loop
 same-length c = search needs
 
 returns : tie.Need-returns Inv-loop μ-loop
-returns c = 
+returns c =
     let end : c .before .loop .j ≡ c .before .before .before .args .n = omega arith in
     rw end at (c .before .loop .inv .2)
 

@@ -62,17 +62,20 @@ loop-less : tie.Need-loop-less Inv-loop μ-loop
 loop-less c = search needs
 
 loop-again : tie.Need-loop-again Inv-loop μ-loop
-loop-again c = 
-    let i = c .before .before .before .before .loop .inv in
-    (search needs, search needs, search needs,
-    over-more _ (shearRows (c .before .before .before .before .before .before .before .args .k) (c .before .before .before .before .before .before .before .args .v) (at (c .before .before .before .before .before .before .before .args .s .now))) _ _ _ (i .3)
-    (c .xor-where .ensures ∙ turn (c .before .before .before .before .before .before .before .args .s .now) _ (c .before .before .before .before .before .before .before .args .k) (c .before .before .before .before .before .before .before .args .v) (c .before .before .before .before .loop .j) _ _ (i .3) (i .2) (c .before .bit-of .ensures)) (omega arith))
+loop-again c =
+    let i = c .before .before .before .before .loop .inv in (
+      search needs,
+      search needs,
+      search needs,
+      over-more _ (shearRows (c .before .before .before .before .before .before .before .args .k) (c .before .before .before .before .before .before .before .args .v) (at (c .before .before .before .before .before .before .before .args .s .now))) _ _ _ (i .3)
+          (c .xor-where .ensures ∙ turn (c .before .before .before .before .before .before .before .args .s .now) _ (c .before .before .before .before .before .before .before .args .k) (c .before .before .before .before .before .before .before .args .v) (c .before .before .before .before .loop .j) _ _ (i .3) (i .2) (c .before .bit-of .ensures)) (omega arith),
+    )
 
 same-length : tie.Need-same-length Inv-loop μ-loop
 same-length c = search needs
 
 returns : tie.Need-returns Inv-loop μ-loop
-returns c = 
+returns c =
     let end : c .before .loop .j ≡ c .before .before .before .before .args .n = omega arith in
     rw end at (c .before .loop .inv .3)
 
