@@ -1,0 +1,3 @@
+-- What pairs of rows say of a list: R, and whether two rows share a point.
+pub mod Cube
+pub mod Closed
