@@ -83,3 +83,11 @@ pub and-times : (m u d : ℕ) → d < 2 → bitAnd m (u * d) ≡ bitAnd m u * d
 and-times m u zero h = rw (mul-zero u, mul-zero (bitAnd m u)) (and-zero-r m)
 and-times m u (suc zero) h = rw (mul-one u, mul-one (bitAnd m u))
 and-times m u (suc (suc d)) h = absurd (omega arith)
+
+-- the two sides of an equation may be exchanged
+pub eqb-turn : (a b : ℕ) → eqb a b ≡ eqb b a
+eqb-turn a b = go (ℕ-discrete a b)
+  where
+    go : Dec (a ≡ b) → eqb a b ≡ eqb b a
+    go (yes e) = rw (eq-eqb a b e, eq-eqb b a (sym e))
+    go (no n) = rw (ne-eqb a b n, ne-eqb b a (λ e. n (sym e)))

@@ -3,16 +3,14 @@
 use mathlib.Core.Path.{_≡_, refl, sym, ap, ap₂, _∙_}
 use mathlib.Core.Bool.{Bool, true, false, cond}
 use Prim.Native.Nat.{ℕ, zero, suc, _+_, _-_, _*_, _/_, _%_, _^_, _<_, min, max}
-use native.Mathlib.Decide.{ℕ-discrete}
 use native.Mathlib.Nat.{zero-mul, one-mul}
 use native.Mathlib.Omega.{arith}
-use borrow.Author.Tests.{eq-eqb, ne-eqb}
 use lib.Arith.{lt-one}
 use lib.Bits.{bitAnd, bitXor, bitOr, or-shr, or-step, or-lt, or-comm, or-self, and-comm, and-zero-r, xor-comm, xor-self}
 use lib.Count.{ones, ones-step, ones-le}
 use lib.Dec.{eqb, eqb→eq}
 use lib.Pow.{pow-add}
-use Rattle.bits.specs.Xor.{xor-half, and-half, xor-odd, and-odd, and-xor, eqb-xor}
+use Rattle.bits.specs.Xor.{xor-half, and-half, xor-odd, and-odd, and-xor, eqb-xor, eqb-turn}
 use Rattle.sums.specs.Sums.{one}
 use Rattle.sums.specs.Laws.{one-and}
 use Rattle.block.specs.declared.Row.{Row}
@@ -69,13 +67,6 @@ unbroken m d t =
     rw (and-xor m d t, and-comm t m)
     (ap (λ (z : ℕ). eqb (bitXor (bitAnd m d) (bitAnd m t)) z) (sym (xor-self (bitAnd m t)))
     ∙ eqb-xor (bitAnd m d) (bitAnd m t) (bitAnd m t) ∙ eqb-turn (bitAnd m d) (bitAnd m t))
-  where
-    eqb-turn : (a b : ℕ) → eqb a b ≡ eqb b a
-    eqb-turn a b = go (ℕ-discrete a b)
-      where
-        go : Dec (a ≡ b) → eqb a b ≡ eqb b a
-        go (yes e) = rw (eq-eqb a b e, eq-eqb b a (sym e))
-        go (no n) = rw (ne-eqb a b n, ne-eqb b a (λ e. n (sym e)))
 
 one-cond : (b : Bool) (x : ℕ) → one b * x ≡ cond b x 0
 one-cond true x = one-mul x

@@ -2,3 +2,4 @@
 pub mod Cube
 pub mod Closed
 pub mod Theorem
+pub mod Symmetric
