@@ -3,3 +3,4 @@ pub mod Cube
 pub mod Closed
 pub mod Theorem
 pub mod Symmetric
+pub mod Share

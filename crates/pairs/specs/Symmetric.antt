@@ -22,7 +22,7 @@ use Rattle.block.specs.Words.{ofRows}
 use Rattle.block.specs.Measure.{shift}
 use Rattle.block.specs.Refusals.{rowAt}
 use Rattle.block.specs.declared.Row.{Row}
-use Rattle.pairs.specs.Cube.{Sound, pair}
+use Rattle.pairs.specs.Cube.{Sound}
 use Rattle.pairs.specs.Closed.{fixedBoth, demanded, freeBoth, pair-closed, pair-turn}
 use Rattle.pairs.specs.Theorem.{Every, Disjoint, pairAt, shift-pairs}
 

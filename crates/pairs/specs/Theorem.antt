@@ -2,7 +2,7 @@
 -- of one row, whatever its word, and of two. Not here: the sum over unordered pairs (`Symmetric`), and how the checks give what is asked
 -- (`Share`). Assumes nothing.
 use mathlib.Core.Path.{_≡_, refl, sym, ap, _∙_}
-use mathlib.Core.Bool.{Bool, true, false, not, cond, _&&_, and-false}
+use mathlib.Core.Bool.{Bool, true, false, cond, and-false}
 use mathlib.Core.List.{List, [], _∷_}
 use mathlib.Core.Logic.{_⊎_, inl, inr}
 use Prim.Native.Nat.{ℕ, zero, suc, _+_, _-_, _*_, _^_, _<_}
@@ -16,7 +16,7 @@ use lib.ListN.{length}
 use lib.Pow.{pow-pos}
 use Rattle.sums.specs.Sums.{sum, one, count}
 use Rattle.sums.specs.Laws.{sum-one, sum-none, sum-swap, sum-cong, sum-mul}
-use Rattle.block.specs.Words.{none, under, wordAt, ofRows, row}
+use Rattle.block.specs.Words.{none, under, wordAt, ofRows}
 use Rattle.block.specs.Measure.{same, shift}
 use Rattle.block.specs.Refusals.{rowAt}
 use Rattle.block.specs.declared.Row.{Row}
