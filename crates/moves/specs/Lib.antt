@@ -1,0 +1,2 @@
+-- How rows are transformed: an exchange, a shear, a step, any number of steps.
+pub mod Exchange
