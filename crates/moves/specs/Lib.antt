@@ -1,2 +1,3 @@
 -- How rows are transformed: an exchange, a shear, a step, any number of steps.
 pub mod Exchange
+pub mod Shear
