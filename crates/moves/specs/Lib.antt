@@ -1,3 +1,4 @@
 -- How rows are transformed: an exchange, a shear, a step, any number of steps.
 pub mod Exchange
 pub mod Shear
+pub mod Step

@@ -209,3 +209,48 @@ sum-square f m turn =
 
     turned : sum (λ i. sum (lower i) m) m ≡ sum (λ i. sum (upper i) m) m
     turned = sum-swap lower m m ∙ sum-cong _ _ m (λ j hj. sum-cong _ _ m (λ i hi. ap (λ (x : ℕ). cond (ltb j i) x 0) (turn i j hi hj)))
+
+-- more numbers pass no fewer
+pub count-mono : (p : ℕ → Bool) (a b : ℕ) → a ≤ b → count p a ≤ count p b
+unfolding count
+count-mono p a b h = sum-mono (λ x. one (p x)) a b h
+
+-- no two numbers pass exactly where the count is at most 1
+pub count-once : (p : ℕ → Bool) (m : ℕ) → ((i j : ℕ) → i < m → j < m → p i ≡ true → p j ≡ true → i ≡ j) → count p m ≤ 1
+unfolding count sum
+count-once p zero h = omega arith
+count-once p (suc m) h = go (p m) refl (count-once p m (λ i j a b. h i j (omega arith) (omega arith)))
+  where
+    alone : p m ≡ true → (i : ℕ) → i < m → one (p i) ≡ 0
+    alone e i l = at (p i) refl
+      where
+        at : (b : Bool) → p i ≡ b → one b ≡ 0
+        at true d = absurd (omega (arith, h i m (omega arith) (omega arith) d e))
+        at false d = refl
+
+    go : (b : Bool) → p m ≡ b → count p m ≤ 1 → count p m + one b ≤ 1
+    go true e ih = omega (arith, sum-none (λ x. one (p x)) m (alone e))
+    go false e ih = omega arith
+
+pub count-same : (p : ℕ → Bool) (m : ℕ) → count p m ≤ 1 → (i j : ℕ) → i < m → j < m → p i ≡ true → p j ≡ true → i ≡ j
+count-same p m h i j hi hj a b = go (decLt i j) (decLt j i)
+  where
+    two : (i j : ℕ) → i < j → j < m → p i ≡ true → p j ≡ true → 2 ≤ count p m
+    two i j l hj a b =
+        omega (
+          arith,
+          count-mono p (suc i) j l,
+          count-mono p (suc j) m hj,
+          count-more p i,
+          count-more p j,
+          ap one a,
+          ap one b,
+          add-one i,
+          ap (count p) (add-one i),
+          ap (count p) (add-one j),
+        )
+
+    go : Dec (i < j) → Dec (j < i) → i ≡ j
+    go (yes l) d = absurd (omega (arith, two i j l hj a b))
+    go (no n) (yes l) = absurd (omega (arith, two j i l hi b a))
+    go (no n) (no k) = omega arith
