@@ -2,3 +2,4 @@
 pub mod Exchange
 pub mod Shear
 pub mod Step
+pub mod Moved
