@@ -1,5 +1,5 @@
 -- The exchange of two positions, in a point and in a row: its bits, that it undoes itself and stays within the width, and that a row
--- and a point exchanged alike meet as before. Assumes nothing.
+-- and a point exchanged alike meet as before. Not here: lists of rows (`Step`). Assumes nothing.
 use mathlib.Core.Path.{_≡_, refl, sym, ap, ap₂, _∙_}
 use mathlib.Core.Bool.{cond}
 use Prim.Native.Nat.{ℕ, _+_, _*_, _%_, _^_, _<_, min}
@@ -43,16 +43,18 @@ exchange-bit k h y j = formula ∙ go (ℕ-discrete j k) (ℕ-discrete j h)
     go (no a) (yes b) = rw (ne-eqb j k a, eq-eqb j h b, bit-pow-other k j a, ← b, bit-pow-same j) (omega (arith, bit-lt y j, bit-lt y k))
     go (no a) (no b) = rw (ne-eqb j k a, ne-eqb j h b, bit-pow-other k j a, bit-pow-other h j b) (omega (arith, bit-lt y j))
 
+-- it stays within the width
 pub exchange-lt : (n k h y : ℕ) → k < n → h < n → y < 2 ^ n → exchange k h y < 2 ^ n
 unfolding exchange
 exchange-lt n k h y hk hh hy =
     xor-lt n y (bitXor (2 ^ k) (2 ^ h) * ((bit y k + bit y h) % 2)) hy
     (times-lt (bitXor (2 ^ k) (2 ^ h)) ((bit y k + bit y h) % 2) n (mod2-lt (bit y k + bit y h)) (xor-lt n (2 ^ k) (2 ^ h) (pow-lt hk) (pow-lt hh)))
 
--- at k stands what stood at h, and at h what stood at k
+-- at k stands what stood at h
 pub exchange-first : (k h y : ℕ) → bit (exchange k h y) k ≡ bit y h
 exchange-first k h y = exchange-bit k h y k ∙ rw (eq-eqb k k refl)
 
+-- and at h what stood at k
 pub exchange-second : (k h y : ℕ) → bit (exchange k h y) h ≡ bit y k
 exchange-second k h y = exchange-bit k h y h ∙ go (ℕ-discrete h k)
   where
@@ -70,6 +72,7 @@ exchange-twice k h y =
     same : (bit (exchange k h y) k + bit (exchange k h y) h) % 2 ≡ (bit y k + bit y h) % 2
     same = rw (exchange-first k h y, exchange-second k h y) (omega arith)
 
+-- it may be done before or after an AND
 pub exchange-and : (n k h m x : ℕ) → k < n → h < n → m < 2 ^ n → x < 2 ^ n
     → bitAnd (exchange k h m) (exchange k h x) ≡ exchange k h (bitAnd m x)
 exchange-and n k h m x hk hh hm hx =

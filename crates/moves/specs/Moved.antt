@@ -97,19 +97,23 @@ ready n k y hk hy l =
 abbrev pub Steps : ℕ → (ℕ → ℕ) → ℕ → Type 0
 Steps n c k = (j : ℕ) → j < k → Ready n j (partner n j (reached n c j (c j))) (rest n j (reached n c j (c j)))
 
+-- no step leaves the point
 pub reached-none : (n : ℕ) (c : ℕ → ℕ) (x : ℕ) → reached n c 0 x ≡ x
 unfolding reached
 reached-none n c x = refl
 
+-- one step more for a point
 pub reached-suc : (n : ℕ) (c : ℕ → ℕ) (k x : ℕ)
     → reached n c (suc k) x ≡ stepPoint k (partner n k (reached n c k (c k))) (rest n k (reached n c k (c k))) (reached n c k x)
 unfolding reached
 reached-suc n c k x = refl
 
+-- no step leaves the rows
 pub moved-none : (n : ℕ) (c : ℕ → ℕ) (rs : List Row) → moved n c 0 rs ≡ rs
 unfolding moved
 moved-none n c rs = refl
 
+-- one step more for the rows
 pub moved-suc : (n : ℕ) (c : ℕ → ℕ) (k : ℕ) (rs : List Row)
     → moved n c (suc k) rs ≡ stepRows k (partner n k (reached n c k (c k))) (rest n k (reached n c k (c k))) (moved n c k rs)
 unfolding moved
@@ -138,10 +142,23 @@ module _ (n : ℕ) (c : ℕ → ℕ) where
   fewer : (k : ℕ) → Steps n c (suc k) → Steps n c k
   fewer k s j h = s j (omega arith)
 
+  -- the coordinates reached are within the width
   pub reached-lt : (k : ℕ) → Steps n c k → (x : ℕ) → x < 2 ^ n → reached n c k x < 2 ^ n
   unfolding reached
   reached-lt zero s x h = h
   reached-lt (suc k) s x h = step-lt n k _ _ (s k (omega arith)) (reached n c k x) (reached-lt k (fewer k s) x h)
+
+  -- chosen numbers that are below 2^n, and not 0 in the coordinates reached, make steps
+  pub steps : (k : ℕ) → k ≤ n → ((j : ℕ) → j < k → c j < 2 ^ n) → ((j : ℕ) → j < k → 0 < reached n c j (c j)) → Steps n c k
+  steps zero h b p = λ j l. absurd (omega arith)
+  steps (suc k) h b p = go (steps k (omega arith) (λ j l. b j (omega arith)) (λ j l. p j (omega arith)))
+    where
+      go : Steps n c k → Steps n c (suc k)
+      go s j l = at (ℕ-discrete j k)
+        where
+          at : Dec (j ≡ k) → Ready n j (partner n j (reached n c j (c j))) (rest n j (reached n c j (c j)))
+          at (yes e) = rw e (ready n k (reached n c k (c k)) (omega arith) (reached-lt k s (c k) (b k (omega arith))) (p k (omega arith)))
+          at (no m) = s j (omega arith)
 
   -- rows stay well formed
   pub moved-sound : (k : ℕ) → Steps n c k → (rs : List Row) → Every (Sound n) rs → Every (Sound n) (moved n c k rs)

@@ -1,6 +1,6 @@
 -- The flips of v, which has no bit k, in a point and in a row: the bits of a point, that they undo themselves and stay within the
 -- width; that a row flipped, kept or split has the flipped points of the row before, each in one row only; and that such rows stay
--- well formed. Assumes nothing.
+-- well formed. Not here: lists of rows (`Step`). Assumes nothing.
 use mathlib.Core.Path.{_≡_, sym, ap, ap₂, _∙_}
 use mathlib.Core.Bool.{false, _&&_, and-true, and-false}
 use Prim.Native.Nat.{ℕ, _+_, _*_, _%_, _^_, _<_}
@@ -21,10 +21,12 @@ use Rattle.pairs.specs.Cube.{Sound}
 
 -- ---- points
 
+-- they stay within the width
 pub shear-lt : (n k v x : ℕ) → v < 2 ^ n → x < 2 ^ n → shear k v x < 2 ^ n
 unfolding shear
 shear-lt n k v x hv hx = xor-lt n x (v * bit x k) hx (times-lt v (bit x k) n (bit-lt x k) hv)
 
+-- bit j changes where v has it, if the point has bit k
 pub shear-bit : (k v x j : ℕ) → bit (shear k v x) j ≡ (bit x j + bit v j * bit x k) % 2
 unfolding shear
 shear-bit k v x j = bit-xor x (v * bit x k) j ∙ ap (λ (y : ℕ). (bit x j + y) % 2) (bit-times v (bit x k) j (bit-lt x k))

@@ -36,10 +36,11 @@ pub record Ready (n k h v : ℕ) : Type 0 where
 abbrev pub stepRows : ℕ → ℕ → ℕ → List Row → List Row
 stepRows k h v rs = splitRows k v (map (exchangeRow k h) rs)
 
--- a point after the step, and before it
+-- a point after the step
 abbrev pub stepPoint : ℕ → ℕ → ℕ → ℕ → ℕ
 stepPoint k h v x = shear k v (exchange k h x)
 
+-- and before it
 abbrev pub backPoint : ℕ → ℕ → ℕ → ℕ → ℕ
 backPoint k h v x = exchange k h (shear k v x)
 
@@ -186,18 +187,17 @@ pub step-length-le : (k h v : ℕ) (rs : List Row) → length (stepRows k h v rs
 step-length-le k h v rs = omega (arith, split-length k v (map (exchangeRow k h) rs) .1, length-map rs (exchangeRow k h))
 
 module _ (n k h v : ℕ) (d : Ready n k h v) where
-  -- points: the step stays within the width, and is undone
+  -- a point after the step is within the width
   pub step-lt : (x : ℕ) → x < 2 ^ n → stepPoint k h v x < 2 ^ n
   step-lt x l = shear-lt n k v (exchange k h x) (d .below) (exchange-lt n k h x (d .place) (d .other) l)
 
+  -- and so is the point before it
   pub back-lt : (x : ℕ) → x < 2 ^ n → backPoint k h v x < 2 ^ n
   back-lt x l = exchange-lt n k h (shear k v x) (d .place) (d .other) (shear-lt n k v x (d .below) l)
 
+  -- the point before the step leads to it
   pub step-back : (x : ℕ) → stepPoint k h v (backPoint k h v x) ≡ x
   step-back x = ap (shear k v) (exchange-twice k h (shear k v x)) ∙ shear-twice k v x (d .clear)
-
-  pub back-step : (x : ℕ) → backPoint k h v (stepPoint k h v x) ≡ x
-  back-step x = ap (exchange k h) (shear-twice k v (exchange k h x) (d .clear)) ∙ exchange-twice k h x
 
   -- the exchange alone
   word-exchange : (missing : ℕ) (rs : List Row) (x : ℕ) → Every (Sound n) rs → x < 2 ^ n

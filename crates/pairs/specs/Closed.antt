@@ -1,5 +1,5 @@
 -- What a pair of rows adds, by masks and a count of bits; and what that gives for a row with itself and for the two orders of a
--- pair. Assumes nothing.
+-- pair. Not here: that it is a count of points (`Cube`). Assumes nothing.
 use mathlib.Core.Path.{_≡_, sym, ap, ap₂, _∙_}
 use mathlib.Core.Bool.{Bool, true, false, cond}
 use Prim.Native.Nat.{ℕ, zero, suc, _+_, _-_, _*_, _/_, _%_, _^_, _<_, min, max}

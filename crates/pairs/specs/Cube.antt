@@ -68,6 +68,7 @@ fit-dig m v x = rw (eqb-dig (bitAnd m x) v, one-and, and-half, and-odd)
 abbrev both : ℕ → ℕ → ℕ → ℕ → ℕ → ℕ → Bool
 both m₁ v₁ m₂ v₂ t x = fit m₁ v₁ x && fit m₂ v₂ (bitXor x t)
 
+-- two products, factor by factor
 pub mul4 : (a b c d : ℕ) → (a * b) * (c * d) ≡ (a * c) * (b * d)
 mul4 a b c d = omega arith
 
@@ -91,6 +92,7 @@ and-right false q h = absurd h
 abbrev pub all2 : (ℕ → Bool) → Bool
 all2 p = p 0 && p 1
 
+-- what passes at both digits passes at any
 pub all2-at : (p : ℕ → Bool) → T (all2 p) → (x : ℕ) → x < 2 → T (p x)
 all2-at p h zero l = and-left (p 0) (p 1) h
 all2-at p h (suc zero) l = and-right (p 0) (p 1) h

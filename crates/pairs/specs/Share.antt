@@ -1,5 +1,6 @@
 -- Refusal 7: two well-formed rows share a point exactly where no input is fixed at different values in the two; the first such pair
--- as two nested loops find it; and the checks 6 and 7 together: where neither holds, the rows are disjoint. Assumes nothing.
+-- as two nested loops find it; and the checks 6 and 7 together: where neither holds, the rows are disjoint. Not here: R
+-- (`Theorem`). Assumes nothing.
 use mathlib.Core.Path.{_≡_, refl, sym, ap, _∙_}
 use mathlib.Core.Bool.{Bool, true, false, not, cond, _&&_, _||_, false≢true}
 use mathlib.Core.List.{List}
@@ -72,9 +73,11 @@ Clear rs i j = (k : ℕ) → i < k → k < j → demanded (rowAt rs i) (rowAt rs
 abbrev pub ClearBelow : List Row → ℕ → Type 0
 ClearBelow rs i = (k : ℕ) → k < i → Clear rs k (length rs)
 
+-- no row lies between i and the next
 pub clear-none : (rs : List Row) (i : ℕ) → Clear rs i (i + 1)
 clear-none rs i k a b e = omega arith
 
+-- one row more that shares no point with row i
 pub clear-more : (rs : List Row) (i j : ℕ) → Clear rs i j → (demanded (rowAt rs i) (rowAt rs j) ≡ 0 → ⊥) → Clear rs i (j + 1)
 clear-more rs i j c d k a b = go (ℕ-discrete k j)
   where
@@ -82,9 +85,11 @@ clear-more rs i j c d k a b = go (ℕ-discrete k j)
     go (yes e) = rw e d
     go (no n) = c k a (omega arith)
 
+-- no row lies below the first
 pub clear-below-none : (rs : List Row) → ClearBelow rs 0
 clear-below-none rs k h = absurd (omega arith)
 
+-- one row more that shares no point with a later one
 pub clear-below-more : (rs : List Row) (i : ℕ) → ClearBelow rs i → Clear rs i (length rs) → ClearBelow rs (i + 1)
 clear-below-more rs i c d k h = go (ℕ-discrete k i)
   where

@@ -1,6 +1,7 @@
 -- R of disjoint rows by unordered pairs: one cube (mask, value, weight) for each pair i ≤ j with equal words, in the order of two
 -- nested loops, its weight doubled where i < j; R(t) is the sum over the cubes. Then the list of cubes as such loops build it, how
--- long it can be, and the sum as a loop over three stored lists has it. Assumes nothing.
+-- long it can be, and the sum as a loop over three stored lists has it. Not here: the sum over ordered pairs (`Theorem`).
+-- Assumes nothing.
 use mathlib.Core.Path.{_≡_, refl, sym, ap, ap₂, _∙_}
 use mathlib.Core.Bool.{Bool, true, false, cond, _&&_, and-false}
 use mathlib.Core.List.{List, [], _∷_, _++_, map, append-assoc, append-nil}
@@ -32,6 +33,7 @@ pub record Cube : Type 0 where
   pub value : ℕ
   pub weight : ℕ
 
+-- a cube by its parts
 abbrev pub cube : ℕ → ℕ → ℕ → Cube
 cube m v w = record { mask = m; value = v; weight = w }
 

@@ -1,11 +1,11 @@
 -- R of a list of rows by pairs (document 003, Theorem 1; 01, The measure): what is asked of the list, the theorem, and what it says
--- of one row, whatever its word, and of two. Not here: the sum over unordered pairs (`Symmetric`), and how the checks give what is asked
--- (`Share`). Assumes nothing.
+-- of one row, whatever its word, and of two. Not here: the sum over unordered pairs (`Symmetric`), and how the checks give what is
+-- asked (`Share`). Assumes nothing.
 use mathlib.Core.Path.{_≡_, refl, sym, ap, _∙_}
 use mathlib.Core.Bool.{Bool, true, false, cond, and-false}
 use mathlib.Core.List.{List, [], _∷_}
 use mathlib.Core.Logic.{_⊎_, inl, inr}
-use Prim.Native.Nat.{ℕ, zero, suc, _+_, _-_, _*_, _^_, _<_}
+use Prim.Native.Nat.{ℕ, zero, suc, _+_, _-_, _*_, _^_, _≤_, _<_}
 use native.Mathlib.Nat.{mul-zero, mul-one, zero-mul, one-mul}
 use native.Mathlib.Omega.{arith}
 use borrow.Author.Tests.{eq-eqb, ne-eqb}
@@ -15,7 +15,7 @@ use lib.Dec.{eqb}
 use lib.ListN.{length}
 use lib.Pow.{pow-pos}
 use Rattle.sums.specs.Sums.{sum, one, count}
-use Rattle.sums.specs.Laws.{sum-one, sum-none, sum-swap, sum-cong, sum-mul}
+use Rattle.sums.specs.Laws.{sum-one, sum-none, sum-swap, sum-cong, sum-mul, count-le}
 use Rattle.block.specs.Words.{none, under, wordAt, ofRows}
 use Rattle.block.specs.Measure.{same, shift}
 use Rattle.block.specs.Refusals.{rowAt}
@@ -56,6 +56,7 @@ Nowhere rs x = Every (λ r. under r x ≡ false) rs × (ofRows rs x ≡ none)
 abbrev Somewhere : List Row → ℕ → Type 0
 Somewhere rs x = (i : ℕ) × (i < length rs) × (under (rowAt rs i) x ≡ true) × (ofRows rs x ≡ rowAt rs i .word)
 
+-- the first row and the others
 pub every-cons : (P : Row → Type 0) (r : Row) (rs : List Row) → P r → Every P rs → Every P (r ∷ rs)
 every-cons P r rs p f zero h = p
 every-cons P r rs p f (suc i) h = f i (omega arith)
@@ -136,6 +137,11 @@ module _ (n : ℕ) (rs : List Row) (t : ℕ) (d : Disjoint n rs) (ht : t < 2 ^ n
       sum-mul (λ x. one (meets (rowAt rs i) (rowAt rs j) t x)) (one (eqb (rowAt rs i .word) (rowAt rs j .word))) (2 ^ n)
       ∙ ap (λ (y : ℕ). y * one (eqb (rowAt rs i .word) (rowAt rs j .word))) (pair-count n (rowAt rs i) (rowAt rs j) t (d .sound i hi) (d .sound j hj) ht)
       ∙ times-cond (eqb (rowAt rs i .word) (rowAt rs j .word)) (pair n (rowAt rs i) (rowAt rs j) t)))
+
+-- R is never more than the number of points, whatever the block
+pub shift-le : (f : ℕ → ℕ) (n t : ℕ) → shift f n t ≤ 2 ^ n
+unfolding shift
+shift-le f n t = count-le (same f t) (2 ^ n)
 
 -- a single row, whatever its word, 0 included: R(0) is 2 to the number of its free symbols
 pub shift-single : (n : ℕ) (r : Row) → Sound n r → HasOutput r → shift (ofRows (r ∷ [])) n 0 ≡ 2 ^ (n - ones (r .mask))
