@@ -40,7 +40,8 @@ exchange-bit k h y j = formula ∙ go (ℕ-discrete j k) (ℕ-discrete j h)
         → (bit y j + (bit (2 ^ k) j + bit (2 ^ h) j) % 2 * ((bit y k + bit y h) % 2)) % 2 ≡ bit y (swapped k h j)
     go (yes a) (yes b) = rw (eq-eqb j k a, ← a, ← b, bit-pow-same j) (omega (arith, bit-lt y j))
     go (yes a) (no b) = rw (eq-eqb j k a, bit-pow-other h j b, ← a, bit-pow-same j) (omega (arith, bit-lt y j, bit-lt y h))
-    go (no a) (yes b) = rw (ne-eqb j k a, eq-eqb j h b, bit-pow-other k j a, ← b, bit-pow-same j) (omega (arith, bit-lt y j, bit-lt y k))
+    go (no a) (yes b) =
+        rw (ne-eqb j k a, eq-eqb j h b, bit-pow-other k j a, ← b, bit-pow-same j) (omega (arith, bit-lt y j, bit-lt y k))
     go (no a) (no b) = rw (ne-eqb j k a, ne-eqb j h b, bit-pow-other k j a, bit-pow-other h j b) (omega (arith, bit-lt y j))
 
 -- it stays within the width
@@ -48,7 +49,8 @@ pub exchange-lt : (n k h y : ℕ) → k < n → h < n → y < 2 ^ n → exchange
 unfolding exchange
 exchange-lt n k h y hk hh hy =
     xor-lt n y (bitXor (2 ^ k) (2 ^ h) * ((bit y k + bit y h) % 2)) hy
-    (times-lt (bitXor (2 ^ k) (2 ^ h)) ((bit y k + bit y h) % 2) n (mod2-lt (bit y k + bit y h)) (xor-lt n (2 ^ k) (2 ^ h) (pow-lt hk) (pow-lt hh)))
+    (times-lt (bitXor (2 ^ k) (2 ^ h)) ((bit y k + bit y h) % 2) n (mod2-lt (bit y k + bit y h))
+    (xor-lt n (2 ^ k) (2 ^ h) (pow-lt hk) (pow-lt hh)))
 
 -- at k stands what stood at h
 pub exchange-first : (k h y : ℕ) → bit (exchange k h y) k ≡ bit y h
@@ -76,7 +78,8 @@ exchange-twice k h y =
 pub exchange-and : (n k h m x : ℕ) → k < n → h < n → m < 2 ^ n → x < 2 ^ n
     → bitAnd (exchange k h m) (exchange k h x) ≡ exchange k h (bitAnd m x)
 exchange-and n k h m x hk hh hm hx =
-    bit-ext n _ _ (and-lt n _ _ (exchange-lt n k h m hk hh hm) (exchange-lt n k h x hk hh hx)) (exchange-lt n k h (bitAnd m x) hk hh (and-lt n m x hm hx))
+    bit-ext n _ _ (and-lt n _ _ (exchange-lt n k h m hk hh hm) (exchange-lt n k h x hk hh hx))
+    (exchange-lt n k h (bitAnd m x) hk hh (and-lt n m x hm hx))
     (λ j hj.
     bit-and (exchange k h m) (exchange k h x) j
     ∙ ap₂ min (exchange-bit k h m j) (exchange-bit k h x j)

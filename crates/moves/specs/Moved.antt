@@ -129,7 +129,8 @@ pub moved-length : (n : ℕ) (c : ℕ → ℕ) (j k : ℕ) (rs : List Row) → j
 moved-length n c j zero rs h = rw (lt-one {n = j} (omega arith)) (omega arith)
 moved-length n c j (suc k) rs h = go (ℕ-discrete j (suc k)) (λ l. moved-length n c j k rs l)
   where
-    go : Dec (j ≡ suc k) → (j ≤ k → length (moved n c j rs) ≤ length (moved n c k rs)) → length (moved n c j rs) ≤ length (moved n c (suc k) rs)
+    go : Dec (j ≡ suc k) → (j ≤ k → length (moved n c j rs) ≤ length (moved n c k rs))
+        → length (moved n c j rs) ≤ length (moved n c (suc k) rs)
     go (yes e) ih = rw e (omega arith)
     go (no m) ih = omega (arith, ih (omega arith), moved-length-suc n c k rs)
 
@@ -157,7 +158,9 @@ module _ (n : ℕ) (c : ℕ → ℕ) where
       go s j l = at (ℕ-discrete j k)
         where
           at : Dec (j ≡ k) → Ready n j (partner n j (reached n c j (c j))) (rest n j (reached n c j (c j)))
-          at (yes e) = rw e (ready n k (reached n c k (c k)) (omega arith) (reached-lt k s (c k) (b k (omega arith))) (p k (omega arith)))
+          at (yes e) =
+              rw e
+              (ready n k (reached n c k (c k)) (omega arith) (reached-lt k s (c k) (b k (omega arith))) (p k (omega arith)))
           at (no m) = s j (omega arith)
 
   -- rows stay well formed
@@ -172,7 +175,8 @@ module _ (n : ℕ) (c : ℕ → ℕ) where
   unfolding moved reached
   moved-word zero s missing rs x h l = refl
   moved-word (suc k) s missing rs x h l =
-      step-word n k _ _ (s k (omega arith)) missing (moved n c k rs) (reached n c k x) (moved-sound k (fewer k s) rs h) (reached-lt k (fewer k s) x l)
+      step-word n k _ _ (s k (omega arith)) missing (moved n c k rs) (reached n c k x) (moved-sound k (fewer k s) rs h)
+      (reached-lt k (fewer k s) x l)
       ∙ moved-word k (fewer k s) missing rs x h l
 
   -- what all words have, the new words have: they are words of the old rows

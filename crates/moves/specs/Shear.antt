@@ -81,7 +81,8 @@ under-flip k v r x hm hv = go (ℕ-discrete (bit x k) (bit (r .values) k))
           apart k (bitAnd (r .mask) x) (r .values) (λ e. n (sym bit-m ∙ e)),
           apart k (bitXor (bitAnd (r .mask) x) (w * bit x k)) (bitXor (r .values) (w * bit (r .values) k))
               (λ e.
-              n (sym (bit-w (bitAnd (r .mask) x) (bit x k) (bit-lt x k) ∙ bit-m) ∙ e ∙ bit-w (r .values) (bit (r .values) k) (bit-lt (r .values) k))),
+              n (sym (bit-w (bitAnd (r .mask) x) (bit x k) (bit-lt x k) ∙ bit-m) ∙ e
+              ∙ bit-w (r .values) (bit (r .values) k) (bit-lt (r .values) k))),
         )
 
 -- a flipped row stays well formed
@@ -91,7 +92,9 @@ sound-flip n k v r s =
       fixed = s .fixed;
       inside =
           and-xor (r .mask) (r .values) (bitAnd (r .mask) v * bit (r .values) k)
-          ∙ ap₂ bitXor (s .inside) (and-times (r .mask) (bitAnd (r .mask) v) (bit (r .values) k) (bit-lt (r .values) k) ∙ rw (and-again (r .mask) v));
+          ∙ ap₂ bitXor (s .inside)
+          (and-times (r .mask) (bitAnd (r .mask) v) (bit (r .values) k) (bit-lt (r .values) k)
+          ∙ rw (and-again (r .mask) v));
     }
 
 -- ---- the halves of a row that is free at k
@@ -112,7 +115,8 @@ bit-there : (k y d : ℕ) → d < 2 → bit y k ≡ 0 → bit (bitXor y (2 ^ k *
 bit-there k y d h e = bit-xor y (2 ^ k * d) k ∙ rw (e, bit-times (2 ^ k) d k h, bit-pow-same k) (omega arith)
 
 -- under the half that has d at k lie the row's points that have d there
-pub under-half : (n k d : ℕ) (r : Row) (x : ℕ) → d < 2 → Sound n r → bit (r .mask) k ≡ 0 → under (half k d r) x ≡ under r x && eqb (bit x k) d
+pub under-half : (n k d : ℕ) (r : Row) (x : ℕ) → d < 2 → Sound n r → bit (r .mask) k ≡ 0
+    → under (half k d r) x ≡ under r x && eqb (bit x k) d
 under-half n k d r x hd s h = rw (and-fixed k (r .mask) x) (go (ℕ-discrete (bit x k) d))
   where
     off : bit (bitAnd (r .mask) x) k ≡ 0
@@ -127,7 +131,8 @@ under-half n k d r x hd s h = rw (and-fixed k (r .mask) x) (go (ℕ-discrete (bi
           ne-eqb (bit x k) d m,
           and-false,
           apart k (bitXor (bitAnd (r .mask) x) (2 ^ k * bit x k)) (bitXor (r .values) (2 ^ k * d))
-              (λ e. m (sym (bit-there k (bitAnd (r .mask) x) (bit x k) (bit-lt x k) off) ∙ e ∙ bit-there k (r .values) d hd (free-values n k r s h))),
+              (λ e. m (sym (bit-there k (bitAnd (r .mask) x) (bit x k) (bit-lt x k) off) ∙ e
+              ∙ bit-there k (r .values) d hd (free-values n k r s h))),
         )
 
 -- a half stays well formed
@@ -139,7 +144,9 @@ sound-half n k d r hk hd s h =
           and-fixed k (r .mask) (bitXor (r .values) (2 ^ k * d))
           ∙ ap₂ bitXor
           (and-xor (r .mask) (r .values) (2 ^ k * d)
-          ∙ ap₂ bitXor (s .inside) (and-times (r .mask) (2 ^ k) d hd ∙ rw (and-comm (r .mask) (2 ^ k), and-pow k (r .mask), h) (omega arith))
+          ∙ ap₂ bitXor (s .inside)
+          (and-times (r .mask) (2 ^ k) d hd
+          ∙ rw (and-comm (r .mask) (2 ^ k), and-pow k (r .mask), h) (omega arith))
           ∙ xor-zero-r (r .values))
           (ap (λ (y : ℕ). 2 ^ k * y) (bit-there k (r .values) d hd (free-values n k r s h)));
     }

@@ -172,7 +172,8 @@ split-length k v (r ∷ rs) = go (became-length k v r) (split-length k v rs)
   where
     go : (1 ≤ length (splitRow k v r)) × (length (splitRow k v r) ≤ 2)
         → (length rs ≤ length (splitRows k v rs)) × (length (splitRows k v rs) ≤ length rs * 2)
-        → (suc (length rs) ≤ length (splitRow k v r ++ splitRows k v rs)) × (length (splitRow k v r ++ splitRows k v rs) ≤ suc (length rs) * 2)
+        → (suc (length rs) ≤ length (splitRow k v r ++ splitRows k v rs))
+        × (length (splitRow k v r ++ splitRows k v rs) ≤ suc (length rs) * 2)
     go a b = (
       omega (arith, a .0, b .0, length-append (splitRow k v r) (splitRows k v rs)),
       omega (arith, a .1, b .1, length-append (splitRow k v r) (splitRows k v rs)),
@@ -205,13 +206,18 @@ module _ (n k h v : ℕ) (d : Ready n k h v) where
   unfolding wordAt
   word-exchange missing [] x s l = refl
   word-exchange missing (r ∷ rs) x s l =
-      rw (under-exchange n k h r x (d .place) (d .other) (s 0 (omega arith)) l, word-exchange missing rs x (every-tail (Sound n) r rs s) l)
+      rw (
+        under-exchange n k h r x (d .place) (d .other) (s 0 (omega arith)) l,
+        word-exchange missing rs x (every-tail (Sound n) r rs s) l,
+      )
 
-  hits-exchange : (rs : List Row) (x : ℕ) → Every (Sound n) rs → x < 2 ^ n → hits (map (exchangeRow k h) rs) (exchange k h x) ≡ hits rs x
+  hits-exchange : (rs : List Row) (x : ℕ) → Every (Sound n) rs → x < 2 ^ n
+      → hits (map (exchangeRow k h) rs) (exchange k h x) ≡ hits rs x
   hits-exchange [] x s l = hits-none (exchange k h x) ∙ sym (hits-none x)
   hits-exchange (r ∷ rs) x s l =
       hits-cons (exchangeRow k h r) (map (exchangeRow k h) rs) (exchange k h x)
-      ∙ ap₂ _+_ (ap one (under-exchange n k h r x (d .place) (d .other) (s 0 (omega arith)) l)) (hits-exchange rs x (every-tail (Sound n) r rs s) l)
+      ∙ ap₂ _+_ (ap one (under-exchange n k h r x (d .place) (d .other) (s 0 (omega arith)) l))
+      (hits-exchange rs x (every-tail (Sound n) r rs s) l)
       ∙ sym (hits-cons r rs x)
 
   exchanged : (rs : List Row) → Every (Sound n) rs → Every (Sound n) (map (exchangeRow k h) rs)
@@ -241,32 +247,39 @@ module _ (n k h v : ℕ) (d : Ready n k h v) where
       every-append (Sound n) (splitRow k v r) (splitRows k v rs) (became-sound (became n k h v r d (s 0 (omega arith))))
       (sound-split rs (every-tail (Sound n) r rs s))
 
-  words-split : (P : ℕ → Type 0) (rs : List Row) → Every (Sound n) rs → Every (λ r. P (r .word)) rs → Every (λ r. P (r .word)) (splitRows k v rs)
+  words-split : (P : ℕ → Type 0) (rs : List Row) → Every (Sound n) rs → Every (λ r. P (r .word)) rs
+      → Every (λ r. P (r .word)) (splitRows k v rs)
   unfolding splitRows
   words-split P [] s p = λ i l. absurd (omega arith)
   words-split P (r ∷ rs) s p =
-      every-append (λ r. P (r .word)) (splitRow k v r) (splitRows k v rs) (became-words (became n k h v r d (s 0 (omega arith))) P (p 0 (omega arith)))
+      every-append (λ r. P (r .word)) (splitRow k v r) (splitRows k v rs)
+      (became-words (became n k h v r d (s 0 (omega arith))) P (p 0 (omega arith)))
       (words-split P rs (every-tail (Sound n) r rs s) (every-tail (λ r. P (r .word)) r rs p))
 
   -- the list after the step, at the point after it, is the list at the point
   pub step-word : (missing : ℕ) (rs : List Row) (x : ℕ) → Every (Sound n) rs → x < 2 ^ n
       → wordAt missing (stepRows k h v rs) (stepPoint k h v x) ≡ wordAt missing rs x
-  step-word missing rs x s l = word-split missing (map (exchangeRow k h) rs) (exchange k h x) (exchanged rs s) ∙ word-exchange missing rs x s l
+  step-word missing rs x s l =
+      word-split missing (map (exchangeRow k h) rs) (exchange k h x) (exchanged rs s) ∙ word-exchange missing rs x s l
 
   -- rows stay well formed
   pub step-sound : (rs : List Row) → Every (Sound n) rs → Every (Sound n) (stepRows k h v rs)
   step-sound rs s = sound-split (map (exchangeRow k h) rs) (exchanged rs s)
 
   -- what all words have, the new words have: they are words of the old rows
-  pub step-words : (P : ℕ → Type 0) (rs : List Row) → Every (Sound n) rs → Every (λ r. P (r .word)) rs → Every (λ r. P (r .word)) (stepRows k h v rs)
+  pub step-words : (P : ℕ → Type 0) (rs : List Row) → Every (Sound n) rs → Every (λ r. P (r .word)) rs
+      → Every (λ r. P (r .word)) (stepRows k h v rs)
   step-words P rs s p =
-      words-split P (map (exchangeRow k h) rs) (exchanged rs s) (every-map (λ r. P (r .word)) (λ r. P (r .word)) (exchangeRow k h) (λ r q. q) rs p)
+      words-split P (map (exchangeRow k h) rs) (exchanged rs s)
+      (every-map (λ r. P (r .word)) (λ r. P (r .word)) (exchangeRow k h) (λ r q. q) rs p)
 
   -- no row becomes malformed
-  pub step-good : (outs : ℕ) (rs : List Row) → Every (λ r. badRow n outs r ≡ false) rs → Every (λ r. badRow n outs r ≡ false) (stepRows k h v rs)
+  pub step-good : (outs : ℕ) (rs : List Row) → Every (λ r. badRow n outs r ≡ false) rs
+      → Every (λ r. badRow n outs r ≡ false) (stepRows k h v rs)
   step-good outs rs g i l =
       sound-good n outs (rowAt (stepRows k h v rs) i) (step-sound rs (λ j m. good-sound n outs (rowAt rs j) (g j m)) i l)
-      (step-words (λ w. w < 2 ^ outs) rs (λ j m. good-sound n outs (rowAt rs j) (g j m)) (λ j m. good-word n outs (rowAt rs j) (g j m)) i l)
+      (step-words (λ w. w < 2 ^ outs) rs (λ j m. good-sound n outs (rowAt rs j) (g j m))
+      (λ j m. good-word n outs (rowAt rs j) (g j m)) i l)
 
   -- rows stay apart
   pub step-apart : (rs : List Row) → Every (Sound n) rs → Apart n rs → Apart n (stepRows k h v rs)

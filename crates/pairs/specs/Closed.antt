@@ -35,7 +35,8 @@ or-odd : (a b : ℕ) → bitOr a b % 2 ≡ max (a % 2) (b % 2)
 or-odd a b = omega (arith, or-step a b)
 
 position-test : ℕ → ℕ → ℕ → ℕ → ℕ → Bool
-position-test m₁ v₁ m₂ v₂ t = eqb (position m₁ v₁ m₂ v₂ t) (one (eqb (min (min m₁ m₂) (((v₁ + v₂) % 2 + t) % 2)) 0) * 2 ^ (1 - max m₁ m₂))
+position-test m₁ v₁ m₂ v₂ t =
+    eqb (position m₁ v₁ m₂ v₂ t) (one (eqb (min (min m₁ m₂) (((v₁ + v₂) % 2 + t) % 2)) 0) * 2 ^ (1 - max m₁ m₂))
 
 position-closed : (m₁ v₁ m₂ v₂ t : ℕ) → m₁ < 2 → v₁ < 2 → m₂ < 2 → v₂ < 2 → t < 2
     → position m₁ v₁ m₂ v₂ t ≡ one (eqb (min (min m₁ m₂) (((v₁ + v₂) % 2 + t) % 2)) 0) * 2 ^ (1 - max m₁ m₂)
@@ -44,7 +45,10 @@ position-closed m₁ v₁ m₂ v₂ t a b c d e = eqb→eq _ _ (all2-five positi
 
 -- the powers of two of a count, by its lowest digit
 free-suc : (n o : ℕ) → o < 2 ^ suc n → 2 ^ (suc n - ones o) ≡ 2 ^ (n - ones (o / 2)) * 2 ^ (1 - o % 2)
-free-suc n o h = rw (ones-step o) (ap (λ (x : ℕ). 2 ^ x) (omega (arith, ones-le n (o / 2) (omega arith))) ∙ pow-add 2 (n - ones (o / 2)) (1 - o % 2))
+free-suc n o h =
+    rw (ones-step o)
+    (ap (λ (x : ℕ). 2 ^ x) (omega (arith, ones-le n (o / 2) (omega arith)))
+    ∙ pow-add 2 (n - ones (o / 2)) (1 - o % 2))
 
 -- the demands that t breaks
 abbrev broken : ℕ → ℕ → ℕ → ℕ → ℕ → ℕ
@@ -56,7 +60,8 @@ unfolding positions ones
 positions-closed zero m₁ v₁ m₂ v₂ t a b = rw (lt-one a, lt-one b)
 positions-closed (suc n) m₁ v₁ m₂ v₂ t a b =
     ap₂ _*_ (positions-closed n (m₁ / 2) (v₁ / 2) (m₂ / 2) (v₂ / 2) (t / 2) (omega arith) (omega arith))
-    (position-closed (m₁ % 2) (v₁ % 2) (m₂ % 2) (v₂ % 2) (t % 2) (omega arith) (omega arith) (omega arith) (omega arith) (omega arith))
+    (position-closed (m₁ % 2) (v₁ % 2) (m₂ % 2) (v₂ % 2) (t % 2) (omega arith) (omega arith) (omega arith) (omega arith)
+    (omega arith))
     ∙ mul4 _ _ _ _
     ∙ rw (free-suc n (bitOr m₁ m₂) (or-lt (suc n) m₁ m₂ a b), or-half, or-odd, eqb-dig (broken m₁ v₁ m₂ v₂ t) 0)
     (simp (one-and, and-half, xor-half, and-odd, xor-odd))
@@ -77,7 +82,8 @@ pub pair-closed : (n : ℕ) (r s : Row) (t : ℕ) → Sound n r → Sound n s
     → pair n r s t ≡ cond (eqb (bitAnd t (fixedBoth r s)) (demanded r s)) (2 ^ freeBoth n r s) 0
 pair-closed n r s t a b =
     positions-closed n (r .mask) (r .values) (s .mask) (s .values) t (a .fixed) (b .fixed)
-    ∙ rw (unbroken (fixedBoth r s) (bitXor (r .values) (s .values)) t) (one-cond (eqb (bitAnd t (fixedBoth r s)) (demanded r s)) (2 ^ freeBoth n r s))
+    ∙ rw (unbroken (fixedBoth r s) (bitXor (r .values) (s .values)) t)
+    (one-cond (eqb (bitAnd t (fixedBoth r s)) (demanded r s)) (2 ^ freeBoth n r s))
 
 -- a row with itself, at t = 0: 2 to the number of its free symbols
 pub pair-self : (n : ℕ) (r : Row) → Sound n r → pair n r r 0 ≡ 2 ^ (n - ones (r .mask))

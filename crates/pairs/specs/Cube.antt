@@ -33,7 +33,8 @@ position (suc m₁) v₁ (suc m₂) v₂ t = one (eqb ((v₁ + v₂) % 2) t)
 -- the product over n positions, the lowest first
 unfoldable pub positions : ℕ → ℕ → ℕ → ℕ → ℕ → ℕ → ℕ
 positions zero m₁ v₁ m₂ v₂ t = 1
-positions (suc n) m₁ v₁ m₂ v₂ t = positions n (m₁ / 2) (v₁ / 2) (m₂ / 2) (v₂ / 2) (t / 2) * position (m₁ % 2) (v₁ % 2) (m₂ % 2) (v₂ % 2) (t % 2)
+positions (suc n) m₁ v₁ m₂ v₂ t =
+    positions n (m₁ / 2) (v₁ / 2) (m₂ / 2) (v₂ / 2) (t / 2) * position (m₁ % 2) (v₁ % 2) (m₂ % 2) (v₂ % 2) (t % 2)
 
 -- what an ordered pair of rows with equal words adds to R(t)
 abbrev pub pair : ℕ → Row → Row → ℕ → ℕ
@@ -50,7 +51,8 @@ pub eqb-dig : (a b : ℕ) → eqb a b ≡ eqb (a / 2) (b / 2) && eqb (a % 2) (b 
 eqb-dig a b = go (ℕ-discrete a b) (ℕ-discrete (a / 2) (b / 2))
   where
     go : Dec (a ≡ b) → Dec (a / 2 ≡ b / 2) → eqb a b ≡ eqb (a / 2) (b / 2) && eqb (a % 2) (b % 2)
-    go (yes e) d = simp (eq-eqb a b e, eq-eqb (a / 2) (b / 2) (ap (λ (x : ℕ). x / 2) e), eq-eqb (a % 2) (b % 2) (ap (λ (x : ℕ). x % 2) e))
+    go (yes e) d =
+        simp (eq-eqb a b e, eq-eqb (a / 2) (b / 2) (ap (λ (x : ℕ). x / 2) e), eq-eqb (a % 2) (b % 2) (ap (λ (x : ℕ). x % 2) e))
     go (no n) (yes h) = simp (ne-eqb a b n, eq-eqb (a / 2) (b / 2) h, ne-eqb (a % 2) (b % 2) (λ l. n (dig-ext a b h l)))
     go (no n) (no k) = simp (ne-eqb a b n, ne-eqb (a / 2) (b / 2) k)
 
@@ -74,7 +76,8 @@ mul4 a b c d = omega arith
 
 both-dig : (m₁ v₁ m₂ v₂ t x : ℕ)
     → one (both m₁ v₁ m₂ v₂ t x)
-    ≡ one (both (m₁ / 2) (v₁ / 2) (m₂ / 2) (v₂ / 2) (t / 2) (x / 2)) * (low (m₁ % 2) (v₁ % 2) (x % 2) * low (m₂ % 2) (v₂ % 2) ((x % 2 + t % 2) % 2))
+    ≡ one (both (m₁ / 2) (v₁ / 2) (m₂ / 2) (v₂ / 2) (t / 2) (x / 2))
+    * (low (m₁ % 2) (v₁ % 2) (x % 2) * low (m₂ % 2) (v₂ % 2) ((x % 2 + t % 2) % 2))
 both-dig m₁ v₁ m₂ v₂ t x =
     rw (one-and (fit m₁ v₁ x), fit-dig m₁ v₁ x, fit-dig m₂ v₂ (bitXor x t), xor-half, xor-odd, one-and) (mul4 _ _ _ _)
 
@@ -166,9 +169,11 @@ positions-count zero m₁ v₁ m₂ v₂ t a b c h k =
 positions-count (suc n) m₁ v₁ m₂ v₂ t a b c h k =
     rw (pow-suc 2 n, sum-pairs (λ x. one (both m₁ v₁ m₂ v₂ t x)) (2 ^ n))
     (sum-cong _ _ (2 ^ n) (λ y l. above m₁ v₁ m₂ v₂ t y h k)
-    ∙ sum-mul (λ y. one (both (m₁ / 2) (v₁ / 2) (m₂ / 2) (v₂ / 2) (t / 2) y)) (position (m₁ % 2) (v₁ % 2) (m₂ % 2) (v₂ % 2) (t % 2)) (2 ^ n)
+    ∙ sum-mul (λ y. one (both (m₁ / 2) (v₁ / 2) (m₂ / 2) (v₂ / 2) (t / 2) y)) (position (m₁ % 2) (v₁ % 2) (m₂ % 2) (v₂ % 2) (t % 2))
+    (2 ^ n)
     ∙ ap (λ (x : ℕ). x * position (m₁ % 2) (v₁ % 2) (m₂ % 2) (v₂ % 2) (t % 2))
-    (positions-count n (m₁ / 2) (v₁ / 2) (m₂ / 2) (v₂ / 2) (t / 2) (omega arith) (omega arith) (omega arith) (halves-in m₁ v₁ h) (halves-in m₂ v₂ k)))
+    (positions-count n (m₁ / 2) (v₁ / 2) (m₂ / 2) (v₂ / 2) (t / 2) (omega arith) (omega arith) (omega arith) (halves-in m₁ v₁ h)
+    (halves-in m₂ v₂ k)))
 
 -- what a pair adds is the number of points x under the first row with x XOR t under the second
 pub pair-count : (n : ℕ) (r s : Row) (t : ℕ) → Sound n r → Sound n s → t < 2 ^ n → count (meets r s t) (2 ^ n) ≡ pair n r s t

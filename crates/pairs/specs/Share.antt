@@ -52,7 +52,9 @@ share-closed n r s a b = go (ℕ-discrete (demanded r s) 0)
     go (yes e) =
         let w = count-some (meets r s 0) (2 ^ n) (rw (how-many, eq-eqb (demanded r s) 0 e) (pow-pos (freeBoth n r s))) in
         rw (eq-eqb (demanded r s) 0 e)
-        (lt-ltb _ _ (first-found (2 ^ n) (λ x. under r x && under s x) (w .0) (w .1) (ap (λ (y : ℕ). under r (w .0) && under s y) (sym (xor-zero-r (w .0))) ∙ w .2)))
+        (lt-ltb _ _
+        (first-found (2 ^ n) (λ x. under r x && under s x) (w .0) (w .1)
+        (ap (λ (y : ℕ). under r (w .0) && under s y) (sym (xor-zero-r (w .0))) ∙ w .2)))
     go (no e) =
         rw (ne-eqb (demanded r s) 0 e)
         (le-ltb (first (2 ^ n) (λ x. under r x && under s x)) (2 ^ n)
@@ -119,7 +121,8 @@ module _ (n : ℕ) (rs : List Row) (sound : Every (Sound n) rs) where
   pub second-none : (i : ℕ) → i < length rs → Clear rs i (length rs) → second n rs i ≡ length rs
   unfolding second later
   second-none i h c =
-      first-is (length rs) (later i) (length rs) (omega arith) (λ k l. later-not i (length rs) k h (omega arith) c l) (λ l. absurd (omega arith))
+      first-is (length rs) (later i) (length rs) (omega arith) (λ k l. later-not i (length rs) k h (omega arith) c l)
+      (λ l. absurd (omega arith))
 
   -- the least row that row i shares a point with
   pub second-at : (i j : ℕ) → i < j → j < length rs → Clear rs i j → demanded (rowAt rs i) (rowAt rs j) ≡ 0 → second n rs i ≡ j
@@ -199,7 +202,9 @@ apart-sharing n rs apart h =
     let w = sharing-share n rs h in
     let l = ltb-true _ _ (w .2) in
     let p : ℕ → Bool = λ x. under (rowAt rs (sharing n rs)) x && under (rowAt rs (second n rs (sharing n rs))) x in
-    let b = and-both (under (rowAt rs (sharing n rs)) (first (2 ^ n) p)) (under (rowAt rs (second n rs (sharing n rs))) (first (2 ^ n) p)) (first-passes (2 ^ n) p l) in
+    let b =
+    and-both (under (rowAt rs (sharing n rs)) (first (2 ^ n) p)) (under (rowAt rs (second n rs (sharing n rs))) (first (2 ^ n) p))
+    (first-passes (2 ^ n) p l) in
     omega (arith, w .0, apart (sharing n rs) (second n rs (sharing n rs)) (first (2 ^ n) p) h (w .1) l (b .0) (b .1))
 
 -- the four tests that no malformed row passes
@@ -214,7 +219,8 @@ tests : (n k : ℕ) (r : Row) → badRow n k r ≡ false
     → (ltb (r .mask) (2 ^ n) ≡ true) × (ltb (r .values) (2 ^ n) ≡ true) × (ltb (r .word) (2 ^ k) ≡ true)
     × (eqb (bitAnd (r .mask) (r .values)) (r .values) ≡ true)
 unfolding badRow
-tests n k r e = four (ltb (r .mask) (2 ^ n)) (ltb (r .values) (2 ^ n)) (ltb (r .word) (2 ^ k)) (eqb (bitAnd (r .mask) (r .values)) (r .values)) e
+tests n k r e =
+    four (ltb (r .mask) (2 ^ n)) (ltb (r .values) (2 ^ n)) (ltb (r .word) (2 ^ k)) (eqb (bitAnd (r .mask) (r .values)) (r .values)) e
 
 -- a row that is not malformed is well formed
 pub good-sound : (n k : ℕ) (r : Row) → badRow n k r ≡ false → Sound n r
@@ -240,7 +246,13 @@ pub every-good : (n k : ℕ) (rs : List Row) → badRowCheck n k rs .holds ≡ f
 every-good n k rs e i h = go (badRow n k (rowAt rs i)) refl
   where
     go : (b : Bool) → badRow n k (rowAt rs i) ≡ b → badRow n k (rowAt rs i) ≡ false
-    go true d = absurd (omega (arith, ltb-false (first (length rs) (λ i. badRow n k (rowAt rs i))) (length rs) e, first-found (length rs) (λ i. badRow n k (rowAt rs i)) i h d))
+    go true d =
+        absurd
+        (omega (
+          arith,
+          ltb-false (first (length rs) (λ i. badRow n k (rowAt rs i))) (length rs) e,
+          first-found (length rs) (λ i. badRow n k (rowAt rs i)) i h d,
+        ))
     go false d = d
 
 -- where neither 6 nor 7 holds, the rows are disjoint

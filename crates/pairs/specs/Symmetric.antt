@@ -48,7 +48,8 @@ added t cs = sum (λ q. hit t (getD cs q (cube 0 0 0))) (length cs)
 -- the cube of the rows i ≤ j
 abbrev pub cubeAt : ℕ → List Row → ℕ → ℕ → Cube
 cubeAt n rs i j =
-    cube (fixedBoth (rowAt rs i) (rowAt rs j)) (demanded (rowAt rs i) (rowAt rs j)) (2 ^ freeBoth n (rowAt rs i) (rowAt rs j) * cond (eqb i j) 1 2)
+    cube (fixedBoth (rowAt rs i) (rowAt rs j)) (demanded (rowAt rs i) (rowAt rs j))
+    (2 ^ freeBoth n (rowAt rs i) (rowAt rs j) * cond (eqb i j) 1 2)
 
 -- the pair i, j has a cube
 abbrev listed : List Row → ℕ → ℕ → Bool
@@ -88,10 +89,12 @@ cubes-more n rs i j h e =
     (sym (append-assoc (cubesBelow n rs i) (rowCubes n rs i j) (cubeAt n rs i j ∷ [])))
 
 -- any other pair has none
-pub cubes-skip : (n : ℕ) (rs : List Row) (i j : ℕ) → (rowAt rs i .word ≡ rowAt rs j .word → ⊥) → cubesTo n rs i (j + 1) ≡ cubesTo n rs i j
+pub cubes-skip : (n : ℕ) (rs : List Row) (i j : ℕ) → (rowAt rs i .word ≡ rowAt rs j .word → ⊥)
+    → cubesTo n rs i (j + 1) ≡ cubesTo n rs i j
 unfolding cubesTo rowCubes
 cubes-skip n rs i j e =
-    rw (add-one j, ne-eqb (rowAt rs i .word) (rowAt rs j .word) e, and-false) (ap (λ l. cubesBelow n rs i ++ l) (append-nil (rowCubes n rs i j)))
+    rw (add-one j, ne-eqb (rowAt rs i .word) (rowAt rs j .word) e, and-false)
+    (ap (λ l. cubesBelow n rs i ++ l) (append-nil (rowCubes n rs i j)))
 
 row-cubes-none : (n : ℕ) (rs : List Row) (i j : ℕ) → j ≤ i → rowCubes n rs i j ≡ []
 unfolding rowCubes
@@ -101,7 +104,8 @@ row-cubes-none n rs i (suc j) h = rw (lt-leb i j (omega arith), row-cubes-none n
 -- the next row begins at itself
 pub cubes-next : (n : ℕ) (rs : List Row) (i : ℕ) → cubesTo n rs (i + 1) (i + 1) ≡ cubesTo n rs i (length rs)
 unfolding cubesTo cubesBelow
-cubes-next n rs i = rw (row-cubes-none n rs (i + 1) (i + 1) (omega arith), add-one i) (append-nil (cubesBelow n rs i ++ rowCubes n rs i (length rs)))
+cubes-next n rs i =
+    rw (row-cubes-none n rs (i + 1) (i + 1) (omega arith), add-one i) (append-nil (cubesBelow n rs i ++ rowCubes n rs i (length rs)))
 
 -- past the last row the list is whole
 pub cubes-whole : (n : ℕ) (rs : List Row) → cubesTo n rs (length rs) (length rs) ≡ cubesOf n rs
@@ -127,7 +131,8 @@ row-length n rs i (suc j) = go (leb i j) refl (row-length n rs i j)
         (omega (arith, leb-true i j e, length-last (listed rs i j) (cubeAt n rs i j)))
     go false e h = rw (e, append-nil (rowCubes n rs i j)) (omega arith)
 
-below-length : (n : ℕ) (rs : List Row) (i d : ℕ) → i + d ≡ length rs → length (cubesBelow n rs i) * 2 + d * (d + 1) ≤ length rs * (length rs + 1)
+below-length : (n : ℕ) (rs : List Row) (i d : ℕ) → i + d ≡ length rs
+    → length (cubesBelow n rs i) * 2 + d * (d + 1) ≤ length rs * (length rs + 1)
 unfolding cubesBelow
 below-length n rs zero d h = rw (← h) (omega arith)
 below-length n rs (suc i) d h =
@@ -138,7 +143,8 @@ square-le : (p m : ℕ) → p ≤ m → p * (p + 1) ≤ m * (m + 1)
 square-le p m h = mul-le-mul h (omega arith)
 
 -- before any pair i ≤ j of at most m rows there are fewer than m (m + 1) / 2 cubes
-pub cubes-room : (n : ℕ) (rs : List Row) (i j m : ℕ) → i ≤ j → j < length rs → length rs ≤ m → length (cubesTo n rs i j) * 2 < m * (m + 1)
+pub cubes-room : (n : ℕ) (rs : List Row) (i j m : ℕ) → i ≤ j → j < length rs → length rs ≤ m
+    → length (cubesTo n rs i j) * 2 < m * (m + 1)
 unfolding cubesTo
 cubes-room n rs i j m h l k =
     let e : ℕ = length rs - suc i in
@@ -164,7 +170,8 @@ module _ (n : ℕ) (rs : List Row) (t : ℕ) where
   portion i j = cond (leb i j) (pairAt n rs t i j * cond (eqb i j) 1 2) 0
 
   added-last : (b : Bool) (c : Cube) → added t (cond b (c ∷ []) []) ≡ cond b (hit t c) 0
-  added-last true c = sum-suc (λ q. hit t (getD (c ∷ []) q (cube 0 0 0))) 0 ∙ omega (arith, sum-zero (λ q. hit t (getD (c ∷ []) q (cube 0 0 0))))
+  added-last true c =
+      sum-suc (λ q. hit t (getD (c ∷ []) q (cube 0 0 0))) 0 ∙ omega (arith, sum-zero (λ q. hit t (getD (c ∷ []) q (cube 0 0 0))))
   added-last false c = sum-zero (λ q. hit t (getD [] q (cube 0 0 0)))
 
   conds : (a b e : Bool) (w d : ℕ) → cond (a && b) (cond e (w * d) 0) 0 ≡ cond a (cond b (cond e w 0) 0 * d) 0
@@ -181,7 +188,8 @@ module _ (n : ℕ) (rs : List Row) (t : ℕ) where
       ∙ ap₂ _+_ (row-added s i j hi (omega arith))
       (added-last (listed rs i j) (cubeAt n rs i j)
       ∙ conds (leb i j) (eqb (rowAt rs i .word) (rowAt rs j .word))
-      (eqb (bitAnd t (fixedBoth (rowAt rs i) (rowAt rs j))) (demanded (rowAt rs i) (rowAt rs j))) (2 ^ freeBoth n (rowAt rs i) (rowAt rs j)) (cond (eqb i j) 1 2)
+      (eqb (bitAnd t (fixedBoth (rowAt rs i) (rowAt rs j))) (demanded (rowAt rs i) (rowAt rs j)))
+      (2 ^ freeBoth n (rowAt rs i) (rowAt rs j)) (cond (eqb i j) 1 2)
       ∙ ap (λ (x : ℕ). cond (leb i j) (cond (eqb (rowAt rs i .word) (rowAt rs j .word)) x 0 * cond (eqb i j) 1 2) 0)
       (sym (pair-closed n (rowAt rs i) (rowAt rs j) t (s i hi) (s j (omega arith)))))
       ∙ sym (sum-suc (portion i) j)
@@ -201,7 +209,10 @@ module _ (n : ℕ) (rs : List Row) (t : ℕ) where
       shift-pairs n rs t d h
       ∙ sum-square (pairAt n rs t) (length rs) turn
       ∙ sym (below-added (d .sound) (length rs) (omega arith))
-      ∙ ap (added t) (sym (ap (λ l. cubesBelow n rs (length rs) ++ l) (row-cubes-none n rs (length rs) (length rs) (omega arith)) ∙ append-nil (cubesBelow n rs (length rs))))
+      ∙ ap (added t)
+      (sym
+      (ap (λ l. cubesBelow n rs (length rs) ++ l) (row-cubes-none n rs (length rs) (length rs) (omega arith))
+      ∙ append-nil (cubesBelow n rs (length rs))))
     where
       turn : (i j : ℕ) → i < length rs → j < length rs → pairAt n rs t i j ≡ pairAt n rs t j i
       turn i j hi hj =
@@ -210,7 +221,12 @@ module _ (n : ℕ) (rs : List Row) (t : ℕ) where
 
 -- the same sum over cubes whose parts lie at the front of three lists
 pub added-stored : (t : ℕ) (cs : List Cube) (masks values weights : List ℕ)
-    → sum (λ q. hit t (cube (at (over (map (λ c. c .mask) cs) masks) q) (at (over (map (λ c. c .value) cs) values) q) (at (over (map (λ c. c .weight) cs) weights) q))) (length cs)
+    → sum
+    (λ q.
+    hit t
+    (cube (at (over (map (λ c. c .mask) cs) masks) q) (at (over (map (λ c. c .value) cs) values) q)
+    (at (over (map (λ c. c .weight) cs) weights) q)))
+    (length cs)
     ≡ added t cs
 added-stored t cs masks values weights =
     sum-cong _ _ (length cs)

@@ -87,7 +87,8 @@ module _ (n : ℕ) (rs : List Row) (t : ℕ) (d : Disjoint n rs) (ht : t < 2 ^ n
   term-right x i j h = rw (h, and-false) (zero-mul _)
 
   -- x lies under row i and so under no other
-  other : (i j x : ℕ) → x < 2 ^ n → i < length rs → j < length rs → under (rowAt rs i) x ≡ true → (j ≡ i → ⊥) → under (rowAt rs j) x ≡ false
+  other : (i j x : ℕ) → x < 2 ^ n → i < length rs → j < length rs → under (rowAt rs i) x ≡ true → (j ≡ i → ⊥)
+      → under (rowAt rs j) x ≡ false
   other i j x hx hi hj e ne = go (under (rowAt rs j) x) refl
     where
       go : (b : Bool) → under (rowAt rs j) x ≡ b → under (rowAt rs j) x ≡ false
@@ -135,7 +136,8 @@ module _ (n : ℕ) (rs : List Row) (t : ℕ) (d : Disjoint n rs) (ht : t < 2 ^ n
       ∙ sum-cong _ _ (length rs)
       (λ j hj.
       sum-mul (λ x. one (meets (rowAt rs i) (rowAt rs j) t x)) (one (eqb (rowAt rs i .word) (rowAt rs j .word))) (2 ^ n)
-      ∙ ap (λ (y : ℕ). y * one (eqb (rowAt rs i .word) (rowAt rs j .word))) (pair-count n (rowAt rs i) (rowAt rs j) t (d .sound i hi) (d .sound j hj) ht)
+      ∙ ap (λ (y : ℕ). y * one (eqb (rowAt rs i .word) (rowAt rs j .word)))
+      (pair-count n (rowAt rs i) (rowAt rs j) t (d .sound i hi) (d .sound j hj) ht)
       ∙ times-cond (eqb (rowAt rs i .word) (rowAt rs j .word)) (pair n (rowAt rs i) (rowAt rs j) t)))
 
 -- R is never more than the number of points, whatever the block

@@ -78,7 +78,11 @@ pub over-push {ℓ} : {A B : Type ℓ} (f : A → B) (s : List A) (x : A) (l : L
     → set (over (map f s) l) (length s) (f x) ≡ over (map f (s ++ (x ∷ []))) l
 over-push f s x l h =
     rw (map-push f s x, length-append (map f s) (f x ∷ []), length-map s f, add-one)
-    (rw (drop-cons l (length s) (f x), set-at (map f s) (getD l (length s) (f x)) (drop (suc (length s)) l) (f x) (length s) (length-map s f), append-assoc))
+    (rw (
+      drop-cons l (length s) (f x),
+      set-at (map f s) (getD l (length s) (f x)) (drop (suc (length s)) l) (f x) (length s) (length-map s f),
+      append-assoc,
+    ))
 
 -- that part of the entry at i
 pub over-map-at {ℓ} : {A B : Type ℓ} (f : A → B) (s : List A) (l : List B) (d : A) (i : ℕ) → i < length s

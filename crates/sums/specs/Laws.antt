@@ -178,7 +178,8 @@ pub sum-square : (f : ℕ → ℕ → ℕ) (m : ℕ) → ((i j : ℕ) → i < m 
 sum-square f m turn =
     sum-cong _ _ m (λ i hi. sum-cong _ _ m (λ j hj. whole i j))
     ∙ square-add upper (λ i j. lower i j + middle i j) m
-    ∙ ap (λ (x : ℕ). sum (λ i. sum (upper i) m) m + x) (square-add lower middle m ∙ ap (λ (x : ℕ). x + sum (λ i. sum (middle i) m) m) turned ∙ sym (square-add upper middle m))
+    ∙ ap (λ (x : ℕ). sum (λ i. sum (upper i) m) m + x)
+    (square-add lower middle m ∙ ap (λ (x : ℕ). x + sum (λ i. sum (middle i) m) m) turned ∙ sym (square-add upper middle m))
     ∙ sym (square-add upper (λ i j. upper i j + middle i j) m)
     ∙ sum-cong _ _ m (λ i hi. sum-cong _ _ m (λ j hj. sym (halved i j)))
   where
@@ -208,7 +209,10 @@ sum-square f m turn =
         go (no n) (no k) = rw (le-ltb i j (omega arith), lt-leb i j (omega arith), ne-eqb i j k) (omega arith)
 
     turned : sum (λ i. sum (lower i) m) m ≡ sum (λ i. sum (upper i) m) m
-    turned = sum-swap lower m m ∙ sum-cong _ _ m (λ j hj. sum-cong _ _ m (λ i hi. ap (λ (x : ℕ). cond (ltb j i) x 0) (turn i j hi hj)))
+    turned =
+        sum-swap lower m m
+        ∙ sum-cong _ _ m
+        (λ j hj. sum-cong _ _ m (λ i hi. ap (λ (x : ℕ). cond (ltb j i) x 0) (turn i j hi hj)))
 
 -- more numbers pass no fewer
 pub count-mono : (p : ℕ → Bool) (a b : ℕ) → a ≤ b → count p a ≤ count p b
