@@ -219,7 +219,7 @@ pub count-mono : (p : ℕ → Bool) (a b : ℕ) → a ≤ b → count p a ≤ co
 unfolding count
 count-mono p a b h = sum-mono (λ x. one (p x)) a b h
 
--- no two numbers pass exactly where the count is at most 1
+-- where no two numbers pass, the count is at most 1
 pub count-once : (p : ℕ → Bool) (m : ℕ) → ((i j : ℕ) → i < m → j < m → p i ≡ true → p j ≡ true → i ≡ j) → count p m ≤ 1
 unfolding count sum
 count-once p zero h = omega arith
@@ -236,6 +236,7 @@ count-once p (suc m) h = go (p m) refl (count-once p m (λ i j a b. h i j (omega
     go true e ih = omega (arith, sum-none (λ x. one (p x)) m (alone e))
     go false e ih = omega arith
 
+-- and the other way round
 pub count-same : (p : ℕ → Bool) (m : ℕ) → count p m ≤ 1 → (i j : ℕ) → i < m → j < m → p i ≡ true → p j ≡ true → i ≡ j
 count-same p m h i j hi hj a b = go (decLt i j) (decLt j i)
   where
