@@ -100,3 +100,26 @@ times-xor u (suc zero) (suc zero) hp hq = rw (mul-zero, mul-one) (sym (xor-self 
 times-xor u zero (suc (suc q)) hp hq = absurd (omega arith)
 times-xor u (suc zero) (suc (suc q)) hp hq = absurd (omega arith)
 times-xor u (suc (suc p)) q hp hq = absurd (omega arith)
+
+-- the two sides of an equation may be exchanged
+pub eqb-turn : (a b : ℕ) → eqb a b ≡ eqb b a
+eqb-turn a b = go (ℕ-discrete a b)
+  where
+    go : Dec (a ≡ b) → eqb a b ≡ eqb b a
+    go (yes e) = rw (eq-eqb a b e, eq-eqb b a (sym e))
+    go (no n) = rw (ne-eqb a b n, ne-eqb b a (λ e. n (sym e)))
+
+-- a function that keeps numbers apart keeps an equation's truth
+pub eqb-inj : (f : ℕ → ℕ) (a b : ℕ) → (f a ≡ f b → a ≡ b) → eqb (f a) (f b) ≡ eqb a b
+eqb-inj f a b h = go (ℕ-discrete a b)
+  where
+    go : Dec (a ≡ b) → eqb (f a) (f b) ≡ eqb a b
+    go (yes e) = rw (eq-eqb a b e, eq-eqb (f a) (f b) (ap f e))
+    go (no n) = rw (ne-eqb a b n, ne-eqb (f a) (f b) (λ e. n (h e)))
+
+-- AND with the same number again changes nothing
+pub and-again : (a b : ℕ) → bitAnd a (bitAnd a b) ≡ bitAnd a b
+and-again a b =
+    bin-ind (λ (n : ℕ). (b : ℕ) → bitAnd n (bitAnd n b) ≡ bitAnd n b) (λ b. refl)
+    (λ n ih b. dig-ext _ _ (simp and-half (ih (b / 2))) (simp and-odd (omega arith)))
+    a b

@@ -1,11 +1,11 @@
 -- Laws of listed values, and of a lent list that a loop overwrites from the front. Assumes nothing.
 use mathlib.Core.Path.{_≡_, refl, sym, ap, ap₂, _∙_}
-use mathlib.Core.List.{List, [], _∷_, _++_, append-assoc}
+use mathlib.Core.List.{List, [], _∷_, _++_, append-assoc, map}
 use Prim.Native.Nat.{ℕ, zero, suc, _+_, _-_, _≤_, _<_}
 use native.Mathlib.Decide.{decLt}
 use native.Mathlib.Numerals.{add-one}
 use native.Mathlib.Omega.{arith}
-use lib.ListN.{length, getD, drop, set, length-append, length-drop, List·getD-append}
+use lib.ListN.{length, getD, drop, set, length-append, length-drop, List·getD-append, length-map, List·getD-map}
 use lib.Seq.{set-at, drop-cons, drop-at, ext-getD, getD-append-add, getD-drop}
 use Rattle.slices.specs.Places.{tab, at, over}
 
@@ -91,3 +91,30 @@ over-is m f l k d h e low high = ext-getD d k (over (tab m f) l) (e ∙ sym (len
     go : (i : ℕ) → Dec (i < m) → getD k i d ≡ getD (over (tab m f) l) i d
     go i (yes b) = low i b ∙ sym (over-at m f l d i b)
     go i (no b) = high i (omega arith) ∙ sym (over-beyond m f l d i (omega arith))
+
+map-push {ℓ} : {A B : Type ℓ} (f : A → B) (s : List A) (x : A) → map f (s ++ (x ∷ [])) ≡ map f s ++ (f x ∷ [])
+map-push f [] x = refl
+map-push f (a ∷ s) x = ap (λ l. f a ∷ l) (map-push f s x)
+
+-- a list grows at its end while one part of each entry is stored
+pub over-push {ℓ} : {A B : Type ℓ} (f : A → B) (s : List A) (x : A) (l : List B) → length s < length l
+    → set (over (map f s) l) (length s) (f x) ≡ over (map f (s ++ (x ∷ []))) l
+over-push f s x l h =
+    rw (map-push f s x, length-append (map f s) (f x ∷ []), length-map s f, add-one)
+    (rw (
+      drop-cons l (length s) (f x),
+      set-at (map f s) (getD l (length s) (f x)) (drop (suc (length s)) l) (f x) (length s) (length-map s f),
+      append-assoc,
+    ))
+
+-- that part of the entry at i
+pub over-map-at {ℓ} : {A B : Type ℓ} (f : A → B) (s : List A) (l : List B) (d : A) (i : ℕ) → i < length s
+    → getD (over (map f s) l) i (f d) ≡ f (getD s i d)
+over-map-at f s l d i h =
+    List·getD-append (map f s) (drop (length (map f s)) l) (f d) i (rw (length-map s f) h) ∙ List·getD-map f s i d
+
+-- as long as before
+pub length-over-map {ℓ} : {A B : Type ℓ} (f : A → B) (s : List A) (l : List B) → length s ≤ length l
+    → length (over (map f s) l) ≡ length l
+length-over-map f s l h =
+    length-append (map f s) (drop (length (map f s)) l) ∙ rw (length-map s f, length-drop (length s) l) (omega arith)

@@ -1,14 +1,17 @@
 -- Laws of sums and counts over a range: one term more; equal terms; bounds; sums of sums; even and odd places; one place alone;
--- places that are only moved; what a count of 0, or another, says. Assumes nothing.
+-- places that are only moved; what a count of 0, or another, says; the entries of a list; a square of terms. Assumes nothing.
 use mathlib.Core.Path.{_≡_, refl, sym, ap, ap₂, _∙_, subst}
-use mathlib.Core.Bool.{Bool, true, false, _&&_}
-use Prim.Native.Nat.{ℕ, zero, suc, _+_, _*_, _^_, _≤_, _<_}
-use native.Mathlib.Decide.{decLt}
-use native.Mathlib.Nat.{mul-zero, mul-one, zero-mul}
+use mathlib.Core.Bool.{Bool, true, false, _&&_, cond}
+use Prim.Native.Nat.{ℕ, zero, suc, _+_, _*_, _^_, _≤_, _<_, _-_}
+use native.Mathlib.Decide.{decLt, ℕ-discrete}
+use native.Mathlib.Nat.{mul-zero, mul-one, zero-mul, add-zero, add-suc}
+use mathlib.Core.List.{List, _++_}
 use native.Mathlib.Numerals.{add-one}
 use native.Mathlib.Omega.{arith}
-use borrow.Author.Tests.{eq-eqb, ne-eqb}
-use lib.Dec.{eqb}
+use borrow.Author.Tests.{eq-eqb, ne-eqb, lt-ltb, le-ltb, le-leb, lt-leb}
+use lib.Dec.{eqb, ltb, leb}
+use lib.ListN.{length, getD, length-append, List·getD-append}
+use lib.Seq.{getD-append-add}
 use Rattle.sums.specs.Sums.{sum, one, count}
 
 pub sum-zero : (f : ℕ → ℕ) → sum f 0 ≡ 0
@@ -153,3 +156,117 @@ below-suc P k f p i h = go (decLt i k)
       where
         last : ¬ (i < k) → k ≡ i
         last n = omega arith
+
+-- the first a terms, and the b behind them
+pub sum-split : (f : ℕ → ℕ) (a b : ℕ) → sum f (a + b) ≡ sum f a + sum (λ i. f (a + i)) b
+unfolding sum
+sum-split f a zero = rw (add-zero a) (omega arith)
+sum-split f a (suc b) = rw (add-suc a b) (omega (arith, sum-split f a b))
+
+-- more terms add no less
+pub sum-mono : (f : ℕ → ℕ) (a b : ℕ) → a ≤ b → sum f a ≤ sum f b
+sum-mono f a b h = omega (arith, sum-split f a (b - a), ap (sum f) whole)
+  where
+    whole : a + (b - a) ≡ b
+    whole = omega arith
+
+-- a sum over the entries of a list, by its parts
+pub sum-append {ℓ} : {A : Type ℓ} (f : A → ℕ) (d : A) (s t : List A)
+    → sum (λ i. f (getD (s ++ t) i d)) (length (s ++ t)) ≡ sum (λ i. f (getD s i d)) (length s) + sum (λ i. f (getD t i d)) (length t)
+sum-append f d s t =
+    ap (sum (λ i. f (getD (s ++ t) i d))) (length-append s t)
+    ∙ sum-split (λ i. f (getD (s ++ t) i d)) (length s) (length t)
+    ∙ ap₂ _+_ (sum-cong _ _ (length s) (λ i h. ap f (List·getD-append s t d i h)))
+    (sum-cong _ _ (length t) (λ i h. ap f (getD-append-add s t i d)))
+
+square-add : (g h : ℕ → ℕ → ℕ) (m : ℕ)
+    → sum (λ i. sum (λ j. g i j + h i j) m) m ≡ sum (λ i. sum (g i) m) m + sum (λ i. sum (h i) m) m
+square-add g h m = sum-cong _ _ m (λ i l. sum-add (g i) (h i) m) ∙ sum-add (λ i. sum (g i) m) (λ i. sum (h i) m) m
+
+-- a square of terms that are the same both ways: those from the diagonal on, doubled off it
+pub sum-square : (f : ℕ → ℕ → ℕ) (m : ℕ) → ((i j : ℕ) → i < m → j < m → f i j ≡ f j i)
+    → sum (λ i. sum (f i) m) m ≡ sum (λ i. sum (λ j. cond (leb i j) (f i j * cond (eqb i j) 1 2) 0) m) m
+sum-square f m turn =
+    sum-cong _ _ m (λ i hi. sum-cong _ _ m (λ j hj. whole i j))
+    ∙ square-add upper (λ i j. lower i j + middle i j) m
+    ∙ ap (λ (x : ℕ). sum (λ i. sum (upper i) m) m + x)
+    (square-add lower middle m ∙ ap (λ (x : ℕ). x + sum (λ i. sum (middle i) m) m) turned ∙ sym (square-add upper middle m))
+    ∙ sym (square-add upper (λ i j. upper i j + middle i j) m)
+    ∙ sum-cong _ _ m (λ i hi. sum-cong _ _ m (λ j hj. sym (halved i j)))
+  where
+    upper : ℕ → ℕ → ℕ
+    upper i j = cond (ltb i j) (f i j) 0
+
+    lower : ℕ → ℕ → ℕ
+    lower i j = cond (ltb j i) (f i j) 0
+
+    middle : ℕ → ℕ → ℕ
+    middle i j = cond (eqb i j) (f i j) 0
+
+    whole : (i j : ℕ) → f i j ≡ upper i j + (lower i j + middle i j)
+    whole i j = go (decLt i j) (ℕ-discrete i j)
+      where
+        go : Dec (i < j) → Dec (i ≡ j) → f i j ≡ upper i j + (lower i j + middle i j)
+        go (yes l) d = rw (lt-ltb i j l, le-ltb j i (omega arith), ne-eqb i j (omega arith)) (omega arith)
+        go (no n) (yes e) = rw (le-ltb i j (omega arith), le-ltb j i (omega arith), eq-eqb i j e) (omega arith)
+        go (no n) (no k) = rw (le-ltb i j (omega arith), lt-ltb j i (omega arith), ne-eqb i j k) (omega arith)
+
+    halved : (i j : ℕ) → cond (leb i j) (f i j * cond (eqb i j) 1 2) 0 ≡ upper i j + (upper i j + middle i j)
+    halved i j = go (decLt i j) (ℕ-discrete i j)
+      where
+        go : Dec (i < j) → Dec (i ≡ j) → cond (leb i j) (f i j * cond (eqb i j) 1 2) 0 ≡ upper i j + (upper i j + middle i j)
+        go (yes l) d = rw (lt-ltb i j l, le-leb i j (omega arith), ne-eqb i j (omega arith)) (omega arith)
+        go (no n) (yes e) = rw (le-ltb i j (omega arith), le-leb i j (omega arith), eq-eqb i j e) (omega arith)
+        go (no n) (no k) = rw (le-ltb i j (omega arith), lt-leb i j (omega arith), ne-eqb i j k) (omega arith)
+
+    turned : sum (λ i. sum (lower i) m) m ≡ sum (λ i. sum (upper i) m) m
+    turned =
+        sum-swap lower m m
+        ∙ sum-cong _ _ m
+        (λ j hj. sum-cong _ _ m (λ i hi. ap (λ (x : ℕ). cond (ltb j i) x 0) (turn i j hi hj)))
+
+-- more numbers pass no fewer
+pub count-mono : (p : ℕ → Bool) (a b : ℕ) → a ≤ b → count p a ≤ count p b
+unfolding count
+count-mono p a b h = sum-mono (λ x. one (p x)) a b h
+
+-- where no two numbers pass, the count is at most 1
+pub count-once : (p : ℕ → Bool) (m : ℕ) → ((i j : ℕ) → i < m → j < m → p i ≡ true → p j ≡ true → i ≡ j) → count p m ≤ 1
+unfolding count sum
+count-once p zero h = omega arith
+count-once p (suc m) h = go (p m) refl (count-once p m (λ i j a b. h i j (omega arith) (omega arith)))
+  where
+    alone : p m ≡ true → (i : ℕ) → i < m → one (p i) ≡ 0
+    alone e i l = at (p i) refl
+      where
+        at : (b : Bool) → p i ≡ b → one b ≡ 0
+        at true d = absurd (omega (arith, h i m (omega arith) (omega arith) d e))
+        at false d = refl
+
+    go : (b : Bool) → p m ≡ b → count p m ≤ 1 → count p m + one b ≤ 1
+    go true e ih = omega (arith, sum-none (λ x. one (p x)) m (alone e))
+    go false e ih = omega arith
+
+-- and the other way round
+pub count-same : (p : ℕ → Bool) (m : ℕ) → count p m ≤ 1 → (i j : ℕ) → i < m → j < m → p i ≡ true → p j ≡ true → i ≡ j
+count-same p m h i j hi hj a b = go (decLt i j) (decLt j i)
+  where
+    two : (i j : ℕ) → i < j → j < m → p i ≡ true → p j ≡ true → 2 ≤ count p m
+    two i j l hj a b =
+        omega (
+          arith,
+          count-mono p (suc i) j l,
+          count-mono p (suc j) m hj,
+          count-more p i,
+          count-more p j,
+          ap one a,
+          ap one b,
+          add-one i,
+          ap (count p) (add-one i),
+          ap (count p) (add-one j),
+        )
+
+    go : Dec (i < j) → Dec (j < i) → i ≡ j
+    go (yes l) d = absurd (omega (arith, two i j l hj a b))
+    go (no n) (yes l) = absurd (omega (arith, two j i l hi b a))
+    go (no n) (no k) = omega arith

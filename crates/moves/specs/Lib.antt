@@ -1,0 +1,5 @@
+-- How rows are transformed: an exchange, a shear, a step, any number of steps.
+pub mod Exchange
+pub mod Shear
+pub mod Step
+pub mod Moved
