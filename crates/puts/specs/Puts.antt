@@ -3,12 +3,12 @@
 use mathlib.Core.Path.{_≡_, refl, sym, ap, _∙_}
 use mathlib.Core.List.{List, [], _∷_, _++_, append-assoc, append-nil}
 use Prim.Native.Nat.{ℕ, zero, suc, _+_, _*_, _≤_, _<_}
-use native.Mathlib.Nat.{add-zero, mul-le-mul-right}
+use native.Mathlib.Nat.{add-zero, zero-add, mul-le-mul-right}
 use native.Mathlib.Numerals.{add-one}
 use native.Mathlib.Omega.{arith}
-use lib.ListN.{length, set, getD, take, length-append}
-use lib.Seq.{sets, set-comm, take-suc, length-take-le}
-use Rattle.slices.specs.Places.{at, tab}
+use lib.ListN.{length, set, getD, take, drop, length-append}
+use lib.Seq.{sets, sets-eq, set-comm, take-suc, length-take-le}
+use Rattle.slices.specs.Places.{at, tab, over}
 use Rattle.slices.specs.Filled.{tab-suc}
 use Rattle.block.specs.Words.{row}
 use Rattle.block.specs.Text.{rowLine, rowLines}
@@ -81,3 +81,8 @@ lines-none n k masks values words = refl
 -- row i of p, each w bytes long, ends within the room for all
 pub row-within : (i p w : ℕ) → i < p → i * w + w ≤ p * w
 row-within i p w h = omega (arith, mul-le-mul-right w h)
+
+-- what is put at the front of a list that is long enough lies over it
+pub put-over : {l₀ t l : List ℕ} {r : ℕ} → length t ≤ length l₀ → Put l₀ 0 t l r → l ≡ over t l₀
+put-over {l₀} {t} {l} {r} h p =
+    p .stored ∙ sets-eq t l₀ 0 (omega arith) ∙ ap (λ (i : ℕ). t ++ drop i l₀) (zero-add (length t))
