@@ -1,0 +1,4 @@
+-- Text put into a lent list: `Puts` has the contract and the law that joins two puts; `Digits` the laws of bits, symbols and
+-- decimal digits, by which they are put from the right.
+pub mod Puts
+pub mod Digits

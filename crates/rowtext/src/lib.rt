@@ -1,0 +1,90 @@
+// What writing row text is made of: the checks in their order, and the text, put into a lent slice line by line. All functions here
+// are inner: the operation is `write_text` of the crate writing.
+use block::Answer;
+ghost use mathlib.Core.Path.{_≡_};
+ghost use mathlib.Core.List.{_++_};
+ghost use Prim.Native.Nat.{_+_, _≤_, _<_};
+ghost use lib.ListN.{length};
+ghost use Rattle.block.specs.Words.{rowsOf};
+ghost use Rattle.block.specs.Refusals.{answer};
+ghost use Rattle.block.specs.Text.{headLine, textOf, writeVerdict};
+ghost use Rattle.puts.specs.Puts.{Put};
+
+// An answer with its number and its second place.
+pub fn answer_of(number: u32, b: usize) -> Answer
+    ensures { λ r. ⌜ r ≡ answer number 0 b ⌝ }
+{
+    Answer { number, a: 0, b }
+}
+
+// The checks of writing: 1, 2, 4, 5 and 6.
+pub fn write_checks(
+    n: usize,
+    k: usize,
+    masks: &[u32],
+    values: &[u32],
+    words: &[u32],
+    room: usize,
+) -> Answer
+    ensures { λ r. ⌜ r ≡ writeVerdict n k (rowsOf (now (masks .entry)) (now (values .entry)) (now (words .entry))) room ⌝ }
+{
+    if listing::is_outside(1, 16, n) {
+        return answer_of(1, 0);
+    }
+    if listing::is_outside(1, 15, k) {
+        return answer_of(2, 0);
+    }
+    let count = listing::row_count(masks, values, words);
+    if listing::is_outside(1, 128, count) {
+        return answer_of(4, 0);
+    }
+    if room < 4246 {
+        return answer_of(5, 0);
+    }
+    let bad = listing::first_bad_row(n, k, masks, values, words);
+    if bad < count {
+        return answer_of(6, bad);
+    }
+    answer_of(0, 0)
+}
+
+// Puts a heading: a dot, its letter, a space, the number and LF.
+pub fn put_heading(out: &mut [u8], at: usize, letter: u8, v: usize) -> usize
+    requires { ⌜ at + 24 ≤ length (now out) ⌝ }
+    ensures { λ r. ⌜ Put (now (out .entry)) at (headLine letter v) (now (out .exit)) r ⌝ }
+    ensures { λ r. ⌜ r ≤ at + 24 ⌝ }
+{
+    let a = puts::put_byte(out, at, 46);
+    let b = puts::put_byte(out, a, letter);
+    let c = puts::put_byte(out, b, 32);
+    let d = puts::put_decimal(out, c, v);
+    puts::put_byte(out, d, 10)
+}
+
+// Puts the three headings at the front.
+pub fn put_headings(out: &mut [u8], n: usize, k: usize, count: usize) -> usize
+    requires { ⌜ 72 ≤ length (now out) ⌝ }
+    ensures { λ r. ⌜ Put (now (out .entry)) 0 (headLine 105 n ++ headLine 111 k ++ headLine 112 count) (now (out .exit)) r ⌝ }
+{
+    let a = put_heading(out, 0, 105, n);
+    let b = put_heading(out, a, 111, k);
+    put_heading(out, b, 112, count)
+}
+
+// Puts the text of a list at the front.
+pub fn put_text(
+    out: &mut [u8],
+    n: usize,
+    k: usize,
+    masks: &[u32],
+    values: &[u32],
+    words: &[u32],
+) -> usize
+    requires { ⌜ (n ≤ 16) × (k ≤ 15) × (length (now masks) ≤ 128) × (4246 ≤ length (now out)) ⌝ }
+    requires { ⌜ (length (now values) ≡ length (now masks)) × (length (now words) ≡ length (now masks)) ⌝ }
+    ensures { λ r. ⌜ Put (now (out .entry)) 0 (textOf n k (rowsOf (now (masks .entry)) (now (values .entry)) (now (words .entry)))) (now (out .exit)) r ⌝ }
+{
+    let a = put_headings(out, n, k, masks.len());
+    let b = puts::put_rows(out, a, n, k, masks.len(), masks, values, words);
+    puts::put_bytes(out, b, b".e\n")
+}
