@@ -17,7 +17,7 @@ use Rattle.matrix.specs.Reach.{reachRows}
 use Rattle.matrix.specs.Candidate.{basis-independent}
 use Rattle.matrix.specs.Inverse.{sigma-tab}
 use Rattle.matrix.specs.Smaller.{measure-smaller}
-use Rattle.smaller_tables.specs.declared.Measures.{Measures}
+use Rattle.choosing.specs.declared.Measures.{Measures}
 
 -- of a block f: T, sigma and the smaller table lie at the front of what was lent, and both measures come back
 pub record Worked (f : ℕ → ℕ) (n w : ℕ) (t s z t′ s′ z′ : List ℕ) (r : Measures) : Type 0 where
