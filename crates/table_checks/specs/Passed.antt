@@ -9,7 +9,8 @@ use lib.Dec.{eqb, ltb}
 use lib.ListN.{length}
 use Rattle.slices.specs.Places.{at, first}
 use Rattle.slices.specs.Least.{first-found}
-use Rattle.block.specs.Refusals.{Check, verdict, answered, badNumber}
+use Rattle.block.specs.Limits.{tableInputs, outputs}
+use Rattle.block.specs.Refusals.{Check, verdict, answered, outside, badEntry, badNumber}
 use Rattle.block.specs.Tables.{tableValueVerdict, tableMethodVerdict}
 use Rattle.block.specs.declared.Answer.{Answer}
 use Rattle.checks.specs.Sizes.{inside, or-left, or-right}
@@ -72,6 +73,24 @@ method-passed n k w table roomT roomSigma roomTable v e h =
       rows = ltb-false roomSigma n (or-left (ltb roomSigma n) (ltb roomTable (2 ^ n)) rest);
       smaller = ltb-false roomTable (2 ^ n) (or-right (ltb roomSigma n) (ltb roomTable (2 ^ n)) rest);
     }
+
+-- n and k were in their ranges
+pub method-sizes : (n k w : ℕ) (table : List ℕ) (roomT roomSigma roomTable : ℕ) (v : Answer)
+    → v ≡ tableMethodVerdict n k w table roomT roomSigma roomTable → v .number ≡ 0
+    → (outside 1 tableInputs n ≡ false) × (outside 1 outputs k ≡ false)
+unfolding tableMethodVerdict
+method-sizes n k w table roomT roomSigma roomTable v e h =
+    let c = clear _ v (refl, (refl, (refl, (refl, (refl, (refl, tt)))))) e h in
+    (c 0 (omega arith), c 1 (omega arith))
+
+-- no entry was malformed
+pub method-entries : (n k w : ℕ) (table : List ℕ) (roomT roomSigma roomTable : ℕ) (v : Answer)
+    → v ≡ tableMethodVerdict n k w table roomT roomSigma roomTable → v .number ≡ 0
+    → (i : ℕ) → i < length table → badEntry k (at table i) ≡ false
+unfolding tableMethodVerdict
+method-entries n k w table roomT roomSigma roomTable v e h =
+    let c = clear _ v (refl, (refl, (refl, (refl, (refl, (refl, tt)))))) e h in
+    none-bad (badEntry k) table (c 5 (omega arith))
 
 pub record RestorePassed (n : ℕ) (sigma table : List ℕ) (room : ℕ) : Type 0 where
   pub inputs : n ≤ 12
