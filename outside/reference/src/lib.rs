@@ -8,7 +8,8 @@
 //! operations on full tables and on rows, [`text`] and [`sheet`] the texts.
 //! These are written to be read beside 01 and take the long way wherever that
 //! is the plain one. [`fast`] has the same operations as one would write them
-//! for speed, and [`inputs`] makes inputs from a seed.
+//! for speed, [`operations`] both under one trait, and [`inputs`] makes inputs
+//! from a seed.
 //!
 //! Not here: anything of the proved product. The two share nothing but 01.
 
@@ -18,17 +19,24 @@ pub mod fast;
 pub mod inputs;
 pub mod list;
 pub mod matrix;
+pub mod operations;
 pub mod rows;
 pub mod sheet;
 pub mod table;
 pub mod text;
 
 pub use answer::{Answer, Measures, Refusal, Smaller, TextHead};
-pub use list::{fill, row_method, row_value};
+pub use operations::{Fast, Operations, Plain};
+pub use plain::*;
 pub use rows::{Flat, FlatRoom, List, Room, Row};
-pub use sheet::{program, sheet};
-pub use table::{restore, table_method, table_value};
-pub use text::{read_text, write_text};
+
+/// The operations that are written to be read beside 01.
+mod plain {
+    pub use crate::list::{fill, row_method, row_value};
+    pub use crate::sheet::{program, sheet};
+    pub use crate::table::{restore, table_method, table_value};
+    pub use crate::text::{read_text, write_text};
+}
 
 /// The table entry that stands for no output (01, Words and numbers).
 pub const NO_OUTPUT: u16 = 65_535;

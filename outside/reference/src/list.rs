@@ -156,7 +156,7 @@ fn transformed(rows: &[Row], columns: &[u32]) -> Result<Vec<Row>, Refusal> {
 
 /// One step: exchange two positions, then add v where the bit at the first of
 /// them is 1.
-struct Step {
+pub(crate) struct Step {
     /// Position i-1 at step i.
     position: usize,
     /// The position it is exchanged with; the same where nothing is exchanged.
@@ -167,7 +167,7 @@ struct Step {
 
 impl Step {
     /// The step at this position for a chosen number in the coordinates reached.
-    fn new(position: usize, number: u32) -> Step {
+    pub(crate) fn new(position: usize, number: u32) -> Step {
         let partner = if number >> position & 1 == 1 {
             position
         } else {
@@ -192,7 +192,7 @@ impl Step {
     }
 
     /// A row after the step: one row, or its 0 half and then its 1 half.
-    fn row(&self, row: Row) -> Vec<Row> {
+    pub(crate) fn row(&self, row: Row) -> Vec<Row> {
         let bit = 1 << self.position;
         let row = Row {
             mask: exchange(row.mask, self.position, self.partner),

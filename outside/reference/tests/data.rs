@@ -3,7 +3,8 @@
 //! prints. Lent storage is looked at in full: what an answer does not write
 //! holds what it held.
 
-use reference::{fast, Answer, Flat, FlatRoom, Measures, Row, Smaller};
+use reference::inputs::LentRows;
+use reference::{Fast, Operations, Plain, Row};
 use std::fmt::{Debug, Display};
 use std::fs;
 use std::path::PathBuf;
@@ -67,82 +68,28 @@ fn written<T: PartialEq + Debug>(lent: &[T], count: usize, held: T) -> &[T] {
     written
 }
 
-/// The operations, naive or fast.
-struct Operations {
-    table_value: fn(usize, usize, usize, &[u16]) -> Answer<u64>,
-    table_method: TableMethod,
-    restore: fn(usize, usize, &[u32], &[u16], &mut [u16]) -> Answer<()>,
-    row_value: fn(usize, usize, usize, &[Row]) -> Answer<u64>,
-    row_value_flat: fn(usize, usize, usize, Flat) -> Answer<u64>,
-    row_method: RowMethod,
-    row_method_flat: RowMethodFlat,
-    fill: fn(usize, usize, &[Row], &mut [u16]) -> Answer<()>,
-    fill_flat: fn(usize, usize, Flat, &mut [u16]) -> Answer<()>,
-    program: fn(&[u8]) -> Vec<u8>,
-}
-
-type TableMethod =
-    fn(usize, usize, usize, &[u16], &mut [u16], &mut [u32], &mut [u32]) -> Answer<Measures>;
-
-type RowMethod =
-    fn(usize, usize, usize, &[Row], &mut [Row], &mut [u32], &mut [u32]) -> Answer<Smaller>;
-
-type RowMethodFlat =
-    fn(usize, usize, usize, Flat, FlatRoom, &mut [u32], &mut [u32]) -> Answer<Smaller>;
-
-const PLAIN: Operations = Operations {
-    table_value: reference::table_value,
-    table_method: reference::table_method,
-    restore: reference::restore,
-    row_value: |n, k, t, rows| reference::row_value(n, k, t, rows),
-    row_value_flat: |n, k, t, rows| reference::row_value(n, k, t, rows),
-    row_method: |n, k, w, rows, room, t, s| reference::row_method(n, k, w, rows, room, t, s),
-    row_method_flat: |n, k, w, rows, room, t, s| reference::row_method(n, k, w, rows, room, t, s),
-    fill: |n, k, rows, table| reference::fill(n, k, rows, table),
-    fill_flat: |n, k, rows, table| reference::fill(n, k, rows, table),
-    program: reference::program,
-};
-
-const FAST: Operations = Operations {
-    table_value: fast::table_value,
-    table_method: fast::table_method,
-    restore: fast::restore,
-    row_value: |n, k, t, rows| fast::row_value(n, k, t, rows),
-    row_value_flat: |n, k, t, rows| fast::row_value(n, k, t, rows),
-    row_method: |n, k, w, rows, room, t, s| fast::row_method(n, k, w, rows, room, t, s),
-    row_method_flat: |n, k, w, rows, room, t, s| fast::row_method(n, k, w, rows, room, t, s),
-    fill: |n, k, rows, table| fast::fill(n, k, rows, table),
-    fill_flat: |n, k, rows, table| fast::fill(n, k, rows, table),
-    program: fast::program,
-};
-
 /// The answer to the operation on a line, in the line's form.
-fn answer(operations: &Operations, line: &str) -> String {
+fn answer<O: Operations>(line: &str) -> String {
     let words: Vec<&str> = line.split(' ').collect();
     let [n, k] = [parse(words[1]), parse(words[2])];
     match words[0] {
         "table_value" => {
-            let got = (operations.table_value)(n, k, parse(words[3]), &numbers(words[4]));
+            let got = O::table_value(n, k, parse(words[3]), &numbers(words[4]));
             format!("{} {} {} {}", got.number, got.a, got.b, got.results)
         }
         "row_value" => {
             let list = rows(words[4]);
             let t = parse(words[3]);
-            let got = (operations.row_value)(n, k, t, &list);
-            let [masks, values, words] = parts(&list);
-            let flat = Flat {
-                masks: &masks,
-                values: &values,
-                words: &words,
-            };
-            assert_eq!(got, (operations.row_value_flat)(n, k, t, flat));
+            let got = O::row_value_records(n, k, t, &list);
+            let flat = LentRows::new(&list);
+            assert_eq!(got, O::row_value(n, k, t, flat.list()));
             format!("{} {} {} {}", got.number, got.a, got.b, got.results)
         }
         "table_method" => {
             let mut smaller = vec![HELD_ENTRY; parse(words[4])];
             let mut columns = vec![HELD; parse(words[5])];
             let mut sigma = vec![HELD; parse(words[6])];
-            let got = (operations.table_method)(
+            let got = O::table_method(
                 n,
                 k,
                 parse(words[3]),
@@ -164,19 +111,14 @@ fn answer(operations: &Operations, line: &str) -> String {
                 joined(written(&smaller, size, HELD_ENTRY)),
             )
         }
-        "row_method" => row_method_answer(operations, n, k, &words),
+        "row_method" => row_method_answer::<O>(n, k, &words),
         "fill" => {
             let list = rows(words[4]);
             let mut table = vec![HELD_ENTRY; parse(words[3])];
             let mut same = table.clone();
-            let got = (operations.fill)(n, k, &list, &mut table);
-            let [masks, values, words] = parts(&list);
-            let flat = Flat {
-                masks: &masks,
-                values: &values,
-                words: &words,
-            };
-            assert_eq!(got, (operations.fill_flat)(n, k, flat, &mut same));
+            let got = O::fill_records(n, k, &list, &mut table);
+            let flat = LentRows::new(&list);
+            assert_eq!(got, O::fill(n, k, flat.list(), &mut same));
             assert_eq!(table, same);
             let size = if got.number == 0 { 1 << n } else { 0 };
             let entries = joined(written(&table, size, HELD_ENTRY));
@@ -185,7 +127,7 @@ fn answer(operations: &Operations, line: &str) -> String {
         "restore" => {
             let mut table = vec![HELD_ENTRY; parse(words[3])];
             let [sigma, smaller] = [words[4], words[5]];
-            let got = (operations.restore)(n, k, &numbers(sigma), &numbers(smaller), &mut table);
+            let got = O::restore(n, k, &numbers(sigma), &numbers(smaller), &mut table);
             let size = if got.number == 0 { 1 << n } else { 0 };
             let entries = joined(written(&table, size, HELD_ENTRY));
             format!("{} {} {} {entries}", got.number, got.a, got.b)
@@ -195,7 +137,7 @@ fn answer(operations: &Operations, line: &str) -> String {
 }
 
 /// The row method on records and on flat slices, which must agree.
-fn row_method_answer(operations: &Operations, n: usize, k: usize, words: &[&str]) -> String {
+fn row_method_answer<O: Operations>(n: usize, k: usize, words: &[&str]) -> String {
     let held = Row {
         mask: HELD,
         values: HELD,
@@ -206,27 +148,25 @@ fn row_method_answer(operations: &Operations, n: usize, k: usize, words: &[&str]
     let mut smaller = vec![held; parse(words[4])];
     let mut columns = vec![HELD; parse(words[5])];
     let mut sigma = vec![HELD; parse(words[6])];
-    let [mut same_masks, mut same_values, mut same_words] = parts(&smaller);
+    let mut same_smaller = LentRows::new(&smaller);
     let mut same_columns = columns.clone();
     let mut same_sigma = sigma.clone();
 
-    let got = (operations.row_method)(n, k, w, &list, &mut smaller, &mut columns, &mut sigma);
+    let got = O::row_method_records(n, k, w, &list, &mut smaller, &mut columns, &mut sigma);
 
-    let [masks, values, words] = parts(&list);
-    let flat = Flat {
-        masks: &masks,
-        values: &values,
-        words: &words,
-    };
-    let room = FlatRoom {
-        masks: &mut same_masks,
-        values: &mut same_values,
-        words: &mut same_words,
-    };
-    let same =
-        (operations.row_method_flat)(n, k, w, flat, room, &mut same_columns, &mut same_sigma);
+    let flat = LentRows::new(&list);
+    let room = same_smaller.room();
+    let same = O::row_method(
+        n,
+        k,
+        w,
+        flat.list(),
+        room,
+        &mut same_columns,
+        &mut same_sigma,
+    );
     assert_eq!(got, same);
-    assert_eq!(parts(&smaller), [same_masks, same_values, same_words]);
+    assert_eq!(LentRows::new(&smaller), same_smaller);
     assert_eq!((&columns, &sigma), (&same_columns, &same_sigma));
 
     let n = if got.number == 0 { n } else { 0 };
@@ -244,39 +184,25 @@ fn row_method_answer(operations: &Operations, n: usize, k: usize, words: &[&str]
     )
 }
 
-/// Rows as masks, values and words.
-fn parts(rows: &[Row]) -> [Vec<u32>; 3] {
-    [
-        rows.iter().map(|row| row.mask).collect(),
-        rows.iter().map(|row| row.values).collect(),
-        rows.iter().map(|row| row.word).collect(),
-    ]
-}
-
-fn check_operations(operations: &Operations) {
+fn check_operations<O: Operations>() {
     let cases = fs::read_to_string(data().join("operations.txt")).unwrap();
     let mut count = 0;
     for (index, line) in cases.lines().enumerate() {
         let (given, due) = line.split_once(" => ").unwrap();
-        assert_eq!(
-            answer(operations, given),
-            due,
-            "line {}: {given}",
-            index + 1
-        );
+        assert_eq!(answer::<O>(given), due, "line {}: {given}", index + 1);
         count += 1;
     }
     assert_eq!(count, 300);
 }
 
-fn check_lists(operations: &Operations) {
+fn check_lists<O: Operations>() {
     let mut count = 0;
     for entry in fs::read_dir(data().join("lists")).unwrap() {
         let path = entry.unwrap().path();
         if path.extension().is_some_and(|end| end == "txt") {
             let text = fs::read(&path).unwrap();
             let due = fs::read(path.with_extension("sheet")).unwrap();
-            let printed = (operations.program)(&text);
+            let printed = O::program(&text);
             assert_eq!(
                 String::from_utf8_lossy(&printed),
                 String::from_utf8_lossy(&due),
@@ -291,20 +217,20 @@ fn check_lists(operations: &Operations) {
 
 #[test]
 fn every_operation_has_the_answer_due() {
-    check_operations(&PLAIN);
+    check_operations::<Plain>();
 }
 
 #[test]
 fn every_fast_operation_has_the_answer_due() {
-    check_operations(&FAST);
+    check_operations::<Fast>();
 }
 
 #[test]
 fn every_list_has_the_sheet_due() {
-    check_lists(&PLAIN);
+    check_lists::<Plain>();
 }
 
 #[test]
 fn every_list_has_the_sheet_due_fast() {
-    check_lists(&FAST);
+    check_lists::<Fast>();
 }
