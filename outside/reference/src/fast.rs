@@ -169,7 +169,8 @@ pub fn restore(
     smaller: &[u16],
     table: &mut [u16],
 ) -> Answer<()> {
-    if let Err(refusal) = check_restore(n, k, sigma, smaller, table.len()) {
+    let checked = check_restore(n, k, sigma, smaller, table.len());
+    if let Err(refusal) = checked.and_then(|()| independent(sigma)) {
         return Err(refusal).into();
     }
     let columns: Vec<u32> = (0..n)
@@ -179,6 +180,18 @@ pub fn restore(
         *entry = smaller[z as usize];
     }
     Ok(()).into()
+}
+
+/// 8: the least index of a matrix row in the span of those before it.
+fn independent(matrix: &[u32]) -> Result<(), Refusal> {
+    let mut span = Span::default();
+    for (index, &row) in matrix.iter().enumerate() {
+        if span.rest(row) == 0 {
+            return Err(Refusal::at(8, index, 0));
+        }
+        span.put(row);
+    }
+    Ok(())
 }
 
 /// The cubes of t that pairs of rows add to, by mask, value and weight.
@@ -219,10 +232,22 @@ impl Cubes {
     }
 }
 
-/// A single value of R.
+/// A single value of R, each pair of different rows looked at once.
 pub fn row_value(n: usize, k: usize, t: usize, rows: impl List) -> Answer<u64> {
     let rows = rows.rows();
-    let outcome = check_value(n, k, t, &rows).map(|()| Cubes::new(n, &rows).sum(t as u32));
+    let outcome = check_value(n, k, t, &rows).map(|()| {
+        let t = t as u32;
+        let mut sum = 0;
+        for (i, p) in rows.iter().enumerate() {
+            for (j, q) in rows[i..].iter().enumerate() {
+                if p.word == q.word && (t ^ p.values ^ q.values) & p.mask & q.mask == 0 {
+                    let free_in_both = n as u32 - (p.mask | q.mask).count_ones();
+                    sum += 1 << (free_in_both + u32::from(j > 0));
+                }
+            }
+        }
+        sum
+    });
     outcome.into()
 }
 
