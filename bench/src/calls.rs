@@ -1,6 +1,6 @@
 //! What is timed: one or several calls of an operation under a name.
 
-use crate::timing::median;
+use crate::timing::medians;
 use reference::inputs::Case;
 use reference::Operations;
 use std::hint::black_box;
@@ -18,24 +18,15 @@ pub struct Call {
 
 impl Call {
     /// The median time of the calls, once over.
+    #[cfg_attr(feature = "linked", allow(dead_code))]
     pub fn time<O: Operations>(&self, runs: usize) -> Duration {
-        let prepare = || vec![self.cases.clone(); self.times];
-        let run = |work: &mut Vec<Vec<Case>>| {
-            for case in work.iter_mut().flatten() {
-                if self.records {
-                    black_box(black_box(case).run_records::<O>());
-                } else {
-                    black_box(black_box(case).run::<O>());
-                }
-            }
-        };
-        median(runs, prepare, run) / self.times as u32
+        self.medians(runs, [run::<O>])[0]
     }
 
-    /// Both implementations give the same answers and leave the same in all
-    /// that they are lent.
+    /// The median times of two implementations that take turns, after their
+    /// answers and what they leave in all they are lent were found the same.
     #[cfg_attr(not(feature = "linked"), allow(dead_code))]
-    pub fn compare<P: Operations, O: Operations>(&self) {
+    pub fn compare<P: Operations, O: Operations>(&self, runs: usize) -> [Duration; 2] {
         for case in &self.cases {
             let [mut first, mut second] = [case.clone(), case.clone()];
             let same = if self.records {
@@ -44,6 +35,32 @@ impl Call {
                 first.run::<P>() == second.run::<O>()
             };
             assert!(same && first == second, "{}: not the same", self.name);
+        }
+        self.medians(runs, [run::<P>, run::<O>])
+    }
+
+    fn medians<const N: usize>(&self, runs: usize, functions: [fn(&mut Work); N]) -> [Duration; N] {
+        let prepare = || Work {
+            cases: vec![self.cases.clone(); self.times],
+            records: self.records,
+        };
+        medians(runs, prepare, functions).map(|time| time / self.times as u32)
+    }
+}
+
+/// The calls of one run.
+struct Work {
+    cases: Vec<Vec<Case>>,
+    records: bool,
+}
+
+/// Makes the calls.
+fn run<O: Operations>(work: &mut Work) {
+    for case in work.cases.iter_mut().flatten() {
+        if work.records {
+            black_box(black_box(case).run_records::<O>());
+        } else {
+            black_box(black_box(case).run::<O>());
         }
     }
 }

@@ -16,7 +16,6 @@ use calls::Call;
 use print::Line;
 use reference::Fast;
 use std::process::ExitCode;
-use std::time::Duration;
 
 fn main() -> ExitCode {
     let runs = match std::env::args().nth(1).map(|runs| runs.parse()) {
@@ -27,27 +26,29 @@ fn main() -> ExitCode {
             return ExitCode::FAILURE;
         }
     };
-    let lines: Vec<Line> = inputs::calls()
-        .iter()
-        .map(|call| Line {
-            name: call.name.clone(),
-            ours: our_time(call, runs),
-            rust: call.time::<Fast>(runs),
-        })
-        .collect();
+    let calls = inputs::calls();
+    let lines: Vec<Line> = calls.iter().map(|call| line(call, runs)).collect();
     print!("{}", print::table(&lines));
     ExitCode::SUCCESS
 }
 
-/// The product's time, after its answer was found to be that of plain Rust.
+/// The times of a call, the product's and Rust's.
 #[cfg(feature = "linked")]
-fn our_time(call: &Call, runs: usize) -> Option<Duration> {
-    call.compare::<Fast, ours::Ours>();
-    Some(call.time::<ours::Ours>(runs))
+fn line(call: &Call, runs: usize) -> Line {
+    let [rust, ours] = call.compare::<Fast, ours::Ours>(runs);
+    Line {
+        name: call.name.clone(),
+        ours: Some(ours),
+        rust,
+    }
 }
 
-/// Nothing is linked, so there is no time of the product's.
+/// The time of a call in Rust alone, for nothing is linked.
 #[cfg(not(feature = "linked"))]
-fn our_time(_call: &Call, _runs: usize) -> Option<Duration> {
-    None
+fn line(call: &Call, runs: usize) -> Line {
+    Line {
+        name: call.name.clone(),
+        ours: None,
+        rust: call.time::<Fast>(runs),
+    }
 }

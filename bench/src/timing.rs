@@ -2,22 +2,28 @@
 
 use std::time::{Duration, Instant};
 
-/// The median time of `run` over so many runs, after one that does not count.
-/// `prepare` makes what a run works on and is not timed.
-pub fn median<T>(
+/// The median time of each of the functions over so many runs, after one that
+/// does not count. They take turns, so that other load on the machine falls on
+/// all of them alike. `prepare` makes what a run works on and is not timed.
+pub fn medians<T, const N: usize>(
     runs: usize,
-    mut prepare: impl FnMut() -> T,
-    mut run: impl FnMut(&mut T),
-) -> Duration {
-    run(&mut prepare());
-    let mut times: Vec<Duration> = (0..runs)
-        .map(|_| {
+    prepare: impl Fn() -> T,
+    functions: [fn(&mut T); N],
+) -> [Duration; N] {
+    let mut times = [(); N].map(|()| Vec::with_capacity(runs));
+    for turn in 0..=runs {
+        for (run, times) in functions.iter().zip(&mut times) {
             let mut work = prepare();
             let start = Instant::now();
             run(&mut work);
-            start.elapsed()
-        })
-        .collect();
-    times.sort();
-    times[times.len() / 2]
+            let time = start.elapsed();
+            if turn > 0 {
+                times.push(time);
+            }
+        }
+    }
+    times.map(|mut times| {
+        times.sort();
+        times[times.len() / 2]
+    })
 }
