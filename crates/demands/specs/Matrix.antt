@@ -91,9 +91,10 @@ module _ (f : ℕ → ℕ) (n w : ℕ) (hw : 1 ≤ w) where
       go : (j : ℕ) → j < n → (b : Bool) → span s j (s j) ≡ b → span s j (s j) ≡ false
       go j l true e =
           absurd
-          (omega
-          (arith,
-          row j j l l,
-          bit-pow-same j,
-          span-parity s j (s j) (x j) e (λ i m. row j i l (omega arith) ∙ bit-pow-other j i (λ d. omega arith))))
+          (omega (
+            arith,
+            row j j l l,
+            bit-pow-same j,
+            span-parity s j (s j) (x j) e (λ i m. row j i l (omega arith) ∙ bit-pow-other j i (λ d. omega arith)),
+          ))
       go j l false e = e

@@ -48,19 +48,20 @@ restoring-answers n k w table roomT roomSigma roomTable room h r =
     let good = method-entries n k w table roomT roomSigma roomTable _ refl h in
     let independent = basis-independent f n w (p .least) in
     let entry : (z : ℕ) → z < length (smallerTable f n w) → badEntry k (at (smallerTable f n w) z) ≡ false =
-        λ z b.
-        let l : z < 2 ^ n = rw (smaller-length f n w) at b in
-        let x : ℕ = columns (at (basisOf f n w)) n z in
-        let y : x < length table = rw (p .entries) (columns-lt (at (basisOf f n w)) n n z (independent .below)) in
-        ap (badEntry k) (getD-any (smallerTable f n w) 0 none z b ∙ smaller-at f n w z l ∙ getD-any table none 0 x y) ∙ good x y in
-    (verdict-miss _ _ (sizes .0)
-    ∙ verdict-miss _ _ (sizes .1)
-    ∙ verdict-miss _ _ (rw (eq-eqb (length (sigmaOf f n w)) n (sigma-length f n w (p .least)), eq-eqb (length (smallerTable f n w)) (2 ^ n) (smaller-length f n w)))
-    ∙ verdict-miss _ _ (le-ltb room (2 ^ n) r)
-    ∙ verdict-miss _ _
-    (not-malformed 1 (badNumber n) (sigmaOf f n w)
-    (λ j b. ap not (lt-ltb (at (sigmaOf f n w) j) (2 ^ n) (sigma-lt f n w (p .least) j (rw (sigma-length f n w (p .least)) at b)))))
-    ∙ verdict-miss _ _ (not-malformed 0 (badEntry k) (smallerTable f n w) entry)
-    ∙ verdict-miss _ _ (le-ltb _ n (rw (sigma-independent f n w (p .least)) (omega arith)))
-    ∙ verdict-none,
-    restored-same n w table (p .least) (p .entries))
+    λ z b.
+    let l : z < 2 ^ n = rw (smaller-length f n w) at b in
+    let x : ℕ = columns (at (basisOf f n w)) n z in
+    let y : x < length table = rw (p .entries) (columns-lt (at (basisOf f n w)) n n z (independent .below)) in
+    ap (badEntry k) (getD-any (smallerTable f n w) 0 none z b ∙ smaller-at f n w z l ∙ getD-any table none 0 x y) ∙ good x y in (
+      verdict-miss _ _ (sizes .0)
+          ∙ verdict-miss _ _ (sizes .1)
+          ∙ verdict-miss _ _ (rw (eq-eqb (length (sigmaOf f n w)) n (sigma-length f n w (p .least)), eq-eqb (length (smallerTable f n w)) (2 ^ n) (smaller-length f n w)))
+          ∙ verdict-miss _ _ (le-ltb room (2 ^ n) r)
+          ∙ verdict-miss _ _
+          (not-malformed 1 (badNumber n) (sigmaOf f n w)
+          (λ j b. ap not (lt-ltb (at (sigmaOf f n w) j) (2 ^ n) (sigma-lt f n w (p .least) j (rw (sigma-length f n w (p .least)) at b)))))
+          ∙ verdict-miss _ _ (not-malformed 0 (badEntry k) (smallerTable f n w) entry)
+          ∙ verdict-miss _ _ (le-ltb _ n (rw (sigma-independent f n w (p .least)) (omega arith)))
+          ∙ verdict-none,
+      restored-same n w table (p .least) (p .entries),
+    )
