@@ -1,4 +1,5 @@
--- A list of rows in three flat slices: its length and its rows by place; the least malformed row. Assumes nothing.
+-- A list of rows in three flat slices: its length and its rows by place; the least malformed row; what the number of
+-- rows says of the slices. Assumes nothing.
 use mathlib.Core.Path.{_≡_, refl, sym, ap, _∙_}
 use mathlib.Core.Bool.{Bool, true, false, cond, _&&_}
 use mathlib.Core.List.{List, []}
@@ -62,3 +63,18 @@ module _ (masks values words : List ℕ) where
       (first-is (length (rowsOf masks values words)) (λ i. badRow n k (rowAt (rowsOf masks values words) i)) r (omega arith)
       (λ j h. ap (badRow n k) (row-at e f j (omega arith)) ∙ a j h)
       (λ h. ap (badRow n k) (row-at e f r (omega arith)) ∙ b (omega arith)))
+
+-- ---- a list of a bounded number of rows
+
+-- the slices have one length, from 1 to most
+pub record Listed (most : ℕ) (masks values words : List ℕ) : Type 0 where
+  pub values-too : length values ≡ length masks
+  pub words-too : length words ≡ length masks
+  pub some : 1 ≤ length masks
+  pub few : length masks ≤ most
+
+-- a greater bound holds too
+pub listed-more : (most more : ℕ) (masks values words : List ℕ) → most ≤ more → Listed most masks values words
+    → Listed more masks values words
+listed-more most more masks values words h l =
+    record { values-too = l .values-too; words-too = l .words-too; some = l .some; few = omega arith }

@@ -19,7 +19,7 @@ use Rattle.verdicts.specs.Verdicts.{verdict-hit, verdict-miss, Numbered, answer
 use Rattle.checks.specs.Sizes.{inside}
 use Rattle.pairs.specs.Theorem.{Every, Disjoint}
 use Rattle.pairs.specs.Share.{every-good, checked-disjoint}
-use Rattle.listing.specs.Listing.{rows-count, equal-lengths}
+use Rattle.listing.specs.Listing.{Listed, rows-count, equal-lengths}
 
 -- the row method: 1, 2, 3, 4, 5, 6, 7
 unfoldable pub methodChecked : ℕ → ℕ → ℕ → List Row → Bool → List Check
@@ -62,13 +62,6 @@ module _ (n k : ℕ) (rs : List Row) (bad : ℕ) (e : bad ≡ first (length rs) 
 
 -- ---- what an answer of 0 says
 
--- the slices have one length, from 1 to most
-pub record Listed (most : ℕ) (masks values words : List ℕ) : Type 0 where
-  pub values-too : length values ≡ length masks
-  pub words-too : length words ≡ length masks
-  pub some : 1 ≤ length masks
-  pub few : length masks ≤ most
-
 listed-when : (most : ℕ) (masks values words : List ℕ) → outside 1 most (length (rowsOf masks values words)) ≡ false
     → Listed most masks values words
 listed-when most masks values words h =
@@ -84,12 +77,6 @@ listed most masks values words v e h =
     let clear =
     answered-clear (countCheck most (rowsOf masks values words) ∷ []) (refl, tt) (sym (ap answered e) ∙ eq-eqb (v .number) 0 h) in
     listed-when most masks values words (clear 0 (omega arith))
-
--- a greater bound holds too
-pub listed-more : (most more : ℕ) (masks values words : List ℕ) → most ≤ more → Listed most masks values words
-    → Listed more masks values words
-listed-more most more masks values words h l =
-    record { values-too = l .values-too; words-too = l .words-too; some = l .some; few = omega arith }
 
 -- n, k and the number of rows are in range, no row is malformed, and no two share a point
 pub record Checked (inputs most n k : ℕ) (masks values words : List ℕ) : Type 0 where

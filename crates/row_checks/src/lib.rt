@@ -11,7 +11,8 @@ ghost use Rattle.block.specs.Words.{rowsOf};
 ghost use Rattle.block.specs.Refusals.{verdict};
 ghost use Rattle.block.specs.Lists.{countCheck, badRowCheck, shareCheck, rowValueVerdict, fillVerdict};
 ghost use Rattle.row_checks.specs.Pairs.{FirstPair, pairAnswer};
-ghost use Rattle.row_checks.specs.Checked.{methodChecked, Listed};
+ghost use Rattle.listing.specs.Listing.{Listed};
+ghost use Rattle.row_checks.specs.Checked.{methodChecked};
 
 // Two rows that share a point, or none.
 pub enum Pair {

@@ -6,8 +6,9 @@ use native.Mathlib.Omega.{arith}
 use denote.Ref.{now}
 use Rattle.block.specs.Refusals.{check, verdict}
 use Rattle.checks.specs.Sizes.{sized}
+use Rattle.listing.specs.Listing.{listed-more}
 use Rattle.verdicts.specs.Verdicts.{part-refuses, part-passes}
-use Rattle.row_checks.specs.Checked.{methodChecked, listed, listed-more}
+use Rattle.row_checks.specs.Checked.{methodChecked, listed}
 use borrow.Author.Needs.{needs}
 use Rattle.row_checks.proofs.method_checked.Statement.{statement}
 use Rattle.row_checks.proofs.method_checked.Tie as tie

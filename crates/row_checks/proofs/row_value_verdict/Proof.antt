@@ -9,8 +9,9 @@ use denote.Ref.{now}
 use Rattle.block.specs.Refusals.{check, verdict}
 use Rattle.block.specs.Lists.{rowValueVerdict}
 use Rattle.checks.specs.Sizes.{sized}
+use Rattle.listing.specs.Listing.{listed-more}
 use Rattle.verdicts.specs.Verdicts.{part-refuses, part-passes}
-use Rattle.row_checks.specs.Checked.{listed, listed-more}
+use Rattle.row_checks.specs.Checked.{listed}
 use borrow.Author.Needs.{needs}
 use Rattle.row_checks.proofs.row_value_verdict.Statement.{statement}
 use Rattle.row_checks.proofs.row_value_verdict.Tie as tie
