@@ -24,10 +24,14 @@ within lo hi x e = go (ltb x lo) (ltb hi x) refl refl e
     go false true p q e = let z : _≡_ {A = ℕ} 0 1 = cc in absurd (omega arith)
     go true b p q e = let z : _≡_ {A = ℕ} 0 1 = cc in absurd (omega arith)
 
+-- the first p rows of three flat slices
+abbrev pub rowsFrom : ℕ → List ℕ → List ℕ → List ℕ → List Row
+rowsFrom p masks values words = tab p (λ i. row (at masks i) (at values i) (at words i))
+
 module _ (masks values words : List ℕ) where
   -- slices of one length are a list
   pub rows-of : length values ≡ length masks → length words ≡ length masks
-      → rowsOf masks values words ≡ tab (length masks) (λ i. row (at masks i) (at values i) (at words i))
+      → rowsOf masks values words ≡ rowsFrom (length masks) masks values words
   unfolding rowsOf
   rows-of e f = rw (eq-eqb _ _ e, eq-eqb _ _ f)
 
