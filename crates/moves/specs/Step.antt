@@ -166,7 +166,8 @@ became-length k v r = go (eqb (bit (r .mask) k) 1) (eqb (bitAnd (r .mask) v) 0)
 
 -- ---- the whole list
 
-split-length : (k v : ℕ) (rs : List Row) → (length rs ≤ length (splitRows k v rs)) × (length (splitRows k v rs) ≤ length rs * 2)
+-- the splits never lessen the number of rows, and at most double it
+pub split-length : (k v : ℕ) (rs : List Row) → (length rs ≤ length (splitRows k v rs)) × (length (splitRows k v rs) ≤ length rs * 2)
 unfolding splitRows
 split-length k v [] = (omega arith, omega arith)
 split-length k v (r ∷ rs) = go (became-length k v r) (split-length k v rs)
