@@ -47,16 +47,14 @@ tableMethodVerdict n k w table roomT roomSigma roomTable =
 unfoldable pub smallerTable : (ℕ → ℕ) → ℕ → ℕ → List ℕ
 smallerTable f n w = tab (2 ^ n) (smallerOf f n w)
 
+-- an answer with both measures
+abbrev pub withMeasures : Answer → ℕ → ℕ → TableMethodAnswer
+withMeasures v x y = record { number = v .number; a = v .a; b = v .b; before = carried v x; after = carried v y }
+
 unfoldable pub tableMethod : ℕ → ℕ → ℕ → List ℕ → ℕ → ℕ → ℕ → TableMethodAnswer
 tableMethod n k w table roomT roomSigma roomTable =
-    let v : Answer = tableMethodVerdict n k w table roomT roomSigma roomTable in
-    record {
-      number = v .number;
-      a = v .a;
-      b = v .b;
-      before = carried v (measure (ofTable table) n);
-      after = carried v (measure (smallerOf (ofTable table) n w) n);
-    }
+    withMeasures (tableMethodVerdict n k w table roomT roomSigma roomTable)
+    (measure (ofTable table) n) (measure (smallerOf (ofTable table) n w) n)
 
 -- ---- restoring a table from sigma and a smaller table: 1, 2, 4, 5, 6 (the matrix first), 8
 

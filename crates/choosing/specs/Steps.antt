@@ -1,6 +1,6 @@
 -- A step of the choice, as the code has it: the candidates by a matrix, the number chosen with it, and the matrix after the step.
 -- Not here: why they are those of 01 (the crates choice and matrix). Assumes nothing.
-use mathlib.Core.Path.{_≡_, refl, sym, ap, ap₂, _∙_}
+use mathlib.Core.Path.{_≡_, refl, sym, ap, ap₂, _∙_, subst}
 use mathlib.Core.Bool.{Bool, true, false, cond, _&&_}
 use mathlib.Core.List.{List}
 use Prim.Native.Nat.{ℕ, zero, suc, _+_, _*_, _^_, _≤_, _<_}
@@ -11,7 +11,9 @@ use lib.Dec.{eqb, ltb, leb}
 use lib.ListN.{length}
 use Rattle.bits.specs.Digits.{bit}
 use Rattle.slices.specs.Places.{at, tab, over}
-use Rattle.slices.specs.Filled.{over-at, over-over, tab-cong}
+use Rattle.slices.specs.Filled.{over-at, over-over, tab-cong, length-over}
+use Rattle.sums.specs.Sums.{sum}
+use Rattle.sums.specs.Laws.{sum-cong}
 use Rattle.block.specs.Basis.{before, best, candidate, span, apply}
 use Rattle.block.specs.Rows.{highest, partner, rest, reached}
 use Rattle.choice.specs.Choice.{best-cong}
@@ -21,6 +23,7 @@ use Rattle.matrix.specs.Reached.{Independent, reached-span}
 use Rattle.matrix.specs.Reach.{exchangeRows, shearRows, reachRows, reach-none, reach-more, reach-apply, candidate-rows}
 use Rattle.matrix.specs.Candidate.{pick-independent}
 use Rattle.choosing.specs.declared.Move.{Move}
+use Rattle.choosing.specs.declared.Measures.{Measures}
 
 -- 1 to w one-bits, and coordinates from 2^k on
 unfoldable pub candidateBy : (ℕ → ℕ) → ℕ → ℕ → ℕ → ℕ → Bool
@@ -37,6 +40,13 @@ pub record Advanced (n k t : ℕ) (old new : List ℕ) (m : Move) : Type 0 where
   pub rows : new ≡ over (tab n (stepRows n k t (at old))) old
   pub exchanged : m .partner ≡ partner n k (apply (at old) n t)
   pub flipped : m .rest ≡ rest n k (apply (at old) n t)
+
+-- what the choice leaves: T and the matrix at the front of what was lent, the sums of the values at the units and at T's columns
+pub record ChosenBasis (v : ℕ → ℕ) (n w : ℕ) (t s t′ s′ : List ℕ) (r : Measures) : Type 0 where
+  pub basis : t′ ≡ over (tab n (pick v n w)) t
+  pub sigma : s′ ≡ over (tab n (reachRows n (pick v n w) n)) s
+  pub earlier : r .before ≡ sum (λ i. v (2 ^ i)) n
+  pub later : r .after ≡ sum (λ i. v (pick v n w i)) n
 
 -- ---- the position exchanged with k is below n, whatever the number
 
@@ -150,3 +160,17 @@ choose-turn v n w k r l s hw hk e d =
     ap (λ (y : ℕ). leb 1 (ones t) && (leb (ones t) w && leb (2 ^ k) y)) (apply-cong (at s) (reachRows n c k) n t (held n c k l s e))
     ∙ sym (candidate-rows w n c k (omega arith) (pick-independent v n w hw k (omega arith)) t ht))
     ∙ sym (pick-best v n w k)
+
+-- the values at places that a slice holds
+pub sum-held : (v f : ℕ → ℕ) (n : ℕ) (l s : List ℕ) → s ≡ over (tab n f) l → sum (λ i. v (at s i)) n ≡ sum (λ i. v (f i)) n
+sum-held v f n l s e =
+    sum-cong (λ i. v (at s i)) (λ i. v (f i)) n (λ i h. ap v (ap (λ (m : List ℕ). at m i) e ∙ over-at n f l 0 i h))
+
+-- what holds of f below n holds of what a slice with f stored in it has there
+pub all-held : (P : ℕ → Type 0) (f : ℕ → ℕ) (n : ℕ) (l s : List ℕ) → s ≡ over (tab n f) l → ((i : ℕ) → i < n → P (f i))
+    → (i : ℕ) → i < n → P (at s i)
+all-held P f n l s e h i b = subst P (sym (ap (λ (m : List ℕ). at m i) e ∙ over-at n f l 0 i b)) (h i b)
+
+-- such a slice is as long as before
+pub length-held : (f : ℕ → ℕ) (n : ℕ) (l s : List ℕ) → s ≡ over (tab n f) l → n ≤ length l → length s ≡ length l
+length-held f n l s e h = ap length e ∙ length-over n f l h

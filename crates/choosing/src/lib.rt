@@ -5,11 +5,12 @@ ghost use mathlib.Core.Bool.{cond};
 ghost use Prim.Native.Nat.{ℕ, _≤_, _<_, _^_};
 ghost use lib.ListN.{length};
 ghost use Rattle.slices.specs.Places.{at, tab, over};
+ghost use Rattle.sums.specs.Sums.{sum};
 ghost use Rattle.block.specs.Basis.{before, better, best};
 ghost use Rattle.block.specs.Refusals.{dependent};
 ghost use Rattle.choice.specs.Chosen.{pick};
 ghost use Rattle.matrix.specs.Reach.{reachRows};
-ghost use Rattle.choosing.specs.Steps.{candidateBy, Advanced};
+ghost use Rattle.choosing.specs.Steps.{candidateBy, Advanced, ChosenBasis};
 
 // Whether a stands before b in the order of candidates: the greater value, among equals the smaller number.
 pub fn is_before(values: &[u32], a: usize, b: usize) -> bool
@@ -121,6 +122,44 @@ pub fn choose_all(values: &[u32], n: usize, w: usize, basis: &mut [u32], sigma: 
         advance(sigma, n, k, t as u32);
         k += 1;
     }
+}
+
+// The sum of the values at n places.
+pub fn sum_at(values: &[u32], places: &[u32], n: usize) -> u64
+    requires { ⌜ (n ≤ length (now places)) × (n ≤ 24) × ((i : ℕ) → i < n → at (now places) i < length (now values)) ⌝ }
+    ensures { λ r. ⌜ r ≡ sum (λ i. at (now (values .entry)) (at (now (places .entry)) i)) n ⌝ }
+{
+    let mut r: u64 = 0;
+    let mut i: usize = 0;
+    while i < n {
+        r += values[places[i] as usize] as u64;
+        i += 1;
+    }
+    r
+}
+
+// The measures of the block and of the smaller block.
+pub struct Measures {
+    pub before: u64,
+    pub after: u64,
+}
+
+// T, the matrix that sends its columns to 1, 2, 4, .., and the sums of the values at the units and at the chosen numbers.
+pub fn choose_basis(
+    values: &[u32],
+    n: usize,
+    w: usize,
+    basis: &mut [u32],
+    sigma: &mut [u32],
+) -> Measures
+    requires { ⌜ (2 ^ n ≤ length (now values)) × (n ≤ length (now basis)) × (n ≤ length (now sigma)) × (n ≤ 24) × (1 ≤ w) × (w ≤ n) ⌝ }
+    ensures { λ r. ⌜ ChosenBasis (at (now (values .entry))) n w (now (basis .entry)) (now (sigma .entry)) (now (basis .exit)) (now (sigma .exit)) r ⌝ }
+{
+    matrices::put_units(sigma, n);
+    let before = sum_at(values, sigma, n);
+    choose_all(values, n, w, basis, sigma);
+    let after = sum_at(values, basis, n);
+    Measures { before, after }
 }
 
 // The least row that is the XOR of some set of earlier rows, or n. The matrix m is working room.

@@ -10,6 +10,7 @@ use lib.Dec.{eqb}
 use lib.ListN.{length, getD}
 use Rattle.slices.specs.Places.{over}
 use Rattle.block.specs.Refusals.{Check, check, answer, verdict, answered, carried, stored}
+use Rattle.block.specs.Tables.{withValue, withMeasures}
 use Rattle.block.specs.declared.Answer.{Answer}
 
 -- ---- one check
@@ -116,3 +117,28 @@ part-refuses v cs ds e h = e ∙ sym (verdict-stop cs ds (sym (ap answered e) �
 -- a part that answers 0 leaves the verdict to the next
 pub part-passes : (v : Answer) (cs ds : List Check) → v ≡ verdict cs → Numbered cs → v .number ≡ 0 → verdict ds ≡ verdict (cs ++ ds)
 part-passes v cs ds e nn h = sym (verdict-then cs ds (sym (ap answered e) ∙ eq-eqb (v .number) 0 h) nn)
+
+-- an answer's fields beside a value: the value itself on 0, and 0 with a refusal
+pub value-refused : (v : Answer) (x : ℕ) → (v .number ≡ 0 → ⊥)
+    → record { number = v .number; a = v .a; b = v .b; value = 0 } ≡ withValue v x
+value-refused v x h = rw (ne-eqb (v .number) 0 h)
+
+pub value-answered : (v : Answer) (x : ℕ) → v .number ≡ 0
+    → record { number = v .number; a = v .a; b = v .b; value = x } ≡ withValue v x
+value-answered v x h = rw (eq-eqb (v .number) 0 h)
+
+-- likewise beside two measures
+pub measures-refused : (v : Answer) (x y : ℕ) → (v .number ≡ 0 → ⊥)
+    → record { number = v .number; a = v .a; b = v .b; before = 0; after = 0 } ≡ withMeasures v x y
+measures-refused v x y h = rw (ne-eqb (v .number) 0 h)
+
+pub measures-answered : (v : Answer) (x y : ℕ) → v .number ≡ 0
+    → record { number = v .number; a = v .a; b = v .b; before = x; after = y } ≡ withMeasures v x y
+measures-answered v x y h = rw (eq-eqb (v .number) 0 h)
+
+-- lent storage, where the verdict v is that of 01: kept with a refusal, with the result at its front on 0
+pub kept {ℓ} : {A : Type ℓ} (v u : Answer) (s l : List A) → v ≡ u → (v .number ≡ 0 → ⊥) → l ≡ stored u s l
+kept v u s l e h = sym (stored-no v s l h) ∙ ap (λ (v : Answer). stored v s l) e
+
+pub given {ℓ} : {A : Type ℓ} (v u : Answer) (s l : List A) → v ≡ u → v .number ≡ 0 → over s l ≡ stored u s l
+given v u s l e h = sym (stored-yes v s l h) ∙ ap (λ (v : Answer). stored v s l) e

@@ -1,66 +1,84 @@
+-- `smaller_tables::put_restored` meets its contract. The loop's invariant: the first x entries are done. The measure is what is left.
+-- Assumes nothing.
+use mathlib.Core.Path.{_≡_, ap, _∙_}
+use mathlib.Core.List.{List}
+use Prim.Native.Nat.{ℕ, _≤_, _<_, _-_, _^_}
+use native.Mathlib.Omega.{arith}
+use lib.ListN.{length, getD}
+use lib.Pow.{pow-mono}
+use denote.Ref.{now}
+use Rattle.slices.specs.Places.{at, tab, over}
+use Rattle.slices.specs.Filled.{over-none, over-more, getD-any}
+use Rattle.block.specs.Words.{none, ofTable}
+use Rattle.block.specs.Basis.{apply}
+use Rattle.block.specs.Tables.{restored}
+use Rattle.matrix.specs.Linear.{apply-lt}
+use borrow.Author.Needs.{needs}
 use Rattle.smaller_tables.proofs.put_restored.Statement.{statement}
 use Rattle.smaller_tables.proofs.put_restored.Tie as tie
-use Rattle.smaller_tables.proofs.put_restored.Reads as reads
-use Rattle.smaller_tables.proofs.put_restored.Lts as lts
-use Rattle.matrices.proofs.apply_rows.Reads as apply-rows-reads
 
 abbrev Inv-loop : tie.InvT-loop
-Inv-loop sigma n table out₀ x₀ out x = ?
+Inv-loop sigma n table out₀ x₀ out x = (x ≤ length table) × (length out ≡ length out₀) × (out ≡ over (tab x (λ x. ofTable table (apply (at sigma) n x))) out₀)
 
 abbrev μ-loop : tie.MeasureT-loop
-μ-loop sigma n table out₀ x₀ out x = ?
+μ-loop sigma n table out₀ x₀ out x = length table - x
 
--- src/lib.rt:44:5
+-- the place read lies in the table
+within : (c : tie.After-apply-rows Inv-loop μ-loop) → c .apply-rows .result < 2 ^ c .before .before .before .before .before .before .args .n
+within c = rw (c .apply-rows .ensures) (apply-lt _ _ _)
+
+near : (c : tie.After-apply-rows Inv-loop μ-loop) → c .apply-rows .result < length (now (c .before .before .before .before .before .before .args .table))
+near c = omega (arith, within c)
+
 loop-holds : tie.Need-loop-holds Inv-loop μ-loop
-loop-holds c = ?
+loop-holds c = (search needs, search needs, over-none _ _)
 
--- src/lib.rt:45:55
 cast-apply-rows : tie.Need-cast-apply-rows Inv-loop μ-loop
-cast-apply-rows c = ?
+cast-apply-rows c = omega (arith, pow-mono (c .before .before .before .before .before .pre .1))
 
--- src/lib.rt:45:24
 apply-rows-requires : tie.Need-apply-rows-requires Inv-loop μ-loop
-apply-rows-requires c κs = ?
+apply-rows-requires c κs = search needs
 
--- src/lib.rt:45:24
 cast-out : tie.Need-cast-out Inv-loop μ-loop
-cast-out c = ?
+cast-out c = omega (arith, within c)
 
--- src/lib.rt:45:18
 mul-out : tie.Need-mul-out Inv-loop μ-loop
-mul-out c = ?
+mul-out c = omega (arith, within c)
 
--- src/lib.rt:45:18
 shared-slice-read-out : tie.Need-shared-slice-read-out Inv-loop μ-loop
-shared-slice-read-out c = ?
+shared-slice-read-out c = omega (arith, within (c .before))
 
--- src/lib.rt:45:9
 mul-out-2 : tie.Need-mul-out-2 Inv-loop μ-loop
-mul-out-2 c = ?
+mul-out-2 c = search needs
 
--- src/lib.rt:45:9
 slice-write-out : tie.Need-slice-write-out Inv-loop μ-loop
-slice-write-out c = ?
+slice-write-out c = search needs
 
--- src/lib.rt:46:9
 add-x : tie.Need-add-x Inv-loop μ-loop
-add-x c = ?
+add-x c = search needs
 
--- src/lib.rt:44:5
 loop-less : tie.Need-loop-less Inv-loop μ-loop
-loop-less c = ?
+loop-less c = search needs
 
--- src/lib.rt:44:5
 loop-again : tie.Need-loop-again Inv-loop μ-loop
-loop-again c = ?
+loop-again c =
+    let s = c .before .before .before .before .before .before .before in
+    let i = c .before .before .before .loop .inv in (
+      search needs,
+      search needs,
+      over-more _ (λ (x : ℕ). ofTable (now (s .args .table)) (apply (at (now (s .args .sigma))) (s .args .n) x)) _ _ _ (i .2)
+          (getD-any (now (s .args .table)) 0 none _ (near (c .before)) ∙ ap (ofTable (now (s .args .table))) (c .before .apply-rows .ensures)) (omega arith),
+    )
 
--- src/lib.rt:39:1
 same-length : tie.Need-same-length Inv-loop μ-loop
-same-length c = ?
+same-length c = search needs
 
--- src/lib.rt:39:1
 returns : tie.Need-returns Inv-loop μ-loop
-returns c = ?
+unfolding restored
+returns c =
+    let s = c .before .before .before .before .before in
+    let end : c .before .loop .x ≡ 2 ^ s .args .n = omega arith in
+    rw end at (c .before .loop .inv .2)
 
 pub put-restored-spec : {M : Type 1} → statement M
 put-restored-spec =

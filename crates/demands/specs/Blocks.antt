@@ -1,0 +1,62 @@
+-- Demand 2, the blocks: the original block at any input equals the smaller table at the transformed input; the smaller table at z is
+-- the block at T z; R and the measure of the smaller block. For any block f with n inputs, and any weight limit w from 1 on.
+-- Assumes nothing.
+use mathlib.Core.Path.{_≡_, sym, ap, ap₂, _∙_}
+use Prim.Native.Nat.{ℕ, _^_, _≤_, _<_}
+use lib.Bits.{bitXor, xor-lt}
+use lib.ListN.{length}
+use lib.Pow.{pow-lt}
+use Rattle.slices.specs.Places.{at, tab}
+use Rattle.slices.specs.Filled.{tab-at, length-tab}
+use Rattle.sums.specs.Sums.{sum}
+use Rattle.sums.specs.Laws.{sum-cong, count-cong}
+use Rattle.block.specs.Words.{none, ofTable}
+use Rattle.block.specs.Measure.{same, shift, measure}
+use Rattle.block.specs.Basis.{columns, apply, basisOf, sigmaOf, smallerOf}
+use Rattle.block.specs.Tables.{smallerTable}
+use Rattle.matrix.specs.Linear.{apply-lt}
+use Rattle.matrix.specs.Candidate.{basis-independent}
+use Rattle.matrix.specs.Smaller.{shift-smaller, measure-smaller}
+use Rattle.demands.specs.Matrix.{basis-after-sigma}
+
+-- R goes by the block's points alone
+pub shift-points : (f g : ℕ → ℕ) (n t : ℕ) → t < 2 ^ n → ((x : ℕ) → x < 2 ^ n → f x ≡ g x) → shift f n t ≡ shift g n t
+unfolding shift same
+shift-points f g n t h e = count-cong (same f t) (same g t) (2 ^ n) (λ x l. rw (e x l, e (bitXor x t) (xor-lt n x t l h)))
+
+-- and so does the measure
+pub measure-points : (f g : ℕ → ℕ) (n : ℕ) → ((x : ℕ) → x < 2 ^ n → f x ≡ g x) → measure f n ≡ measure g n
+unfolding measure
+measure-points f g n e = sum-cong _ _ n (λ i h. shift-points f g n (2 ^ i) (pow-lt h) e)
+
+module _ (f : ℕ → ℕ) (n w : ℕ) where
+  -- the smaller table at z is the block at T z
+  pub smaller-at : (z : ℕ) → z < 2 ^ n → ofTable (smallerTable f n w) z ≡ f (columns (at (basisOf f n w)) n z)
+  unfolding smallerTable smallerOf
+  smaller-at z h = tab-at (2 ^ n) _ none z h
+
+  pub smaller-length : length (smallerTable f n w) ≡ 2 ^ n
+  unfolding smallerTable
+  smaller-length = length-tab (2 ^ n) _
+
+  module _ (hw : 1 ≤ w) where
+    -- the block at x is the smaller table at sigma x
+    pub block-at : (x : ℕ) → x < 2 ^ n → ofTable (smallerTable f n w) (apply (at (sigmaOf f n w)) n x) ≡ f x
+    block-at x h = smaller-at (apply (at (sigmaOf f n w)) n x) (apply-lt (at (sigmaOf f n w)) n x) ∙ ap f (basis-after-sigma f n w hw x h)
+
+    -- R of the smaller table at z is R of the block at T z
+    pub smaller-shift : (z : ℕ) → z < 2 ^ n → shift (ofTable (smallerTable f n w)) n z ≡ shift f n (columns (at (basisOf f n w)) n z)
+    unfolding smallerOf
+    smaller-shift z h =
+        shift-points (ofTable (smallerTable f n w)) (smallerOf f n w) n z h smaller-at
+        ∙ shift-smaller f (at (basisOf f n w)) n (basis-independent f n w hw) z
+
+    -- the second measure is the sum of R at the chosen numbers ..
+    pub second-measure : measure (smallerOf f n w) n ≡ sum (λ i. shift f n (at (basisOf f n w) i)) n
+    unfolding smallerOf
+    second-measure = measure-smaller f (at (basisOf f n w)) n (basis-independent f n w hw)
+
+    -- .. and the smaller table's own measure
+    pub second-measure-own : measure (smallerOf f n w) n ≡ measure (ofTable (smallerTable f n w)) n
+    unfolding smallerOf
+    second-measure-own = sym (measure-points (ofTable (smallerTable f n w)) (smallerOf f n w) n smaller-at)

@@ -1,0 +1,67 @@
+-- Demand 2, the way back: where the table method answers, restoring with its sigma and its smaller table answers 0 and returns the
+-- original table, entry by entry. Assumes nothing.
+use mathlib.Core.Path.{_≡_, refl, sym, ap, _∙_}
+use mathlib.Core.Bool.{Bool, true, false, not, _||_}
+use mathlib.Core.List.{List, [], _∷_}
+use Prim.Native.Nat.{ℕ, _^_, _≤_, _<_}
+use native.Mathlib.Omega.{arith}
+use borrow.Author.Tests.{lt-ltb, le-ltb, eq-eqb}
+use lib.Dec.{eqb, ltb}
+use lib.ListN.{length, getD}
+use lib.Seq.{ext-getD}
+use Rattle.slices.specs.Places.{at, tab, first}
+use Rattle.slices.specs.Filled.{tab-at, length-tab, getD-any}
+use Rattle.slices.specs.Least.{first-is}
+use Rattle.block.specs.Words.{none, ofTable}
+use Rattle.block.specs.Basis.{columns, apply, basisOf, sigmaOf}
+use Rattle.block.specs.Refusals.{Check, check, verdict, answer, badEntry, badNumber, malformed}
+use Rattle.block.specs.Tables.{tableMethodVerdict, smallerTable, restoreVerdict, restored}
+use Rattle.matrix.specs.Linear.{columns-lt}
+use Rattle.matrix.specs.Candidate.{basis-independent}
+use Rattle.table_checks.specs.Passed.{MethodPassed, method-passed, method-sizes, method-entries}
+use Rattle.verdicts.specs.Verdicts.{verdict-miss, verdict-none}
+use Rattle.demands.specs.Matrix.{sigma-length, sigma-lt, sigma-independent}
+use Rattle.demands.specs.Blocks.{smaller-at, smaller-length, block-at}
+
+-- a list with no bad entry passes its check of 6
+not-malformed : (a : ℕ) (bad : ℕ → Bool) (l : List ℕ) → ((i : ℕ) → i < length l → bad (at l i) ≡ false) → malformed a bad l .holds ≡ false
+not-malformed a bad l h = le-ltb _ (length l) (rw (first-is (length l) (λ i. bad (at l i)) (length l) (omega arith) h (λ b. absurd (omega arith))) (omega arith))
+
+-- going back from sigma and the smaller table of any table gives the table
+pub restored-same : (n w : ℕ) (table : List ℕ) → 1 ≤ w → length table ≡ 2 ^ n
+    → restored n (sigmaOf (ofTable table) n w) (smallerTable (ofTable table) n w) ≡ table
+unfolding restored
+restored-same n w table hw e =
+    ext-getD none _ table (length-tab (2 ^ n) _ ∙ sym e)
+    (λ i b. let l : i < 2 ^ n = rw (length-tab (2 ^ n)) at b in tab-at (2 ^ n) _ none i l ∙ block-at (ofTable table) n w hw i l)
+
+-- and restoring answers it
+pub restoring-answers : (n k w : ℕ) (table : List ℕ) (roomT roomSigma roomTable room : ℕ)
+    → tableMethodVerdict n k w table roomT roomSigma roomTable .number ≡ 0 → 2 ^ n ≤ room
+    → (restoreVerdict n k (sigmaOf (ofTable table) n w) (smallerTable (ofTable table) n w) room ≡ answer 0 0 0)
+    × (restored n (sigmaOf (ofTable table) n w) (smallerTable (ofTable table) n w) ≡ table)
+unfolding restoreVerdict
+restoring-answers n k w table roomT roomSigma roomTable room h r =
+    let f = ofTable table in
+    let p = method-passed n k w table roomT roomSigma roomTable _ refl h in
+    let sizes = method-sizes n k w table roomT roomSigma roomTable _ refl h in
+    let good = method-entries n k w table roomT roomSigma roomTable _ refl h in
+    let independent = basis-independent f n w (p .least) in
+    let entry : (z : ℕ) → z < length (smallerTable f n w) → badEntry k (at (smallerTable f n w) z) ≡ false =
+    λ z b.
+    let l : z < 2 ^ n = rw (smaller-length f n w) at b in
+    let x : ℕ = columns (at (basisOf f n w)) n z in
+    let y : x < length table = rw (p .entries) (columns-lt (at (basisOf f n w)) n n z (independent .below)) in
+    ap (badEntry k) (getD-any (smallerTable f n w) 0 none z b ∙ smaller-at f n w z l ∙ getD-any table none 0 x y) ∙ good x y in (
+      verdict-miss _ _ (sizes .0)
+          ∙ verdict-miss _ _ (sizes .1)
+          ∙ verdict-miss _ _ (rw (eq-eqb (length (sigmaOf f n w)) n (sigma-length f n w (p .least)), eq-eqb (length (smallerTable f n w)) (2 ^ n) (smaller-length f n w)))
+          ∙ verdict-miss _ _ (le-ltb room (2 ^ n) r)
+          ∙ verdict-miss _ _
+          (not-malformed 1 (badNumber n) (sigmaOf f n w)
+          (λ j b. ap not (lt-ltb (at (sigmaOf f n w) j) (2 ^ n) (sigma-lt f n w (p .least) j (rw (sigma-length f n w (p .least)) at b)))))
+          ∙ verdict-miss _ _ (not-malformed 0 (badEntry k) (smallerTable f n w) entry)
+          ∙ verdict-miss _ _ (le-ltb _ n (rw (sigma-independent f n w (p .least)) (omega arith)))
+          ∙ verdict-none,
+      restored-same n w table (p .least) (p .entries),
+    )

@@ -1,0 +1,99 @@
+-- `tables::restore_table` meets its contract: the checks before 8, then 8, and on 0 the restored table. Assumes nothing.
+use mathlib.Core.Path.{_≡_, refl, sym, ap, _∙_}
+use mathlib.Core.List.{[], _∷_}
+use Prim.Native.Nat.{ℕ, _≤_, _<_}
+use native.Mathlib.Omega.{arith}
+use borrow.Author.Tests.{lt-ltb, le-ltb}
+use lib.Dec.{ltb}
+use lib.ListN.{length, replicate}
+use denote.Ref.{now}
+use Rattle.slices.specs.Places.{at}
+use Rattle.block.specs.Refusals.{check, answer, verdict, dependent}
+use Rattle.block.specs.Tables.{restoreVerdict, restored}
+use Rattle.block.specs.declared.Answer.{Answer}
+use Rattle.table_checks.specs.Restoring.{restoreChecked}
+use Rattle.table_checks.specs.Passed.{restore-passed}
+use Rattle.verdicts.specs.Verdicts.{verdict-hit, verdict-miss, verdict-none, part-refuses, part-passes, kept, given}
+use borrow.Author.Needs.{needs}
+use Rattle.tables.proofs.restore_table.Statement.{statement}
+use Rattle.tables.proofs.restore_table.Tie as tie
+
+eight : _≡_ {A = ℕ} 8 0 → ⊥
+eight e = omega arith
+
+restore-checked-requires : tie.Need-restore-checked-requires
+restore-checked-requires c κs = search needs
+
+returns : tie.Need-returns
+unfolding restoreVerdict restoreChecked
+returns c =
+    let a = c .before .before .before .before .before .before .args in
+    let e : c .before .before .restore-checked .result ≡ restoreVerdict (a .n) (a .k) (now (a .sigma)) (now (a .smaller)) (length (now (a .table))) =
+    part-refuses _ (restoreChecked (a .n) (a .k) (now (a .sigma)) (now (a .smaller)) (length (now (a .table)))) _ (c .before .before .restore-checked .ensures) (c .if1 .taken) in
+    (e, kept _ _ (restored (a .n) (now (a .sigma)) (now (a .smaller))) (now (a .table)) e (c .if1 .taken))
+
+slice-aggregate-first-dependent : tie.Need-slice-aggregate-first-dependent
+slice-aggregate-first-dependent c = search needs
+
+first-dependent-requires : tie.Need-first-dependent-requires
+first-dependent-requires c κs =
+    let a = c .before .before .before .before .before .before .before .args in
+    let p = restore-passed (a .n) (a .k) (now (a .sigma)) (now (a .smaller)) (length (now (a .table))) _ (c .before .before .before .restore-checked .ensures) (c .before .if1 .left) in
+    (omega (arith, p .rows), p .inputs, omega (arith, p .inputs), p .below)
+
+refuse-requires : tie.Need-refuse-requires
+refuse-requires c κs = search needs
+
+returns-2 : tie.Need-returns-2
+unfolding restoreVerdict restoreChecked
+returns-2 c =
+    let a = c .before .before .before .before .before .before .before .before .before .before .before .args in
+    let d = c .before .before .before .first-dependent .ensures in
+    let e : c .refuse .result ≡ restoreVerdict (a .n) (a .k) (now (a .sigma)) (now (a .smaller)) (length (now (a .table))) =
+    c .refuse .ensures ∙ ap (λ (j : ℕ). answer 8 j 0) d
+    ∙ sym (verdict-hit (check (ltb (dependent (a .n) (at (now (a .sigma)))) (a .n)) 8 (dependent (a .n) (at (now (a .sigma)))) 0) []
+    (sym (ap (λ (j : ℕ). ltb j (a .n)) d) ∙ lt-ltb _ _ (c .before .if2 .taken)))
+    ∙ part-passes _ (restoreChecked (a .n) (a .k) (now (a .sigma)) (now (a .smaller)) (length (now (a .table)))) _ (c .before .before .before .before .before .before .before .restore-checked .ensures) (refl, (refl, (refl, (refl, (refl, (refl, tt)))))) (c .before .before .before .before .before .if1 .left) in
+    (e, kept _ _ (restored (a .n) (now (a .sigma)) (now (a .smaller))) (now (a .table)) e (λ z. eight (sym (ap (λ (v : Answer). v .number) (c .refuse .ensures)) ∙ z)))
+
+put-restored-requires : tie.Need-put-restored-requires
+put-restored-requires c κs =
+    let a = c .before .before .before .before .before .before .before .before .before .before .before .args in
+    let p = restore-passed (a .n) (a .k) (now (a .sigma)) (now (a .smaller)) (length (now (a .table))) _ (c .before .before .before .before .before .before .before .restore-checked .ensures) (c .before .before .before .before .before .if1 .left) in
+    (p .entries, p .inputs, omega (arith, p .rows), p .space)
+
+refuse-requires-2 : tie.Need-refuse-requires-2
+refuse-requires-2 c κs = search needs
+
+same-length : tie.Need-same-length
+same-length c = search needs
+
+returns-3 : tie.Need-returns-3
+unfolding restoreVerdict restoreChecked
+returns-3 c =
+    let a = c .before .before .before .before .before .before .before .before .before .before .before .before .before .before .before .args in
+    let d = c .before .before .before .before .before .before .before .first-dependent .ensures in
+    let e : c .refuse2 .result ≡ restoreVerdict (a .n) (a .k) (now (a .sigma)) (now (a .smaller)) (length (now (a .table))) =
+    c .refuse2 .ensures
+    ∙ sym (verdict-miss (check (ltb (dependent (a .n) (at (now (a .sigma)))) (a .n)) 8 (dependent (a .n) (at (now (a .sigma)))) 0) []
+    (sym (ap (λ (j : ℕ). ltb j (a .n)) d) ∙ le-ltb _ _ (c .before .before .before .before .before .if2 .left)) ∙ verdict-none)
+    ∙ part-passes _ (restoreChecked (a .n) (a .k) (now (a .sigma)) (now (a .smaller)) (length (now (a .table)))) _ (c .before .before .before .before .before .before .before .before .before .before .before .restore-checked .ensures) (refl, (refl, (refl, (refl, (refl, (refl, tt)))))) (c .before .before .before .before .before .before .before .before .before .if1 .left) in (
+      e,
+      c .before .before .before .put-restored .ensures
+          ∙ given _ _ (restored (a .n) (now (a .sigma)) (now (a .smaller))) (now (a .table)) e (ap (λ (v : Answer). v .number) (c .refuse2 .ensures)),
+    )
+
+pub restore-table-spec : {M : Type 1} → statement M
+restore-table-spec =
+    tie.close
+    (tie.spec
+    restore-checked-requires
+    returns
+    slice-aggregate-first-dependent
+    first-dependent-requires
+    refuse-requires
+    returns-2
+    put-restored-requires
+    refuse-requires-2
+    same-length
+    returns-3)

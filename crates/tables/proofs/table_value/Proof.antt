@@ -1,0 +1,48 @@
+-- `tables::table_value` meets its contract: the verdict, and beside a 0 the value. Assumes nothing.
+use mathlib.Core.Path.{_≡_, sym, ap, _∙_}
+use Prim.Native.Nat.{ℕ}
+use native.Mathlib.Omega.{arith}
+use denote.Ref.{now}
+use Rattle.block.specs.Words.{ofTable}
+use Rattle.block.specs.Measure.{shift}
+use Rattle.block.specs.Tables.{tableValue, withValue}
+use Rattle.block.specs.declared.Answer.{Answer}
+use Rattle.table_checks.specs.Passed.{value-passed}
+use Rattle.verdicts.specs.Verdicts.{value-refused, value-answered}
+use borrow.Author.Needs.{needs}
+use Rattle.tables.proofs.table_value.Statement.{statement}
+use Rattle.tables.proofs.table_value.Tie as tie
+
+table-value-verdict-requires : tie.Need-table-value-verdict-requires
+table-value-verdict-requires c κs = search needs
+
+returns : tie.Need-returns
+unfolding tableValue
+returns c =
+    let a = c .before .before .before .before .args in
+    let x = shift (ofTable (now (a .table))) (a .n) (a .t) in
+    value-refused (c .before .before .table-value-verdict .result) x (c .if1 .taken)
+    ∙ ap (λ (v : Answer). withValue v x) (c .before .before .table-value-verdict .ensures)
+
+shift-at-requires : tie.Need-shift-at-requires
+shift-at-requires c κs =
+    let a = c .before .before .before .before .args in
+    let p = value-passed (a .n) (a .k) (a .t) (now (a .table)) _ (c .before .before .table-value-verdict .ensures) (c .if1 .left) in
+    (p .entries, p .asked, p .inputs)
+
+cast-t8 : tie.Need-cast-t8
+cast-t8 c = search needs
+
+returns-2 : tie.Need-returns-2
+unfolding tableValue
+returns-2 c =
+    let a = c .before .before .before .before .before .args in
+    let x = shift (ofTable (now (a .table))) (a .n) (a .t) in
+    let v = c .before .before .before .table-value-verdict .result in
+    ap (λ (y : ℕ). record { number = v .number; a = v .a; b = v .b; value = y }) (c .shift-at .ensures)
+    ∙ value-answered v x (c .before .if1 .left)
+    ∙ ap (λ (v : Answer). withValue v x) (c .before .before .before .table-value-verdict .ensures)
+
+pub table-value-spec : {M : Type 1} → statement M
+table-value-spec =
+    tie.close (tie.spec table-value-verdict-requires returns shift-at-requires cast-t8 returns-2)

@@ -1,0 +1,81 @@
+//! What comes back (01, Numbers that come back): the answer, the refusal, and
+//! the results of each operation that has more than one.
+
+/// A refusal: its number from 1 to 10 and its places, 0 where not named.
+#[derive(Clone, Copy, Debug, PartialEq, Eq)]
+pub struct Refusal {
+    pub number: u32,
+    pub a: u32,
+    pub b: u32,
+}
+
+impl Refusal {
+    /// The refusal with this number and no places.
+    pub fn plain(number: u32) -> Self {
+        Self::at(number, 0, 0)
+    }
+
+    /// The refusal with this number and these places.
+    pub fn at(number: u32, a: usize, b: usize) -> Self {
+        // Places are indices of rows, of table entries, of steps and of lines
+        // among the first 133, so they always fit.
+        let place = |p| u32::try_from(p).expect("a place fits in 32 bits");
+        Refusal {
+            number,
+            a: place(a),
+            b: place(b),
+        }
+    }
+}
+
+/// An answer: number 0 with results, or a refusal's number and places with
+/// every result 0.
+#[derive(Clone, Copy, Debug, Default, PartialEq, Eq)]
+pub struct Answer<R> {
+    pub number: u32,
+    pub a: u32,
+    pub b: u32,
+    pub results: R,
+}
+
+impl<R: Default> From<Result<R, Refusal>> for Answer<R> {
+    fn from(outcome: Result<R, Refusal>) -> Self {
+        match outcome {
+            Ok(results) => Answer {
+                number: 0,
+                a: 0,
+                b: 0,
+                results,
+            },
+            Err(Refusal { number, a, b }) => Answer {
+                number,
+                a,
+                b,
+                results: R::default(),
+            },
+        }
+    }
+}
+
+/// The measure of the block and that of the smaller block.
+#[derive(Clone, Copy, Debug, Default, PartialEq, Eq)]
+pub struct Measures {
+    pub before: u64,
+    pub after: u64,
+}
+
+/// The results of the row method: both measures and the number of smaller rows.
+#[derive(Clone, Copy, Debug, Default, PartialEq, Eq)]
+pub struct Smaller {
+    pub before: u64,
+    pub after: u64,
+    pub rows: usize,
+}
+
+/// The results of reading text: inputs, outputs and the number of rows.
+#[derive(Clone, Copy, Debug, Default, PartialEq, Eq)]
+pub struct TextHead {
+    pub n: usize,
+    pub k: usize,
+    pub rows: usize,
+}

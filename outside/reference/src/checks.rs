@@ -1,0 +1,109 @@
+//! The refusals 1 to 8 (01, Numbers that come back), one function each. An
+//! operation calls them in the order of the numbers. Not here: 9, which the row
+//! method finds at its steps, and 10, which the reader of text finds.
+
+use crate::{Refusal, Row, NO_OUTPUT, OUTPUTS};
+
+type Check = Result<(), Refusal>;
+
+/// Refuses with this number unless the condition holds.
+fn demand(holds: bool, number: u32) -> Check {
+    if holds {
+        Ok(())
+    } else {
+        Err(Refusal::plain(number))
+    }
+}
+
+/// 1: n outside 1 to `most`.
+pub fn inputs(n: usize, most: usize) -> Check {
+    demand((1..=most).contains(&n), 1)
+}
+
+/// 2: k outside 1 to 15.
+pub fn outputs(k: usize) -> Check {
+    demand((1..=OUTPUTS).contains(&k), 2)
+}
+
+/// 3: w outside 1 to n.
+pub fn weight_limit(w: usize, n: usize) -> Check {
+    demand((1..=n).contains(&w), 3)
+}
+
+/// 3: an asked t not below 2^n.
+pub fn shift(t: usize, n: usize) -> Check {
+    demand(t < 1 << n, 3)
+}
+
+/// 4: rows outside 1 to `most`.
+pub fn rows_given(count: usize, most: usize) -> Check {
+    demand((1..=most).contains(&count), 4)
+}
+
+/// 4: a table or matrix whose length is not the one due.
+pub fn length(given: usize, due: usize) -> Check {
+    demand(given == due, 4)
+}
+
+/// 5: lent result room short of what is due.
+pub fn room(lent: usize, due: usize) -> Check {
+    demand(lent >= due, 5)
+}
+
+/// 6: the least index of a malformed record.
+pub fn records(n: usize, k: usize, rows: &[Row]) -> Check {
+    let malformed = |row: &Row| {
+        row.mask >= 1 << n
+            || row.values >= 1 << n
+            || row.word >= 1 << k
+            || row.values & !row.mask != 0
+    };
+    match rows.iter().position(malformed) {
+        Some(index) => Err(Refusal::at(6, 0, index)),
+        None => Ok(()),
+    }
+}
+
+/// 6: the least index of a table entry neither below 2^k nor 65,535.
+pub fn entries(k: usize, table: &[u16]) -> Check {
+    let malformed = |&entry: &u16| entry != NO_OUTPUT && entry >= 1 << k;
+    match table.iter().position(malformed) {
+        Some(index) => Err(Refusal::at(6, 0, index)),
+        None => Ok(()),
+    }
+}
+
+/// 6: the least index of a matrix row not below 2^n.
+pub fn matrix_rows(n: usize, matrix: &[u32]) -> Check {
+    match matrix.iter().position(|&row| row >= 1 << n) {
+        Some(index) => Err(Refusal::at(6, 1, index)),
+        None => Ok(()),
+    }
+}
+
+/// 7: two rows that share a point: smallest first, then smallest second.
+pub fn disjoint(rows: &[Row]) -> Check {
+    for first in 0..rows.len() {
+        for second in first + 1..rows.len() {
+            if rows[first].meets(&rows[second]) {
+                return Err(Refusal::at(7, first, second));
+            }
+        }
+    }
+    Ok(())
+}
+
+/// 8: the least index of a matrix row that is the XOR of some set of earlier
+/// rows. All those XORs are listed; the empty set's is 0.
+pub fn independent(matrix: &[u32]) -> Check {
+    let mut sums = vec![0];
+    for (index, &row) in matrix.iter().enumerate() {
+        if sums.contains(&row) {
+            return Err(Refusal::at(8, index, 0));
+        }
+        for i in 0..sums.len() {
+            sums.push(sums[i] ^ row);
+        }
+    }
+    Ok(())
+}

@@ -1,0 +1,369 @@
+//! The same operations as one would write them for speed, in plain safe Rust:
+//! the baseline for timing. Answers and refusals are those of the other
+//! modules, and so are the checks and the texts.
+//!
+//! R is worked out once for every candidate: over a table by counting each pair
+//! of points once, over rows from the list of the cubes of t that pairs of rows
+//! add to. The steps then look for the greatest R outside the span of the
+//! chosen numbers, kept in echelon form.
+
+use crate::list::{answer_method, check_fill, check_value, Found};
+use crate::table::{check_method, check_restore};
+use crate::{
+    matrix, sheet as texts, Answer, List, Measures, Refusal, Room, Row, Smaller, NO_OUTPUT,
+    SMALLER_ROWS,
+};
+
+pub use crate::table::table_value;
+pub use crate::text::{read_text, write_text};
+
+/// The span of the numbers put in, in echelon form.
+#[derive(Default)]
+struct Span {
+    /// At each position the number whose highest one-bit it is, or 0.
+    leading: [u32; 32],
+}
+
+impl Span {
+    /// What is left of x after elimination: 0 exactly for numbers in the span.
+    fn rest(&self, mut x: u32) -> u32 {
+        while x != 0 {
+            let number = self.leading[x.ilog2() as usize];
+            if number == 0 {
+                break;
+            }
+            x ^= number;
+        }
+        x
+    }
+
+    /// Puts in a number from outside the span.
+    fn put(&mut self, x: u32) {
+        let rest = self.rest(x);
+        self.leading[rest.ilog2() as usize] = rest;
+    }
+}
+
+/// The n chosen numbers with their R, from the candidates and their R, smallest
+/// candidate first.
+fn basis(n: usize, candidates: &[(u32, u64)]) -> Vec<(u32, u64)> {
+    let mut span = Span::default();
+    let mut chosen = Vec::with_capacity(n);
+    for _ in 0..n {
+        let mut best: Option<(u32, u64)> = None;
+        for &(t, r) in candidates {
+            if best.is_none_or(|(_, greatest)| r > greatest) && span.rest(t) != 0 {
+                best = Some((t, r));
+            }
+        }
+        let best = best.expect("unit numbers are candidates");
+        span.put(best.0);
+        chosen.push(best);
+    }
+    chosen
+}
+
+/// The sum of R at the unit numbers, all of which are candidates.
+fn measure(candidates: &[(u32, u64)]) -> u64 {
+    let units = candidates.iter().filter(|(t, _)| t.is_power_of_two());
+    units.map(|(_, r)| r).sum()
+}
+
+/// The rows of the inverse of the matrix with these independent columns, by
+/// elimination.
+fn inverse(columns: &[u32]) -> Vec<u32> {
+    let n = columns.len();
+    let mut columns = columns.to_vec();
+    let mut inverse: Vec<u32> = (0..n).map(|i| 1 << i).collect();
+    for i in 0..n {
+        let pivot = (i..n)
+            .find(|&j| columns[j] >> i & 1 == 1)
+            .expect("the columns are independent");
+        columns.swap(i, pivot);
+        inverse.swap(i, pivot);
+        for j in 0..n {
+            if j != i && columns[j] >> i & 1 == 1 {
+                columns[j] ^= columns[i];
+                inverse[j] ^= inverse[i];
+            }
+        }
+    }
+    // Now `inverse` has the inverse by columns.
+    (0..n)
+        .map(|j| (0..n).fold(0, |row, i| row | (inverse[i] >> j & 1) << i))
+        .collect()
+}
+
+/// All XORs of the numbers: entry z is that of the numbers at its one-bits.
+fn all_sums(numbers: &[u32]) -> Vec<u32> {
+    let mut sums = Vec::with_capacity(1 << numbers.len());
+    sums.push(0);
+    for &number in numbers {
+        for i in 0..sums.len() {
+            sums.push(sums[i] ^ number);
+        }
+    }
+    sums
+}
+
+/// The table method.
+pub fn table_method(
+    n: usize,
+    k: usize,
+    w: usize,
+    table: &[u16],
+    smaller: &mut [u16],
+    columns: &mut [u32],
+    sigma: &mut [u32],
+) -> Answer<Measures> {
+    let room = [smaller.len(), columns.len(), sigma.len()];
+    if let Err(refusal) = check_method(n, k, w, table, room) {
+        return Err(refusal).into();
+    }
+    // Points without output get words of their own, equal to no other.
+    let words: Vec<u32> = table
+        .iter()
+        .enumerate()
+        .map(|(x, &word)| match word {
+            NO_OUTPUT => 65_536 + x as u32,
+            _ => u32::from(word),
+        })
+        .collect();
+    let candidates: Vec<(u32, u64)> = matrix::candidates(n, w)
+        .map(|t| (t, 2 * equal_pairs(&words, t)))
+        .collect();
+    let chosen = basis(n, &candidates);
+    for (column, &(t, _)) in columns.iter_mut().zip(&chosen) {
+        *column = t;
+    }
+    sigma[..n].copy_from_slice(&inverse(&columns[..n]));
+    for (entry, x) in smaller.iter_mut().zip(all_sums(&columns[..n])) {
+        *entry = table[x as usize];
+    }
+    Ok(Measures {
+        before: measure(&candidates),
+        after: chosen.iter().map(|(_, r)| r).sum(),
+    })
+    .into()
+}
+
+/// How many pairs of points x, x XOR t have equal words; t is not 0.
+fn equal_pairs(words: &[u32], t: u32) -> u64 {
+    let half = 1 << t.ilog2();
+    let low = t as usize - half;
+    let mut count = 0;
+    for block in words.chunks_exact(2 * half) {
+        let (lower, upper) = block.split_at(half);
+        for (i, &word) in lower.iter().enumerate() {
+            count += u32::from(word == upper[i ^ low]);
+        }
+    }
+    u64::from(count)
+}
+
+/// Restoring.
+pub fn restore(
+    n: usize,
+    k: usize,
+    sigma: &[u32],
+    smaller: &[u16],
+    table: &mut [u16],
+) -> Answer<()> {
+    let checked = check_restore(n, k, sigma, smaller, table.len());
+    if let Err(refusal) = checked.and_then(|()| independent(sigma)) {
+        return Err(refusal).into();
+    }
+    let columns: Vec<u32> = (0..n)
+        .map(|i| (0..n).fold(0, |column, j| column | (sigma[j] >> i & 1) << j))
+        .collect();
+    for (entry, z) in table.iter_mut().zip(all_sums(&columns)) {
+        *entry = smaller[z as usize];
+    }
+    Ok(()).into()
+}
+
+/// 8: the least index of a matrix row in the span of those before it.
+fn independent(matrix: &[u32]) -> Result<(), Refusal> {
+    let mut span = Span::default();
+    for (index, &row) in matrix.iter().enumerate() {
+        if span.rest(row) == 0 {
+            return Err(Refusal::at(8, index, 0));
+        }
+        span.put(row);
+    }
+    Ok(())
+}
+
+/// The cubes of t that pairs of rows add to, by mask, value and weight.
+#[derive(Default)]
+struct Cubes {
+    masks: Vec<u32>,
+    values: Vec<u32>,
+    weights: Vec<u32>,
+}
+
+impl Cubes {
+    /// The cubes of all pairs of rows with equal words; that of two different
+    /// rows counts twice, once for each order.
+    fn new(n: usize, rows: &[Row]) -> Cubes {
+        let mut cubes = Cubes::default();
+        for (i, p) in rows.iter().enumerate() {
+            for (j, q) in rows[i..].iter().enumerate() {
+                if p.word != q.word {
+                    continue;
+                }
+                let mask = p.mask & q.mask;
+                let free_in_both = n as u32 - (p.mask | q.mask).count_ones();
+                cubes.masks.push(mask);
+                cubes.values.push(mask & (p.values ^ q.values));
+                cubes.weights.push(1 << (free_in_both + u32::from(j > 0)));
+            }
+        }
+        cubes
+    }
+
+    /// R(t). It is at most 2^n, so it fits in 32 bits.
+    fn sum(&self, t: u32) -> u64 {
+        let cubes = self.masks.iter().zip(&self.values).zip(&self.weights);
+        let sum: u32 = cubes
+            .map(|((&mask, &value), &weight)| if t & mask == value { weight } else { 0 })
+            .sum();
+        u64::from(sum)
+    }
+}
+
+/// A single value of R, each pair of different rows looked at once.
+pub fn row_value(n: usize, k: usize, t: usize, rows: impl List) -> Answer<u64> {
+    let rows = rows.rows();
+    let outcome = check_value(n, k, t, &rows).map(|()| {
+        let t = t as u32;
+        let mut sum = 0;
+        for (i, p) in rows.iter().enumerate() {
+            for (j, q) in rows[i..].iter().enumerate() {
+                if p.word == q.word && (t ^ p.values ^ q.values) & p.mask & q.mask == 0 {
+                    let free_in_both = n as u32 - (p.mask | q.mask).count_ones();
+                    sum += 1 << (free_in_both + u32::from(j > 0));
+                }
+            }
+        }
+        sum
+    });
+    outcome.into()
+}
+
+/// The row method.
+pub fn row_method(
+    n: usize,
+    k: usize,
+    w: usize,
+    rows: impl List,
+    smaller: impl Room,
+    columns: &mut [u32],
+    sigma: &mut [u32],
+) -> Answer<Smaller> {
+    answer_method(n, k, w, rows, smaller, [columns, sigma], find)
+}
+
+/// The row method on a list that was checked.
+fn find(n: usize, w: usize, rows: &[Row]) -> Result<Found, Refusal> {
+    let cubes = Cubes::new(n, rows);
+    let candidates: Vec<(u32, u64)> = matrix::candidates(n, w)
+        .map(|t| (t, cubes.sum(t)))
+        .collect();
+    let chosen = basis(n, &candidates);
+    let columns: Vec<u32> = chosen.iter().map(|&(t, _)| t).collect();
+    Ok(Found {
+        before: measure(&candidates),
+        after: chosen.iter().map(|(_, r)| r).sum(),
+        sigma: inverse(&columns),
+        rows: transformed(rows, &columns)?,
+        columns,
+    })
+}
+
+/// The smaller rows, or refusal 9. The chosen numbers are carried along, so
+/// that each is at hand in the coordinates reached.
+fn transformed(rows: &[Row], columns: &[u32]) -> Result<Vec<Row>, Refusal> {
+    let mut reached = columns.to_vec();
+    let mut rows = rows.to_vec();
+    let mut next = Vec::with_capacity(2 * SMALLER_ROWS);
+    for position in 0..columns.len() {
+        let bit = 1 << position;
+        if reached[position] & bit == 0 {
+            let partner = reached[position].ilog2() as usize;
+            let exchange = |x: &mut u32| {
+                let differ = (*x >> position ^ *x >> partner) & 1;
+                *x ^= differ << position | differ << partner;
+            };
+            reached[position..].iter_mut().for_each(exchange);
+            for row in &mut rows {
+                exchange(&mut row.mask);
+                exchange(&mut row.values);
+            }
+        }
+        let v = reached[position] & !bit;
+        for number in &mut reached[position..] {
+            if *number & bit != 0 {
+                *number ^= v;
+            }
+        }
+        next.clear();
+        for row in &rows {
+            let flips = v & row.mask;
+            if row.mask & bit != 0 {
+                let flips = if row.values & bit != 0 { flips } else { 0 };
+                next.push(Row {
+                    values: row.values ^ flips,
+                    ..*row
+                });
+            } else if flips != 0 {
+                let mask = row.mask | bit;
+                next.push(Row { mask, ..*row });
+                next.push(Row {
+                    mask,
+                    values: (row.values | bit) ^ flips,
+                    ..*row
+                });
+            } else {
+                next.push(*row);
+            }
+        }
+        if next.len() > SMALLER_ROWS {
+            return Err(Refusal::at(9, position + 1, 0));
+        }
+        std::mem::swap(&mut rows, &mut next);
+    }
+    Ok(rows)
+}
+
+/// Filling, row by row over the points that each covers.
+pub fn fill(n: usize, k: usize, rows: impl List, table: &mut [u16]) -> Answer<()> {
+    let rows = rows.rows();
+    if let Err(refusal) = check_fill(n, k, &rows, table.len()) {
+        return Err(refusal).into();
+    }
+    let table = &mut table[..1 << n];
+    table.fill(NO_OUTPUT);
+    for row in &rows {
+        let free = !row.mask & ((1 << n) - 1);
+        let mut part = free;
+        loop {
+            table[(row.values | part) as usize] = row.word as u16;
+            if part == 0 {
+                break;
+            }
+            part = (part - 1) & free;
+        }
+    }
+    Ok(()).into()
+}
+
+/// The sheet.
+pub fn sheet(n: usize, k: usize, w: usize, rows: impl List, bytes: &mut [u8]) -> Answer<usize> {
+    texts::answer_sheet(n, k, w, rows, bytes, find)
+}
+
+/// What the program prints.
+pub fn program(input: &[u8]) -> Vec<u8> {
+    texts::print(input, find)
+}

@@ -1,0 +1,865 @@
+//! Inputs from a seed, the same for the same seed: tables, lists of disjoint
+//! rows, matrices, row texts, and all of these damaged; numbers in and out of
+//! range; rooms short, exact and long. [`Case::new`] draws a whole call of one
+//! operation with everything it is lent.
+
+use crate::list::Step;
+use crate::{
+    fast, matrix, write_text, Answer, Flat, FlatRoom, List, Operations, Row, Smaller, TextHead,
+    FILL_ROWS, NO_OUTPUT, OUTPUTS, ROWS, ROW_INPUTS, SHEET_ROOM, SMALLER_ROWS, TABLE_INPUTS,
+    TEXT_ROOM,
+};
+
+/// A source of numbers that depend on the seed alone (SplitMix64).
+#[derive(Clone, Debug)]
+pub struct Random(u64);
+
+impl Random {
+    pub fn new(seed: u64) -> Random {
+        Random(seed)
+    }
+
+    /// 64 fresh bits.
+    pub fn bits(&mut self) -> u64 {
+        self.0 = self.0.wrapping_add(0x9E37_79B9_7F4A_7C15);
+        let mut z = self.0;
+        z = (z ^ z >> 30).wrapping_mul(0xBF58_476D_1CE4_E5B9);
+        z = (z ^ z >> 27).wrapping_mul(0x94D0_49BB_1331_11EB);
+        z ^ z >> 31
+    }
+
+    /// A number below `end`, which is not 0.
+    pub fn below(&mut self, end: usize) -> usize {
+        (self.bits() % end as u64) as usize
+    }
+
+    /// A number from `low` to `high`.
+    pub fn between(&mut self, low: usize, high: usize) -> usize {
+        low + self.below(high - low + 1)
+    }
+
+    /// True once in so many times.
+    pub fn one_in(&mut self, times: usize) -> bool {
+        self.below(times) == 0
+    }
+
+    /// One of the items.
+    pub fn pick<T: Copy>(&mut self, items: &[T]) -> T {
+        items[self.below(items.len())]
+    }
+
+    /// The items in some order.
+    pub fn shuffle<T>(&mut self, items: &mut [T]) {
+        for end in (1..items.len()).rev() {
+            items.swap(end, self.below(end + 1));
+        }
+    }
+
+    /// A number of at most so many bits.
+    pub fn word(&mut self, bits: usize) -> u32 {
+        (self.bits() & ((1 << bits) - 1)) as u32
+    }
+}
+
+/// A few words below 2^k, so that many of a block's words are equal. Word 0 is
+/// often among them, and words that differ in their highest bit alone.
+pub fn words(random: &mut Random, k: usize) -> Vec<u32> {
+    let count = random.pick(&[1, 2, 2, 3, 4, 6]);
+    let mut words: Vec<u32> = (0..count).map(|_| random.word(k)).collect();
+    if random.one_in(2) {
+        words[0] = 0;
+    }
+    if random.one_in(3) {
+        let high = words[0] ^ 1 << (k - 1);
+        words.push(high);
+    }
+    words
+}
+
+/// A table: of a few words or of any, with or without points that have no
+/// output, with a hidden XOR in it or not.
+pub fn table(random: &mut Random, n: usize, k: usize) -> Vec<u16> {
+    let pool = if random.one_in(6) {
+        (0..64).map(|_| random.word(k)).collect()
+    } else {
+        words(random, k)
+    };
+    let holes = random.pick(&[0, 0, 2, 5, 20]);
+    // Points with the same hidden number get the same word.
+    let hidden = random.between(1, n);
+    let forms: Vec<u32> = (0..hidden).map(|_| random.word(n)).collect();
+    let by_form: Vec<u32> = (0..1 << hidden).map(|_| random.pick(&pool)).collect();
+    let regular = random.one_in(2);
+    (0..1u32 << n)
+        .map(|x| {
+            if holes > 0 && random.one_in(holes) {
+                NO_OUTPUT
+            } else if regular && !random.one_in(24) {
+                by_form[matrix::times_rows(&forms, x) as usize] as u16
+            } else {
+                random.pick(&pool) as u16
+            }
+        })
+        .collect()
+}
+
+/// Disjoint rows, at most `count`, in some order: the whole space split again
+/// and again, with some of the parts left out.
+pub fn rows(random: &mut Random, n: usize, k: usize, count: usize) -> Vec<Row> {
+    let words = words(random, k);
+    let mut rows = vec![Row::default()];
+    let left_out = if random.one_in(2) { count / 8 } else { 0 };
+    let whole = (1 << n) - 1;
+    let mut open = true;
+    while open && rows.len() < count + left_out {
+        open = rows.iter().any(|row| row.mask != whole);
+        let index = random.below(rows.len());
+        let free = whole & !rows[index].mask;
+        if free == 0 {
+            continue;
+        }
+        let positions: Vec<usize> = (0..n).filter(|i| free >> i & 1 == 1).collect();
+        let bit = 1 << random.pick(&positions);
+        rows[index].mask |= bit;
+        let mut half = rows[index];
+        half.values |= bit;
+        rows.push(half);
+    }
+    random.shuffle(&mut rows);
+    rows.truncate(count.max(1));
+    for row in &mut rows {
+        row.word = random.pick(&words);
+    }
+    rows
+}
+
+/// Disjoint rows with hidden XORs: a list of at most `count` rows carried
+/// through steps of its own, as long as it stays within `count`.
+pub fn hidden_rows(random: &mut Random, n: usize, k: usize, count: usize) -> Vec<Row> {
+    let start = random.between(1, count.div_ceil(2));
+    let mut rows = rows(random, n, k, start);
+    let mut positions: Vec<usize> = (0..n).collect();
+    random.shuffle(&mut positions);
+    for position in positions {
+        let number = 1 << position | 1 << random.below(n) | 1 << random.below(n);
+        let step = Step::new(position, number);
+        let next: Vec<Row> = rows.iter().flat_map(|&row| step.row(row)).collect();
+        if next.len() <= count {
+            rows = next;
+        }
+    }
+    rows
+}
+
+/// A list whose number of smaller rows is near 512, on either side of it, with
+/// its n, k and w: the nearest of so many drawn.
+pub fn rows_near_512(random: &mut Random, draws: usize) -> (usize, usize, usize, Vec<Row>) {
+    let draw = |_| {
+        let n = random.between(12, ROW_INPUTS);
+        let k = random.between(1, OUTPUTS);
+        let w = random.between(2, 4);
+        let count = random.between(110, ROWS);
+        let list = hidden_rows(random, n, k, count);
+        // Where the list passes 512 its length is not known; it counts as
+        // somewhat far.
+        let after = smaller_rows(n, k, w, &list);
+        let distance = after.map_or(40, |after| SMALLER_ROWS - after);
+        (distance, (n, k, w, list))
+    };
+    let nearest = (0..draws).map(draw).min_by_key(|(distance, _)| *distance);
+    nearest.expect("at least one list is drawn").1
+}
+
+/// The number of smaller rows, where the row method answers.
+fn smaller_rows(n: usize, k: usize, w: usize, rows: &[Row]) -> Option<usize> {
+    let mut smaller = [Row::default(); SMALLER_ROWS];
+    let [mut columns, mut sigma] = [[0; ROW_INPUTS]; 2];
+    let room = &mut smaller[..];
+    let answer = fast::row_method(n, k, w, rows, room, &mut columns, &mut sigma);
+    (answer.number == 0).then_some(answer.results.rows)
+}
+
+/// A matrix of n rows: nonsingular, or any numbers below 2^n, or with one row
+/// an XOR of earlier ones.
+pub fn matrix_rows(random: &mut Random, n: usize) -> Vec<u32> {
+    if random.one_in(5) {
+        return (0..n).map(|_| random.word(n)).collect();
+    }
+    let mut rows: Vec<u32> = (0..n).map(|i| 1 << i).collect();
+    random.shuffle(&mut rows);
+    for _ in 0..3 * n {
+        let [to, from] = [random.below(n), random.below(n)];
+        if to != from {
+            rows[to] ^= rows[from];
+        }
+    }
+    if random.one_in(4) {
+        let index = random.below(n);
+        let set = random.bits();
+        rows[index] = (0..index)
+            .filter(|i| set >> i & 1 == 1)
+            .fold(0, |sum, i| sum ^ rows[i]);
+    }
+    rows
+}
+
+/// A number mostly from `low` to `high`, at times just outside or far outside.
+pub fn number(random: &mut Random, low: usize, high: usize) -> usize {
+    match random.below(24) {
+        0 => random.pick(&[low.wrapping_sub(1), high.wrapping_add(1)]),
+        1 => random.pick(&[0, 24, 31, 32, 63, 64, 255, 256, 65_536, 1 << 32, usize::MAX]),
+        2 => low,
+        3 => high,
+        _ => random.between(low, high),
+    }
+}
+
+/// A length of room mostly enough for what is due, at times short of it.
+pub fn room(random: &mut Random, due: usize) -> usize {
+    match random.below(24) {
+        0 => due.saturating_sub(1),
+        1 => random.below(due + 1),
+        2 => due + 1,
+        3 => due + random.below(9),
+        _ => due,
+    }
+}
+
+/// Harms one record: a bit too high, a value outside the mask, any numbers.
+pub fn harm_record(random: &mut Random, n: usize, k: usize, rows: &mut [Row]) {
+    if rows.is_empty() {
+        return;
+    }
+    let n = n.min(31);
+    let row = &mut rows[random.below(rows.len())];
+    match random.below(6) {
+        0 => row.mask |= 1 << n,
+        1 => {
+            row.mask |= 1 << n;
+            row.values |= 1 << n;
+        }
+        2 => row.word |= 1 << k.min(31),
+        3 => row.mask &= !row.values,
+        4 => row.values |= random.word(n),
+        _ => {
+            row.mask = random.word(32);
+            row.values = random.word(32);
+            row.word = random.word(32);
+        }
+    }
+}
+
+/// Makes rows share points: frees an input of one, or repeats one.
+pub fn overlap(random: &mut Random, n: usize, rows: &mut Vec<Row>) {
+    if rows.is_empty() {
+        return;
+    }
+    let index = random.below(rows.len());
+    if random.one_in(3) {
+        let row = rows[index];
+        let place = random.below(rows.len() + 1);
+        rows.insert(place, row);
+    } else {
+        let bit = 1 << random.below(n.clamp(1, 31));
+        rows[index].mask &= !bit;
+        rows[index].values &= !bit;
+    }
+}
+
+/// The text of a list within its ranges.
+pub fn text_of(n: usize, k: usize, rows: &[Row]) -> Vec<u8> {
+    let mut text = vec![0; TEXT_ROOM];
+    let written = write_text(n, k, rows, &mut text);
+    assert_eq!(written.number, 0, "the list is within its ranges");
+    text.truncate(written.results);
+    text
+}
+
+/// A row text that has form and ranges; its rows may share points.
+pub fn text(random: &mut Random) -> Vec<u8> {
+    let n = random.between(1, ROW_INPUTS);
+    let k = random.between(1, OUTPUTS);
+    let mut rows = any_rows(random, n, k, ROWS);
+    if random.one_in(12) {
+        overlap(random, n, &mut rows);
+        rows.truncate(ROWS);
+    }
+    text_of(n, k, &rows)
+}
+
+/// A row text with one to three damages, which may undo each other.
+pub fn damaged_text(random: &mut Random) -> Vec<u8> {
+    let mut text = text(random);
+    for _ in 0..random.pick(&[1, 1, 1, 2, 3]) {
+        damage(random, &mut text);
+    }
+    text
+}
+
+/// One damage to a text.
+fn damage(random: &mut Random, text: &mut Vec<u8>) {
+    let place = random.below(text.len() + 1);
+    match random.below(14) {
+        // A byte flipped, another byte, one more, one less.
+        0 if place < text.len() => text[place] ^= 1 << random.below(8),
+        1 if place < text.len() => text[place] = random.pick(b"01- .\n\r\t2e\0"),
+        2 => text.insert(place, random.pick(b"01- .\n\r\t\0")),
+        3 if place < text.len() => drop(text.remove(place)),
+        // Cut short, or its last LF gone.
+        4 => text.truncate(place),
+        5 => drop(text.pop()),
+        // Something after the end, up to past what the program reads.
+        6 => text.push(random.pick(b"\n .0\0")),
+        7 => {
+            let more = random.pick(&[1, 100, 5_000, 9_000]);
+            let byte = random.pick(b"\n01");
+            text.splice(place..place, vec![byte; more]);
+        }
+        // CR before each LF.
+        8 => {
+            let lines = text.split(|&byte| byte == b'\n');
+            *text = lines.collect::<Vec<_>>().join(&b"\r\n"[..]);
+        }
+        // A heading's number replaced by one that has form, or has not.
+        9..=11 => {
+            let line = random.below(3);
+            let number = match random.below(3) {
+                0 => random.pick(&["0", "16", "17", "129", "130", "512", "999"]),
+                1 => random.pick(&["1", "2", "9", "12", "15", "99", "127", "128"]),
+                _ => random.pick(&[
+                    "00",
+                    "01",
+                    "016",
+                    "1000",
+                    "-1",
+                    "+1",
+                    "1 ",
+                    " 1",
+                    "",
+                    "x",
+                    "0x1",
+                    "18446744073709551617",
+                ]),
+            };
+            edit_line(text, line, |line| {
+                line.truncate(3);
+                line.extend_from_slice(number.as_bytes());
+            });
+        }
+        // A line inserted, or a line gone.
+        _ => {
+            let count = text.iter().filter(|&&byte| byte == b'\n').count() + 1;
+            let line = random.below(count);
+            let extra = random.pick(&["", "# note", ".e", ".type fr", ".i 3", "0 1", "-"]);
+            let insert = random.one_in(2);
+            let mut lines: Vec<Vec<u8>> = split(text);
+            if insert {
+                lines.insert(line, extra.into());
+            } else {
+                lines.remove(line);
+            }
+            *text = lines.join(&b'\n');
+        }
+    }
+}
+
+/// The lines of a text, the part after its last LF included.
+fn split(text: &[u8]) -> Vec<Vec<u8>> {
+    let lines = text.split(|&byte| byte == b'\n');
+    lines.map(<[u8]>::to_vec).collect()
+}
+
+/// Edits one line of a text, if it has that many.
+fn edit_line(text: &mut Vec<u8>, line: usize, edit: impl FnOnce(&mut Vec<u8>)) {
+    let mut lines = split(text);
+    if let Some(line) = lines.get_mut(line) {
+        edit(line);
+    }
+    *text = lines.join(&b'\n');
+}
+
+/// Disjoint rows of one of the kinds above, at most `most`, at times near that.
+fn any_rows(random: &mut Random, n: usize, k: usize, most: usize) -> Vec<Row> {
+    let count = match random.below(6) {
+        0 => random.between(most - most / 16, most),
+        1 => random.between(1, most),
+        _ => random.between(1, 24),
+    };
+    if random.one_in(3) {
+        hidden_rows(random, n, k, count)
+    } else {
+        rows(random, n, k, count)
+    }
+}
+
+/// Rows as they are lent in flat slices, lengths equal or not.
+#[derive(Clone, Debug, Default, PartialEq, Eq)]
+pub struct LentRows {
+    pub masks: Vec<u32>,
+    pub values: Vec<u32>,
+    pub words: Vec<u32>,
+}
+
+impl LentRows {
+    pub fn new(rows: &[Row]) -> LentRows {
+        LentRows {
+            masks: rows.iter().map(|row| row.mask).collect(),
+            values: rows.iter().map(|row| row.values).collect(),
+            words: rows.iter().map(|row| row.word).collect(),
+        }
+    }
+
+    /// The rows as a list.
+    pub fn list(&self) -> Flat<'_> {
+        Flat {
+            masks: &self.masks,
+            values: &self.values,
+            words: &self.words,
+        }
+    }
+
+    /// The rows as room.
+    pub fn room(&mut self) -> FlatRoom<'_> {
+        FlatRoom {
+            masks: &mut self.masks,
+            values: &mut self.values,
+            words: &mut self.words,
+        }
+    }
+
+    /// The rows as records, where the lengths are equal.
+    pub fn records(&self) -> Option<Vec<Row>> {
+        let count = self.masks.len();
+        (self.values.len() == count && self.words.len() == count).then(|| self.list().rows())
+    }
+
+    /// Shortens or lengthens one of the slices.
+    fn uneven(&mut self, random: &mut Random) {
+        let slices = [&mut self.masks, &mut self.values, &mut self.words];
+        let index = random.below(slices.len());
+        for (i, slice) in slices.into_iter().enumerate() {
+            if i == index && random.one_in(2) {
+                slice.pop();
+            } else if i == index {
+                slice.push(0);
+            }
+        }
+    }
+}
+
+/// A call of one operation with everything it is lent.
+#[derive(Clone, Debug, PartialEq, Eq)]
+pub enum Case {
+    TableValue {
+        n: usize,
+        k: usize,
+        t: usize,
+        table: Vec<u16>,
+    },
+    TableMethod {
+        n: usize,
+        k: usize,
+        w: usize,
+        table: Vec<u16>,
+        smaller: Vec<u16>,
+        columns: Vec<u32>,
+        sigma: Vec<u32>,
+    },
+    Restore {
+        n: usize,
+        k: usize,
+        sigma: Vec<u32>,
+        smaller: Vec<u16>,
+        table: Vec<u16>,
+    },
+    RowValue {
+        n: usize,
+        k: usize,
+        t: usize,
+        rows: LentRows,
+    },
+    RowMethod {
+        n: usize,
+        k: usize,
+        w: usize,
+        rows: LentRows,
+        smaller: LentRows,
+        columns: Vec<u32>,
+        sigma: Vec<u32>,
+    },
+    Fill {
+        n: usize,
+        k: usize,
+        rows: LentRows,
+        table: Vec<u16>,
+    },
+    ReadText {
+        text: Vec<u8>,
+        rows: LentRows,
+    },
+    WriteText {
+        n: usize,
+        k: usize,
+        rows: LentRows,
+        text: Vec<u8>,
+    },
+    Sheet {
+        n: usize,
+        k: usize,
+        w: usize,
+        rows: LentRows,
+        bytes: Vec<u8>,
+    },
+    Program {
+        input: Vec<u8>,
+    },
+}
+
+impl Case {
+    /// The case of a seed.
+    pub fn new(seed: u64) -> Case {
+        let random = &mut Random::new(seed);
+        match random.below(10) {
+            0 => {
+                let (n, k, table) = any_table(random);
+                let t = number(random, 0, (1 << n.min(16)) - 1);
+                Case::TableValue { n, k, t, table }
+            }
+            1 => {
+                let (n, k, table) = any_table(random);
+                Case::TableMethod {
+                    n,
+                    k,
+                    w: number(random, 1, n.clamp(1, 16)),
+                    table,
+                    smaller: entries(random, 1 << n.min(16)),
+                    columns: numbers(random, n.min(64)),
+                    sigma: numbers(random, n.min(64)),
+                }
+            }
+            2 => {
+                let (n, k, smaller) = any_table(random);
+                let mut sigma = matrix_rows(random, n.clamp(1, 16));
+                if random.one_in(12) {
+                    let index = random.below(sigma.len());
+                    sigma[index] |= 1 << random.between(n.min(31), 31);
+                }
+                if random.one_in(16) {
+                    uneven(random, &mut sigma);
+                }
+                let table = entries(random, 1 << n.min(16));
+                Case::Restore {
+                    n,
+                    k,
+                    sigma,
+                    smaller,
+                    table,
+                }
+            }
+            3 => {
+                let (n, k, rows) = any_list(random, ROW_INPUTS, ROWS);
+                let t = number(random, 0, (1 << n.min(16)) - 1);
+                Case::RowValue { n, k, t, rows }
+            }
+            4 => {
+                let (n, k, w, rows) = method_list(random);
+                let mut smaller = LentRows {
+                    masks: numbers(random, SMALLER_ROWS),
+                    ..LentRows::default()
+                };
+                smaller.values = smaller.masks.clone();
+                smaller.words = smaller.masks.clone();
+                if random.one_in(16) {
+                    smaller.uneven(random);
+                }
+                Case::RowMethod {
+                    n,
+                    k,
+                    w,
+                    rows,
+                    smaller,
+                    columns: numbers(random, n.min(64)),
+                    sigma: numbers(random, n.min(64)),
+                }
+            }
+            5 => {
+                let (n, k, rows) = any_list(random, TABLE_INPUTS, FILL_ROWS);
+                let table = entries(random, 1 << n.min(16));
+                Case::Fill { n, k, rows, table }
+            }
+            6 => {
+                let text = any_text(random);
+                // The .p count where the text still has it, else any.
+                let due = split(&text)
+                    .get(2)
+                    .and_then(|line| std::str::from_utf8(line.get(3..)?).ok()?.parse().ok())
+                    .map_or(ROWS, |due: usize| due.min(1_000));
+                let masks = numbers(random, due);
+                let mut rows = LentRows {
+                    values: masks.clone(),
+                    words: masks.clone(),
+                    masks,
+                };
+                if random.one_in(16) {
+                    rows.uneven(random);
+                }
+                Case::ReadText { text, rows }
+            }
+            7 => {
+                let (n, k, rows) = any_list(random, ROW_INPUTS, ROWS);
+                let text = bytes(random, TEXT_ROOM);
+                Case::WriteText { n, k, rows, text }
+            }
+            8 => {
+                let (n, k, w, rows) = method_list(random);
+                let bytes = bytes(random, SHEET_ROOM);
+                Case::Sheet {
+                    n,
+                    k,
+                    w,
+                    rows,
+                    bytes,
+                }
+            }
+            _ => Case::Program {
+                input: any_text(random),
+            },
+        }
+    }
+
+    /// Runs the call on flat slices: number, A, B and the results in order; what
+    /// was lent then holds what the operation left in it. What the program
+    /// prints takes the place of its input.
+    pub fn run<O: Operations>(&mut self) -> Answer<Vec<u64>> {
+        match self {
+            Case::TableValue { n, k, t, table } => {
+                flat(O::table_value(*n, *k, *t, table), |value| vec![value])
+            }
+            Case::TableMethod {
+                n,
+                k,
+                w,
+                table,
+                smaller,
+                columns,
+                sigma,
+            } => flat(
+                O::table_method(*n, *k, *w, table, smaller, columns, sigma),
+                |measures| vec![measures.before, measures.after],
+            ),
+            Case::Restore {
+                n,
+                k,
+                sigma,
+                smaller,
+                table,
+            } => flat(O::restore(*n, *k, sigma, smaller, table), |()| vec![]),
+            Case::RowValue { n, k, t, rows } => {
+                flat(O::row_value(*n, *k, *t, rows.list()), |value| vec![value])
+            }
+            Case::RowMethod {
+                n,
+                k,
+                w,
+                rows,
+                smaller,
+                columns,
+                sigma,
+            } => flat(
+                O::row_method(*n, *k, *w, rows.list(), smaller.room(), columns, sigma),
+                smaller_results,
+            ),
+            Case::Fill { n, k, rows, table } => {
+                flat(O::fill(*n, *k, rows.list(), table), |()| vec![])
+            }
+            Case::ReadText { text, rows } => flat(O::read_text(text, rows.room()), head_results),
+            Case::WriteText { n, k, rows, text } => {
+                flat(O::write_text(*n, *k, rows.list(), text), |count| {
+                    vec![count as u64]
+                })
+            }
+            Case::Sheet {
+                n,
+                k,
+                w,
+                rows,
+                bytes,
+            } => flat(O::sheet(*n, *k, *w, rows.list(), bytes), |count| {
+                vec![count as u64]
+            }),
+            Case::Program { input } => {
+                *input = O::program(input);
+                Answer::default()
+            }
+        }
+    }
+
+    /// Runs the call on records, where the operation has that form and the lent
+    /// slices have equal lengths.
+    pub fn run_records<O: Operations>(&mut self) -> Option<Answer<Vec<u64>>> {
+        let answer = match self {
+            Case::RowValue { n, k, t, rows } => {
+                let rows = rows.records()?;
+                flat(O::row_value_records(*n, *k, *t, &rows), |value| vec![value])
+            }
+            Case::RowMethod {
+                n,
+                k,
+                w,
+                rows,
+                smaller,
+                columns,
+                sigma,
+            } => {
+                let [rows, mut room] = [rows.records()?, smaller.records()?];
+                let answer = O::row_method_records(*n, *k, *w, &rows, &mut room, columns, sigma);
+                *smaller = LentRows::new(&room);
+                flat(answer, smaller_results)
+            }
+            Case::Fill { n, k, rows, table } => {
+                let rows = rows.records()?;
+                flat(O::fill_records(*n, *k, &rows, table), |()| vec![])
+            }
+            Case::ReadText { text, rows } => {
+                let mut room = rows.records()?;
+                let answer = O::read_text_records(text, &mut room);
+                *rows = LentRows::new(&room);
+                flat(answer, head_results)
+            }
+            Case::WriteText { n, k, rows, text } => {
+                let rows = rows.records()?;
+                flat(O::write_text_records(*n, *k, &rows, text), |count| {
+                    vec![count as u64]
+                })
+            }
+            Case::Sheet {
+                n,
+                k,
+                w,
+                rows,
+                bytes,
+            } => {
+                let rows = rows.records()?;
+                flat(O::sheet_records(*n, *k, *w, &rows, bytes), |count| {
+                    vec![count as u64]
+                })
+            }
+            _ => return None,
+        };
+        Some(answer)
+    }
+}
+
+/// An answer with its results as plain numbers.
+fn flat<R>(answer: Answer<R>, results: impl FnOnce(R) -> Vec<u64>) -> Answer<Vec<u64>> {
+    Answer {
+        number: answer.number,
+        a: answer.a,
+        b: answer.b,
+        results: results(answer.results),
+    }
+}
+
+fn smaller_results(smaller: Smaller) -> Vec<u64> {
+    vec![smaller.before, smaller.after, smaller.rows as u64]
+}
+
+fn head_results(head: TextHead) -> Vec<u64> {
+    vec![head.n as u64, head.k as u64, head.rows as u64]
+}
+
+/// n, k and a table, mostly within their ranges.
+fn any_table(random: &mut Random) -> (usize, usize, Vec<u16>) {
+    let most = random.pick(&[4, 6, 8, TABLE_INPUTS]);
+    let n = number(random, 1, most);
+    let k = number(random, 1, OUTPUTS);
+    let mut table = table(random, n.clamp(1, 13), k.clamp(1, OUTPUTS));
+    if random.one_in(12) {
+        let index = random.below(table.len());
+        let above = 1u16.checked_shl(k as u32).unwrap_or(40_000);
+        let any = random.word(16) as u16;
+        table[index] = random.pick(&[65_534, 32_768, above, any]);
+    }
+    if random.one_in(16) {
+        uneven(random, &mut table);
+    }
+    (n, k, table)
+}
+
+/// n, k and a list, mostly within their ranges and disjoint.
+fn any_list(random: &mut Random, inputs: usize, most: usize) -> (usize, usize, LentRows) {
+    let n = number(random, 1, inputs);
+    let k = number(random, 1, OUTPUTS);
+    let mut rows = any_rows(random, n.clamp(1, 20), k.clamp(1, OUTPUTS), most);
+    let lent = harmed(random, n, k, most, &mut rows);
+    (n, k, lent)
+}
+
+/// n, k, w and a list for the row method, at times with about 512 smaller rows.
+fn method_list(random: &mut Random) -> (usize, usize, usize, LentRows) {
+    if random.one_in(12) {
+        let (n, k, w, rows) = rows_near_512(random, 24);
+        return (n, k, w, LentRows::new(&rows));
+    }
+    let (n, k, rows) = any_list(random, ROW_INPUTS, ROWS);
+    // Few cases with many candidates, for they take long.
+    let most = if random.one_in(40) { 16 } else { 4 };
+    let w = number(random, 1, n.clamp(1, most));
+    (n, k, w, rows)
+}
+
+/// The list with harm at times: too many rows or none, records, overlaps,
+/// unequal lengths.
+fn harmed(random: &mut Random, n: usize, k: usize, most: usize, rows: &mut Vec<Row>) -> LentRows {
+    match random.below(32) {
+        0 => rows.clear(),
+        1 => rows.resize(most + 1, Row::default()),
+        2 | 3 => harm_record(random, n, k, rows),
+        4 | 5 => overlap(random, n, rows),
+        6 => {
+            overlap(random, n, rows);
+            harm_record(random, n, k, rows);
+        }
+        _ => (),
+    }
+    let mut lent = LentRows::new(rows);
+    if random.one_in(24) {
+        lent.uneven(random);
+    }
+    lent
+}
+
+/// A text for the reader, whole or damaged.
+fn any_text(random: &mut Random) -> Vec<u8> {
+    if random.one_in(2) {
+        text(random)
+    } else {
+        damaged_text(random)
+    }
+}
+
+/// Takes the last item away or puts it there twice.
+fn uneven<T: Copy>(random: &mut Random, items: &mut Vec<T>) {
+    match items.last().copied() {
+        Some(last) if random.one_in(2) => items.push(last),
+        _ => drop(items.pop()),
+    }
+}
+
+/// Lent table entries with any contents.
+fn entries(random: &mut Random, due: usize) -> Vec<u16> {
+    let count = room(random, due);
+    (0..count).map(|_| random.word(16) as u16).collect()
+}
+
+/// Lent numbers with any contents.
+fn numbers(random: &mut Random, due: usize) -> Vec<u32> {
+    let count = room(random, due);
+    (0..count).map(|_| random.word(32)).collect()
+}
+
+/// Lent bytes with any contents.
+fn bytes(random: &mut Random, due: usize) -> Vec<u8> {
+    let count = room(random, due);
+    (0..count).map(|_| random.word(8) as u8).collect()
+}

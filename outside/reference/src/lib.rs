@@ -1,0 +1,69 @@
+//! The operations of 01 in plain Rust. A client gets: single values of R, the
+//! table method, restoring, the row method, filling, reading and writing row
+//! text, the sheet, and what the program prints. Every operation takes any
+//! inputs and answers with a number, the places A and B, and its results.
+//!
+//! In order: [`answer`] and [`rows`] hold what goes in and out, [`checks`] the
+//! refusals, [`matrix`] the basis and its inverse, [`table`] and [`list`] the
+//! operations on full tables and on rows, [`text`] and [`sheet`] the texts.
+//! These are written to be read beside 01 and take the long way wherever that
+//! is the plain one. [`fast`] has the same operations as one would write them
+//! for speed, [`operations`] both under one trait, and [`inputs`] makes inputs
+//! from a seed.
+//!
+//! Not here: anything of the proved product. The two share nothing but 01.
+
+pub mod answer;
+pub mod checks;
+pub mod fast;
+pub mod inputs;
+pub mod list;
+pub mod matrix;
+pub mod operations;
+pub mod rows;
+pub mod sheet;
+pub mod table;
+pub mod text;
+
+pub use answer::{Answer, Measures, Refusal, Smaller, TextHead};
+pub use operations::{Fast, Operations, Plain};
+pub use plain::*;
+pub use rows::{Flat, FlatRoom, List, Room, Row};
+
+/// The operations that are written to be read beside 01.
+mod plain {
+    pub use crate::list::{fill, row_method, row_value};
+    pub use crate::sheet::{program, sheet};
+    pub use crate::table::{restore, table_method, table_value};
+    pub use crate::text::{read_text, write_text};
+}
+
+/// The table entry that stands for no output (01, Words and numbers).
+pub const NO_OUTPUT: u16 = 65_535;
+
+/// Most inputs of the row method, its single values, text and sheet.
+pub const ROW_INPUTS: usize = 16;
+
+/// Most inputs of the table method, its single values, filling, restoring.
+pub const TABLE_INPUTS: usize = 12;
+
+/// Most outputs.
+pub const OUTPUTS: usize = 15;
+
+/// Most rows given, but for filling.
+pub const ROWS: usize = 128;
+
+/// Most rows given for filling.
+pub const FILL_ROWS: usize = 512;
+
+/// Most rows of a smaller block, and the room to lend for them.
+pub const SMALLER_ROWS: usize = 512;
+
+/// The room to lend for writing row text.
+pub const TEXT_ROOM: usize = 4_246;
+
+/// The room to lend for a sheet.
+pub const SHEET_ROOM: usize = 17_518;
+
+/// The program reads at most this many bytes.
+pub const PROGRAM_READS: usize = 8_192;

@@ -1,0 +1,203 @@
+//! All operations under one trait, each operation on rows in both forms, so that
+//! one test or one timing runs over any implementation of 01.
+
+use crate::{Answer, Flat, FlatRoom, Measures, Row, Smaller, TextHead};
+
+/// An implementation of 01. What a function is lent and gives is said at the
+/// function of the same name in this library.
+pub trait Operations {
+    fn table_value(n: usize, k: usize, t: usize, table: &[u16]) -> Answer<u64>;
+
+    fn table_method(
+        n: usize,
+        k: usize,
+        w: usize,
+        table: &[u16],
+        smaller: &mut [u16],
+        columns: &mut [u32],
+        sigma: &mut [u32],
+    ) -> Answer<Measures>;
+
+    fn restore(n: usize, k: usize, sigma: &[u32], smaller: &[u16], table: &mut [u16])
+        -> Answer<()>;
+
+    fn row_value(n: usize, k: usize, t: usize, rows: Flat) -> Answer<u64>;
+
+    fn row_value_records(n: usize, k: usize, t: usize, rows: &[Row]) -> Answer<u64>;
+
+    fn row_method(
+        n: usize,
+        k: usize,
+        w: usize,
+        rows: Flat,
+        smaller: FlatRoom,
+        columns: &mut [u32],
+        sigma: &mut [u32],
+    ) -> Answer<Smaller>;
+
+    fn row_method_records(
+        n: usize,
+        k: usize,
+        w: usize,
+        rows: &[Row],
+        smaller: &mut [Row],
+        columns: &mut [u32],
+        sigma: &mut [u32],
+    ) -> Answer<Smaller>;
+
+    fn fill(n: usize, k: usize, rows: Flat, table: &mut [u16]) -> Answer<()>;
+
+    fn fill_records(n: usize, k: usize, rows: &[Row], table: &mut [u16]) -> Answer<()>;
+
+    fn read_text(text: &[u8], room: FlatRoom) -> Answer<TextHead>;
+
+    fn read_text_records(text: &[u8], room: &mut [Row]) -> Answer<TextHead>;
+
+    fn write_text(n: usize, k: usize, rows: Flat, text: &mut [u8]) -> Answer<usize>;
+
+    fn write_text_records(n: usize, k: usize, rows: &[Row], text: &mut [u8]) -> Answer<usize>;
+
+    fn sheet(n: usize, k: usize, w: usize, rows: Flat, bytes: &mut [u8]) -> Answer<usize>;
+
+    fn sheet_records(n: usize, k: usize, w: usize, rows: &[Row], bytes: &mut [u8])
+        -> Answer<usize>;
+
+    fn program(input: &[u8]) -> Vec<u8>;
+}
+
+/// The operations that are written to be read beside 01.
+pub struct Plain;
+
+/// The operations that are written for speed.
+pub struct Fast;
+
+/// The trait for a type, from the functions of a module.
+macro_rules! operations_of {
+    ($name:ident, $module:path) => {
+        impl Operations for $name {
+            fn table_value(n: usize, k: usize, t: usize, table: &[u16]) -> Answer<u64> {
+                use $module as operations;
+                operations::table_value(n, k, t, table)
+            }
+
+            fn table_method(
+                n: usize,
+                k: usize,
+                w: usize,
+                table: &[u16],
+                smaller: &mut [u16],
+                columns: &mut [u32],
+                sigma: &mut [u32],
+            ) -> Answer<Measures> {
+                use $module as operations;
+                operations::table_method(n, k, w, table, smaller, columns, sigma)
+            }
+
+            fn restore(
+                n: usize,
+                k: usize,
+                sigma: &[u32],
+                smaller: &[u16],
+                table: &mut [u16],
+            ) -> Answer<()> {
+                use $module as operations;
+                operations::restore(n, k, sigma, smaller, table)
+            }
+
+            fn row_value(n: usize, k: usize, t: usize, rows: Flat) -> Answer<u64> {
+                use $module as operations;
+                operations::row_value(n, k, t, rows)
+            }
+
+            fn row_value_records(n: usize, k: usize, t: usize, rows: &[Row]) -> Answer<u64> {
+                use $module as operations;
+                operations::row_value(n, k, t, rows)
+            }
+
+            fn row_method(
+                n: usize,
+                k: usize,
+                w: usize,
+                rows: Flat,
+                smaller: FlatRoom,
+                columns: &mut [u32],
+                sigma: &mut [u32],
+            ) -> Answer<Smaller> {
+                use $module as operations;
+                operations::row_method(n, k, w, rows, smaller, columns, sigma)
+            }
+
+            fn row_method_records(
+                n: usize,
+                k: usize,
+                w: usize,
+                rows: &[Row],
+                smaller: &mut [Row],
+                columns: &mut [u32],
+                sigma: &mut [u32],
+            ) -> Answer<Smaller> {
+                use $module as operations;
+                operations::row_method(n, k, w, rows, smaller, columns, sigma)
+            }
+
+            fn fill(n: usize, k: usize, rows: Flat, table: &mut [u16]) -> Answer<()> {
+                use $module as operations;
+                operations::fill(n, k, rows, table)
+            }
+
+            fn fill_records(n: usize, k: usize, rows: &[Row], table: &mut [u16]) -> Answer<()> {
+                use $module as operations;
+                operations::fill(n, k, rows, table)
+            }
+
+            fn read_text(text: &[u8], room: FlatRoom) -> Answer<TextHead> {
+                use $module as operations;
+                operations::read_text(text, room)
+            }
+
+            fn read_text_records(text: &[u8], room: &mut [Row]) -> Answer<TextHead> {
+                use $module as operations;
+                operations::read_text(text, room)
+            }
+
+            fn write_text(n: usize, k: usize, rows: Flat, text: &mut [u8]) -> Answer<usize> {
+                use $module as operations;
+                operations::write_text(n, k, rows, text)
+            }
+
+            fn write_text_records(
+                n: usize,
+                k: usize,
+                rows: &[Row],
+                text: &mut [u8],
+            ) -> Answer<usize> {
+                use $module as operations;
+                operations::write_text(n, k, rows, text)
+            }
+
+            fn sheet(n: usize, k: usize, w: usize, rows: Flat, bytes: &mut [u8]) -> Answer<usize> {
+                use $module as operations;
+                operations::sheet(n, k, w, rows, bytes)
+            }
+
+            fn sheet_records(
+                n: usize,
+                k: usize,
+                w: usize,
+                rows: &[Row],
+                bytes: &mut [u8],
+            ) -> Answer<usize> {
+                use $module as operations;
+                operations::sheet(n, k, w, rows, bytes)
+            }
+
+            fn program(input: &[u8]) -> Vec<u8> {
+                use $module as operations;
+                operations::program(input)
+            }
+        }
+    };
+}
+
+operations_of!(Plain, crate::plain);
+operations_of!(Fast, crate::fast);

@@ -1,0 +1,197 @@
+//! The plain and the fast operations against each other on cases from seeds, in
+//! both forms of rows, and the demands that hold between operations.
+
+use reference::inputs::{self, Case, LentRows, Random};
+use reference::{Fast, Operations, Plain, Row};
+use std::collections::BTreeMap;
+
+/// How many seeds the cases below are drawn from.
+const SEEDS: u64 = 6_000;
+
+#[test]
+fn plain_and_fast_give_the_same_and_refusals_change_nothing() {
+    let mut seen: BTreeMap<(String, u32), usize> = BTreeMap::new();
+    for seed in 0..SEEDS {
+        let case = Case::new(seed);
+        assert_eq!(case, Case::new(seed), "seed {seed}");
+        let mut plain = case.clone();
+        let answer = plain.run::<Plain>();
+        let mut fast = case.clone();
+        assert_eq!(answer, fast.run::<Fast>(), "seed {seed}");
+        assert!(plain == fast, "seed {seed}");
+        for run in [Case::run_records::<Plain>, Case::run_records::<Fast>] {
+            let mut records = case.clone();
+            if let Some(same) = run(&mut records) {
+                assert_eq!(answer, same, "seed {seed}");
+                assert!(plain == records, "seed {seed}");
+            }
+        }
+        if answer.number != 0 {
+            assert!(plain == case, "seed {seed}");
+            assert!(answer.results.iter().all(|&result| result == 0));
+        }
+        let number = match &plain {
+            Case::Program { input } => refusal(input),
+            _ => answer.number,
+        };
+        let name = format!("{case:?}");
+        let name = name.split(' ').next().unwrap().to_string();
+        *seen.entry((name, number)).or_default() += 1;
+    }
+    // Every operation meets every answer it has, and no other; lists that pass
+    // 512 rows are too rare among the program's.
+    for (name, numbers) in [
+        ("TableValue", &[0, 1, 2, 3, 4, 6][..]),
+        ("TableMethod", &[0, 1, 2, 3, 4, 5, 6]),
+        ("Restore", &[0, 1, 2, 4, 5, 6, 8]),
+        ("RowValue", &[0, 1, 2, 3, 4, 6, 7]),
+        ("RowMethod", &[0, 1, 2, 3, 4, 5, 6, 7, 9]),
+        ("Fill", &[0, 1, 2, 4, 5, 6, 7]),
+        ("ReadText", &[0, 1, 2, 4, 5, 10]),
+        ("WriteText", &[0, 1, 2, 4, 5, 6]),
+        ("Sheet", &[0, 1, 2, 3, 4, 5, 6, 7, 9]),
+        ("Program", &[0, 1, 2, 4, 7, 10]),
+    ] {
+        let met: Vec<u32> = seen
+            .keys()
+            .filter(|(operation, _)| operation == name)
+            .map(|(_, number)| *number)
+            .collect();
+        for number in numbers {
+            assert!(met.contains(number), "{name} never answers {number}");
+        }
+        let may = |number: &u32| numbers.contains(number) || (name == "Program" && *number == 9);
+        assert!(met.iter().all(may), "{name}: {met:?}");
+    }
+}
+
+/// The number that the program's print shows.
+fn refusal(printed: &[u8]) -> u32 {
+    let printed = std::str::from_utf8(printed).unwrap();
+    match printed.strip_prefix("refused ") {
+        Some(places) => places.split(' ').next().unwrap().parse().unwrap(),
+        None => {
+            assert!(printed.starts_with("sheet 1\n"));
+            0
+        }
+    }
+}
+
+/// Demands 2 and 3 of the request on lists of at most 12 inputs: both methods
+/// give the same, the smaller rows fill the smaller table, no two of them share
+/// a point, and restoring gives the filled table back.
+#[test]
+fn both_methods_agree_and_restoring_goes_back() {
+    let mut answered = 0;
+    for seed in 0..400 {
+        let random = &mut Random::new(seed);
+        let n = random.between(1, 12);
+        let k = random.between(1, 15);
+        let w = random.between(1, n);
+        let count = random.between(1, 128);
+        let rows = match random.below(2) {
+            0 => inputs::rows(random, n, k, count),
+            _ => inputs::hidden_rows(random, n, k, count),
+        };
+        let mut smaller = [Row::default(); 512];
+        let [mut columns, mut sigma] = [vec![0; n], vec![0; n]];
+        let room = &mut smaller[..];
+        let by_rows = Plain::row_method_records(n, k, w, &rows, room, &mut columns, &mut sigma);
+        if by_rows.number != 0 {
+            assert_eq!(by_rows.number, 9);
+            continue;
+        }
+        answered += 1;
+        let size = 1 << n;
+        let mut table = vec![0; size];
+        assert_eq!(Plain::fill_records(n, k, &rows, &mut table).number, 0);
+        let mut smaller_table = vec![0; size];
+        let [mut table_columns, mut table_sigma] = [vec![0; n], vec![0; n]];
+        let by_table = Plain::table_method(
+            n,
+            k,
+            w,
+            &table,
+            &mut smaller_table,
+            &mut table_columns,
+            &mut table_sigma,
+        );
+        assert_eq!(by_table.number, 0);
+        assert_eq!(by_rows.results.before, by_table.results.before);
+        assert_eq!(by_rows.results.after, by_table.results.after);
+        assert_eq!((columns, &sigma), (table_columns, &table_sigma));
+        let smaller = &smaller[..by_rows.results.rows];
+        let mut filled = vec![0; size];
+        assert_eq!(Plain::fill_records(n, k, smaller, &mut filled).number, 0);
+        assert_eq!(filled, smaller_table);
+        let mut restored = vec![0; size];
+        let back = Plain::restore(n, k, &sigma, &smaller_table, &mut restored);
+        assert_eq!(back.number, 0);
+        assert_eq!(restored, table);
+        for t in [0, 1, size - 1, random.below(size)] {
+            let value = Plain::row_value_records(n, k, t, &rows);
+            assert_eq!(value, Plain::table_value(n, k, t, &table));
+        }
+    }
+    assert!(answered > 350);
+}
+
+/// Text read and written again is the same bytes, rows written and read again
+/// are the same rows.
+#[test]
+fn text_goes_there_and_back() {
+    for seed in 0..300 {
+        let random = &mut Random::new(seed);
+        let text = inputs::text(random);
+        let mut rows = [Row::default(); 128];
+        let read = Plain::read_text_records(&text, &mut rows);
+        assert_eq!(read.number, 0);
+        let head = read.results;
+        let rows = &rows[..head.rows];
+        assert_eq!(inputs::text_of(head.n, head.k, rows), text);
+        let mut lent = LentRows::new(rows);
+        assert_eq!(Plain::read_text(&text, lent.room()), read);
+        assert_eq!(lent.records().unwrap(), rows);
+    }
+}
+
+/// The rows near 512 are there on both sides of it.
+#[test]
+fn lists_near_512_smaller_rows() {
+    let [mut within, mut passed] = [0, 0];
+    for seed in 0..30 {
+        let (n, k, w, rows) = inputs::rows_near_512(&mut Random::new(seed), 60);
+        let mut smaller = [Row::default(); 512];
+        let [mut columns, mut sigma] = [[0; 16]; 2];
+        let room = &mut smaller;
+        let answer = Fast::row_method_records(n, k, w, &rows, room, &mut columns, &mut sigma);
+        match answer.number {
+            0 => within += usize::from(answer.results.rows > 450),
+            number => {
+                assert_eq!(number, 9);
+                passed += 1;
+            }
+        }
+    }
+    assert!(within >= 3 && passed >= 3, "{within} {passed}");
+}
+
+/// Rows of 16 inputs with every number a candidate: slow for the plain form, so
+/// one list alone.
+#[test]
+fn sixteen_inputs_without_weight_limit() {
+    let rows = inputs::hidden_rows(&mut Random::new(5), 16, 15, 128);
+    let lent = || (vec![Row::default(); 512], vec![0; 16], vec![0; 16]);
+    let (mut smaller, mut columns, mut sigma) = lent();
+    let room = &mut smaller;
+    let plain = Plain::row_method_records(16, 15, 16, &rows, room, &mut columns, &mut sigma);
+    let (mut fast_smaller, mut fast_columns, mut fast_sigma) = lent();
+    let room = &mut fast_smaller;
+    let (t, s) = (&mut fast_columns, &mut fast_sigma);
+    let fast = Fast::row_method_records(16, 15, 16, &rows, room, t, s);
+    assert_eq!(plain, fast);
+    assert_eq!(
+        (smaller, columns, sigma),
+        (fast_smaller, fast_columns, fast_sigma)
+    );
+}

@@ -1,0 +1,322 @@
+//! 01's blocks to try by hand, cases a to j and those after them, the sheet's
+//! example, and Example 2 of document 000. Each is asked of the plain and of the
+//! fast operations.
+
+use reference::{fast, Row, NO_OUTPUT};
+
+/// Rows as 01 writes them: "symbols word".
+fn list(lines: &[&str]) -> Vec<Row> {
+    let row = |line: &&str| {
+        let (symbols, word) = line.split_once(' ').unwrap();
+        let bits = |one: fn(char) -> bool| {
+            symbols
+                .chars()
+                .fold(0, |sum, symbol| sum << 1 | u32::from(one(symbol)))
+        };
+        Row {
+            mask: bits(|symbol| symbol != '-'),
+            values: bits(|symbol| symbol == '1'),
+            word: u32::from_str_radix(word, 2).unwrap(),
+        }
+    };
+    lines.iter().map(row).collect()
+}
+
+/// Number, A, B, measures, T, sigma and smaller table of the table method with
+/// all the room it asks for.
+type TableAnswer = ([u32; 3], [u64; 2], Vec<u32>, Vec<u32>, Vec<u16>);
+
+fn table_method(n: usize, k: usize, w: usize, table: &[u16]) -> TableAnswer {
+    let mut lent = (vec![7; n], vec![7; n], vec![7; table.len()]);
+    let mut fast_lent = lent.clone();
+    let got = reference::table_method(n, k, w, table, &mut lent.2, &mut lent.0, &mut lent.1);
+    let (smaller, columns, sigma) = (&mut fast_lent.2, &mut fast_lent.0, &mut fast_lent.1);
+    let fast = fast::table_method(n, k, w, table, smaller, columns, sigma);
+    assert_eq!(got, fast);
+    assert_eq!(lent, fast_lent);
+    let number = [got.number, got.a, got.b];
+    let measures = [got.results.before, got.results.after];
+    (number, measures, lent.0, lent.1, lent.2)
+}
+
+/// The same of the row method.
+type RowAnswer = ([u32; 3], [u64; 2], Vec<u32>, Vec<u32>, Vec<Row>);
+
+fn row_method(n: usize, k: usize, w: usize, rows: &[Row]) -> RowAnswer {
+    let mut lent = (vec![7; n], vec![7; n], vec![Row::default(); 512]);
+    let mut fast_lent = lent.clone();
+    let room = &mut lent.2[..];
+    let got = reference::row_method(n, k, w, rows, room, &mut lent.0, &mut lent.1);
+    let room = &mut fast_lent.2[..];
+    let (columns, sigma) = (&mut fast_lent.0, &mut fast_lent.1);
+    let fast = fast::row_method(n, k, w, rows, room, columns, sigma);
+    assert_eq!(got, fast);
+    assert_eq!(lent, fast_lent);
+    lent.2.truncate(got.results.rows);
+    let number = [got.number, got.a, got.b];
+    let measures = [got.results.before, got.results.after];
+    (number, measures, lent.0, lent.1, lent.2)
+}
+
+/// The number of the row method's answer.
+fn row_number(n: usize, k: usize, w: usize, rows: &[Row]) -> u32 {
+    row_method(n, k, w, rows).0[0]
+}
+
+const ANSWERED: [u32; 3] = [0, 0, 0];
+
+#[test]
+fn case_a() {
+    let table = [0, 1, 1, 0];
+    let values = (0..4).map(|t| reference::table_value(2, 1, t, &table).results);
+    assert_eq!(values.collect::<Vec<_>>(), [4, 0, 0, 4]);
+    let due = (ANSWERED, [0, 4], vec![3, 1], vec![2, 3], vec![0, 0, 1, 1]);
+    assert_eq!(table_method(2, 1, 2, &table), due);
+}
+
+#[test]
+fn case_b() {
+    let (number, measures, columns, ..) = table_method(2, 1, 1, &[0, 1, 1, 0]);
+    assert_eq!((number, measures, columns), (ANSWERED, [0, 0], vec![1, 2]));
+}
+
+#[test]
+fn case_c() {
+    let (number, measures, columns, ..) = row_method(1, 1, 1, &list(&["- 1"]));
+    assert_eq!((number, measures, columns), (ANSWERED, [2, 2], vec![1]));
+}
+
+#[test]
+fn case_d() {
+    let rows = list(&["0 011111111", "1 111111111"]);
+    let got = reference::row_value(1, 9, 1, &rows[..]);
+    assert_eq!((got.number, got.results), (0, 0));
+    assert_eq!(got, fast::row_value(1, 9, 1, &rows[..]));
+}
+
+const SHEET_BLOCK: [&str; 4] = ["00- 01", "11- 01", "01- 10", "10- 10"];
+
+#[test]
+fn case_e() {
+    let (number, _, columns, sigma, _) = row_method(3, 2, 3, &list(&SHEET_BLOCK));
+    assert_eq!(number, ANSWERED);
+    assert_eq!((columns, sigma), (vec![1, 6, 2], vec![1, 4, 6]));
+}
+
+#[test]
+fn case_f() {
+    let rows = list(&["--0 01", "001 10", "111 10", "011 11", "101 11"]);
+    let smaller = list(&["0-- 01", "100 10", "101 10", "110 11", "111 11"]);
+    let due = (ANSWERED, [8, 12], vec![6, 2, 1], vec![4, 6, 1], smaller);
+    assert_eq!(row_method(3, 2, 3, &rows), due);
+}
+
+#[test]
+fn case_g() {
+    let rows = list(&[
+        "-00 01", "110 01", "010 00", "001 10", "111 10", "011 11", "101 11",
+    ]);
+    let (number, measures, columns, _, smaller) = row_method(3, 2, 3, &rows);
+    assert_eq!(number, ANSWERED);
+    assert_eq!((measures, columns), ([4, 8], vec![6, 2, 1]));
+    assert_eq!(smaller.len(), 8);
+    assert_eq!(smaller[..2], list(&["000 01", "011 01"]));
+}
+
+#[test]
+fn case_h() {
+    let rows = list(&["0- 1", "-0 1"]);
+    let (number, measures, columns, ..) = row_method(2, 1, 2, &rows);
+    assert_eq!((number, measures), ([7, 0, 1], [0, 0]));
+    assert_eq!(columns, [7, 7]);
+    let got = reference::row_value(2, 1, 0, &rows[..]);
+    assert_eq!((got.number, got.a, got.b), (7, 0, 1));
+    let got = reference::fill(2, 1, &rows[..], &mut [0; 4]);
+    assert_eq!((got.number, got.a, got.b), (7, 0, 1));
+    // Writing text does not look for it.
+    let got = reference::write_text(2, 1, &rows[..], &mut [0; 4_246]);
+    assert_eq!((got.number, got.results), (0, 5 + 5 + 5 + 10 + 3));
+}
+
+#[test]
+fn case_i() {
+    for restore in [reference::restore, fast::restore] {
+        let mut table = [9; 5];
+        let got = restore(2, 1, &[2, 3], &[0, 0, 1, 1], &mut table);
+        assert_eq!(got.number, 0);
+        assert_eq!(table, [0, 1, 1, 0, 9]);
+    }
+}
+
+#[test]
+fn case_j() {
+    for (matrix, due) in [([3, 3], (8, 1, 0)), ([0, 1], (8, 0, 0))] {
+        for restore in [reference::restore, fast::restore] {
+            let mut table = [9; 4];
+            let got = restore(2, 1, &matrix, &[0, 0, 1, 1], &mut table);
+            assert_eq!((got.number, got.a, got.b), due);
+            assert_eq!(table, [9; 4]);
+        }
+    }
+}
+
+const SHEET_TEXT: &str = ".i 3\n.o 2\n.p 4\n00- 01\n11- 01\n01- 10\n10- 10\n.e\n";
+
+const SHEET: &str = "sheet 1\nsize 3\n3\n2\n3\nmeasure 2\n8\n16\n\
+    basis 3\n001\n110\n010\nsigma 3\n001\n100\n110\n\
+    table 4\n00- 01\n01- 01\n10- 10\n11- 10\n";
+
+#[test]
+fn the_sheet_of_the_example() {
+    for program in [reference::program, fast::program] {
+        assert_eq!(program(SHEET_TEXT.as_bytes()), SHEET.as_bytes());
+    }
+    let rows = list(&SHEET_BLOCK);
+    let mut bytes = [b'x'; 17_519];
+    let got = reference::sheet(3, 2, 3, &rows[..], &mut bytes);
+    assert_eq!((got.number, got.results), (0, SHEET.len()));
+    let (sheet, beyond) = bytes.split_at(SHEET.len());
+    assert_eq!(sheet, SHEET.as_bytes());
+    assert!(beyond.iter().all(|&byte| byte == b'x'));
+    let got = reference::sheet(3, 2, 3, &rows[..], &mut bytes[..17_517]);
+    assert_eq!((got.number, got.results), (5, 0));
+}
+
+#[test]
+fn text_read_and_written_again_is_the_same() {
+    let mut rows = [Row::default(); 5];
+    let read = reference::read_text(SHEET_TEXT.as_bytes(), &mut rows[..]);
+    let head = read.results;
+    assert_eq!((read.number, head.n, head.k, head.rows), (0, 3, 2, 4));
+    assert_eq!(rows[..4], list(&SHEET_BLOCK));
+    assert_eq!(rows[4], Row::default());
+    let mut text = [0; 4_246];
+    let wrote = reference::write_text(3, 2, &rows[..4], &mut text);
+    assert_eq!(&text[..wrote.results], SHEET_TEXT.as_bytes());
+}
+
+#[test]
+fn the_order_in_which_text_is_refused() {
+    let number = |text: &str, room: usize| {
+        let mut rows = vec![Row::default(); room];
+        let got = reference::read_text(text.as_bytes(), &mut rows[..]);
+        assert!(rows.iter().all(|row| *row == Row::default()));
+        assert_eq!(got.results, Default::default());
+        (got.number, got.a, got.b)
+    };
+    assert_eq!(number("", 9), (10, 1, 0));
+    assert_eq!(number(".i 99\n.o 1\n.p x\n", 9), (10, 3, 0));
+    assert_eq!(number(".i 99\n.o 99\n.p 999\n", 0), (1, 0, 0));
+    assert_eq!(number(".i 0\n.o 1\n.p 1\n", 9), (1, 0, 0));
+    assert_eq!(number(".i 1\n.o 16\n.p 0\n", 9), (2, 0, 0));
+    assert_eq!(number(".i 1\n.o 1\n.p 0\n", 9), (4, 0, 0));
+    assert_eq!(number(".i 1\n.o 1\n.p 999\n", 9), (4, 0, 0));
+    assert_eq!(number(".i 1\n.o 1\n.p 2\n", 1), (5, 0, 0));
+    assert_eq!(number(".i 1\n.o 1\n.p 2\n", 2), (10, 4, 0));
+    assert_eq!(number(".i 1\n.o 1\n.p 00\n", 2), (10, 3, 0));
+    assert_eq!(number(".i 016\n.o 1\n.p 1\n", 2), (10, 1, 0));
+    assert_eq!(number(".i 1\n.o 1000\n.p 1\n", 2), (10, 2, 0));
+    assert_eq!(number(".i 1\n.o 1\n.p 1", 2), (10, 3, 0));
+    assert_eq!(number(".i 1\n.o 1\n.p 1\n0 1\n.e", 2), (10, 5, 0));
+    assert_eq!(number(".i 1\n.o 1\n.p 1\n0 1\n.e\n\n", 2), (10, 6, 0));
+    assert_eq!(number(".i 1\n.o 1\n.p 1\n0  1\n.e\n", 2), (10, 4, 0));
+    assert_eq!(number(".i 1\n.o 1\n.p 1\n0 1\r\n.e\n", 2), (10, 4, 0));
+}
+
+#[test]
+fn ranges() {
+    let one = [Row::default()];
+    assert_eq!(row_number(16, 1, 1, &one), 0);
+    assert_eq!(row_number(17, 1, 1, &one), 1);
+    assert_eq!(row_number(0, 1, 1, &one), 1);
+    assert_eq!(row_number(3, 15, 1, &one), 0);
+    assert_eq!(row_number(3, 16, 1, &one), 2);
+    assert_eq!(row_number(3, 0, 1, &one), 2);
+    assert_eq!(row_number(3, 1, 3, &one), 0);
+    assert_eq!(row_number(3, 1, 4, &one), 3);
+    assert_eq!(row_number(3, 1, 0, &one), 3);
+    let points = |count: u32| -> Vec<Row> {
+        (0..count)
+            .map(|values| Row {
+                mask: 255,
+                values,
+                word: values & 1,
+            })
+            .collect()
+    };
+    assert_eq!(row_number(8, 1, 3, &points(0)), 4);
+    assert_eq!(row_number(8, 1, 3, &points(1)), 0);
+    assert_eq!(row_number(8, 1, 3, &points(128)), 0);
+    assert_eq!(row_number(8, 1, 3, &points(129)), 4);
+    let none = vec![NO_OUTPUT; 1 << 12];
+    let (number, measures, columns, sigma, smaller) = table_method(12, 15, 12, &none);
+    assert_eq!((number, measures), (ANSWERED, [0, 0]));
+    assert_eq!(columns, (0..12).map(|i| 1 << i).collect::<Vec<u32>>());
+    assert_eq!(columns, sigma);
+    assert_eq!(smaller, none);
+    let mut lent = ([0; 1 << 13], [0; 13], [0; 13]);
+    let table = &[0; 1 << 13];
+    let got = reference::table_method(13, 1, 1, table, &mut lent.0, &mut lent.1, &mut lent.2);
+    assert_eq!(got.number, 1);
+    let most = usize::MAX;
+    assert_eq!(reference::table_value(most, most, most, &[]).number, 1);
+    assert_eq!(reference::table_value(1, most, most, &[]).number, 2);
+    assert_eq!(reference::table_value(1, 1, most, &[]).number, 3);
+    assert_eq!(reference::table_value(1, 1, 1, &[]).number, 4);
+}
+
+#[test]
+fn flat_slices_of_unequal_length() {
+    use reference::{Flat, FlatRoom};
+    let flat = |masks, values, words| Flat {
+        masks,
+        values,
+        words,
+    };
+    assert_eq!(
+        reference::row_value(1, 1, 0, flat(&[0], &[0], &[0, 0])).number,
+        4
+    );
+    assert_eq!(
+        reference::row_value(1, 1, 0, flat(&[0], &[0], &[0])).number,
+        0
+    );
+    let mut long = [[5; 512], [5; 512]];
+    let mut short = [5; 511];
+    let [masks, values] = &mut long;
+    let room = FlatRoom {
+        masks,
+        values,
+        words: &mut short,
+    };
+    let list = flat(&[0], &[0], &[0]);
+    let got = reference::row_method(1, 1, 1, list, room, &mut [0], &mut [0]);
+    assert_eq!(got.number, 5);
+    assert_eq!((long, short), ([[5; 512], [5; 512]], [5; 511]));
+}
+
+/// Document 000, Example 2: its cubes, its R and Table 3's measures.
+#[test]
+fn document_000_example_2() {
+    let rows = list(&[
+        "0100 000", "0011 000", "1-00 001", "0-10 001", "0101 010", "000- 010", "1-1- 010",
+        "1-01 011", "0111 100",
+    ]);
+    let values = (0..16).map(|t| reference::row_value(4, 3, t, &rows[..]).results);
+    let due = [16, 6, 0, 0, 12, 6, 0, 2, 0, 0, 10, 6, 0, 0, 10, 6];
+    assert_eq!(values.collect::<Vec<_>>(), due);
+    let (number, measures, columns, sigma, smaller) = row_method(4, 3, 4, &rows);
+    assert_eq!((number, measures), (ANSWERED, [18, 30]));
+    assert_eq!(columns, [4, 10, 1, 7]);
+    // Its matrix sigma, lowest row first.
+    assert_eq!(sigma, [0b1110, 0b1000, 0b1011, 0b1010]);
+
+    let mut table = [0; 16];
+    assert_eq!(reference::fill(4, 3, &rows[..], &mut table).number, 0);
+    let of_table = table_method(4, 3, 4, &table);
+    assert_eq!(of_table.1, [18, 30]);
+    assert_eq!((of_table.2, of_table.3), (columns, sigma));
+    let mut filled = [0; 16];
+    assert_eq!(reference::fill(4, 3, &smaller[..], &mut filled).number, 0);
+    assert_eq!(of_table.4, filled);
+}
