@@ -1,28 +1,19 @@
--- A list of rows in three flat slices: its length and its rows by place; what a range's test says; the least malformed row.
--- Assumes nothing.
-use mathlib.Core.Path.{_≡_, refl, sym, ap, ap₂, _∙_}
-use mathlib.Core.Bool.{Bool, true, false, cond, _&&_, _||_}
+-- A list of rows in three flat slices: its length and its rows by place; the least malformed row; what the number of
+-- rows says of the slices. Assumes nothing.
+use mathlib.Core.Path.{_≡_, refl, sym, ap, _∙_}
+use mathlib.Core.Bool.{Bool, true, false, cond, _&&_}
 use mathlib.Core.List.{List, []}
 use Prim.Native.Nat.{ℕ, _≤_, _<_}
 use native.Mathlib.Omega.{arith}
-use borrow.Author.Tests.{eq-eqb, ne-eqb, eqb-true, ltb-false}
-use lib.Dec.{eqb, ltb}
+use borrow.Author.Tests.{eq-eqb, ne-eqb, eqb-true}
+use lib.Dec.{eqb}
 use lib.ListN.{length}
 use Rattle.slices.specs.Places.{at, tab, first}
 use Rattle.slices.specs.Filled.{length-tab, tab-at}
 use Rattle.slices.specs.Least.{first-is}
 use Rattle.block.specs.Words.{row, rowsOf}
-use Rattle.block.specs.Refusals.{outside, badRow, rowAt}
+use Rattle.block.specs.Refusals.{badRow, rowAt}
 use Rattle.block.specs.declared.Row.{Row}
-
--- what a range's test says
-pub within : (lo hi x : ℕ) → outside lo hi x ≡ false → (lo ≤ x) × (x ≤ hi)
-within lo hi x e = go (ltb x lo) (ltb hi x) refl refl e
-  where
-    go : (a b : Bool) → ltb x lo ≡ a → ltb hi x ≡ b → a || b ≡ false → (lo ≤ x) × (x ≤ hi)
-    go false false p q e = (ltb-false x lo p, ltb-false hi x q)
-    go false true p q e = let z : _≡_ {A = ℕ} 0 1 = cc in absurd (omega arith)
-    go true b p q e = let z : _≡_ {A = ℕ} 0 1 = cc in absurd (omega arith)
 
 -- the first p rows of three flat slices
 abbrev pub rowsFrom : ℕ → List ℕ → List ℕ → List ℕ → List Row
@@ -76,3 +67,18 @@ module _ (masks values words : List ℕ) where
       (first-is (length (rowsOf masks values words)) (λ i. badRow n k (rowAt (rowsOf masks values words) i)) r (omega arith)
       (λ j h. ap (badRow n k) (row-at e f j (omega arith)) ∙ a j h)
       (λ h. ap (badRow n k) (row-at e f r (omega arith)) ∙ b (omega arith)))
+
+-- ---- a list of a bounded number of rows
+
+-- the slices have one length, from 1 to most
+pub record Listed (most : ℕ) (masks values words : List ℕ) : Type 0 where
+  pub values-too : length values ≡ length masks
+  pub words-too : length words ≡ length masks
+  pub some : 1 ≤ length masks
+  pub few : length masks ≤ most
+
+-- a greater bound holds too
+pub listed-more : (most more : ℕ) (masks values words : List ℕ) → most ≤ more → Listed most masks values words
+    → Listed more masks values words
+listed-more most more masks values words h l =
+    record { values-too = l .values-too; words-too = l .words-too; some = l .some; few = omega arith }

@@ -1,22 +1,12 @@
-// The checks of a list of rows that lies in three flat slices: a number's range, how many rows there are (4), and the least
-// malformed row (6). All functions here are inner: the operations on lists and on row text call them.
+// What the checks look at in a list of rows that lies in three flat slices: how many rows there are (4), and the least malformed
+// row (6). All functions here are inner: the operations on lists and on row text call them.
 ghost use mathlib.Core.Path.{_≡_};
 ghost use Prim.Native.Nat.{_≤_, _^_};
 ghost use lib.Dec.{ltb};
 ghost use lib.ListN.{length};
 ghost use Rattle.slices.specs.Places.{first};
 ghost use Rattle.block.specs.Words.{row, rowsOf};
-ghost use Rattle.block.specs.Refusals.{outside, badRow, rowAt};
-
-// Whether x lies outside lo to hi.
-pub fn is_outside(lo: usize, hi: usize, x: usize) -> bool
-    ensures { λ r. ⌜ r ≡ outside lo hi x ⌝ }
-{
-    if x < lo {
-        return true;
-    }
-    hi < x
-}
+ghost use Rattle.block.specs.Refusals.{badRow, rowAt};
 
 // How many rows the slices hold: none where their lengths differ.
 pub fn row_count(masks: &[u32], values: &[u32], words: &[u32]) -> usize

@@ -13,7 +13,7 @@ use Rattle.block.specs.Refusals.{answer, verdict, outside, some, badRow, rowAt}
 use Rattle.block.specs.Text.{writeVerdict}
 use Rattle.block.specs.declared.Row.{Row}
 use Rattle.block.specs.declared.Answer.{Answer}
-use Rattle.listing.specs.Listing.{within}
+use Rattle.checks.specs.Sizes.{inside}
 
 -- n, k and the number of rows are in range, the room is long enough, and no row is malformed
 pub record Writable (n k : ℕ) (rs : List Row) (room : ℕ) : Type 0 where
@@ -43,9 +43,9 @@ writable n k rs room e =
     go false false false false true p q r s t e = absurd (omega arith)
     go false false false false false p q r s t e =
         record {
-          inputs = within 1 16 n p;
-          outputs = within 1 15 k q;
-          count = within 1 128 (length rs) r;
+          inputs = inside 1 16 n p;
+          outputs = inside 1 15 k q;
+          count = inside 1 128 (length rs) r;
           enough = ltb-false room 4246 s;
           rows =
               λ i h.

@@ -28,14 +28,14 @@ pub fn write_checks(
 ) -> Answer
     ensures { λ r. ⌜ r ≡ writeVerdict n k (rowsOf (now (masks .entry)) (now (values .entry)) (now (words .entry))) room ⌝ }
 {
-    if listing::is_outside(1, 16, n) {
+    if checks::is_outside(1, 16, n) {
         return answer_of(1, 0);
     }
-    if listing::is_outside(1, 15, k) {
+    if checks::is_outside(1, 15, k) {
         return answer_of(2, 0);
     }
     let count = listing::row_count(masks, values, words);
-    if listing::is_outside(1, 128, count) {
+    if checks::is_outside(1, 128, count) {
         return answer_of(4, 0);
     }
     if room < 4246 {

@@ -9,7 +9,8 @@ use denote.Ref.{now}
 use lib.ListN.{length}
 use Rattle.block.specs.Refusals.{verdict}
 use Rattle.rowtext.specs.Checks.{last-check}
-use Rattle.listing.specs.Listing.{within, rows-count, equal-lengths}
+use Rattle.listing.specs.Listing.{rows-count, equal-lengths}
+use Rattle.checks.specs.Sizes.{inside}
 use Rattle.block.specs.Text.{writeVerdict}
 use Rattle.block.specs.Words.{rowsOf}
 use Rattle.rowtext.proofs.write_checks.Statement.{statement}
@@ -58,9 +59,9 @@ returns-4 c = rw (sym (c .before .before .before .before .before .before .before
 first-bad-row-requires : tie.Need-first-bad-row-requires
 first-bad-row-requires c κs =
     let a = c .before .before .before .before .before .before .before .before .before .before .before .args in
-    let n : (1 ≤ a .n) × (a .n ≤ 16) = within 1 16 (a .n) (sym (c .before .before .before .before .before .before .before .is-outside .ensures) ∙ c .before .before .before .before .before .before .if1 .left) in
-    let k : (1 ≤ a .k) × (a .k ≤ 15) = within 1 15 (a .k) (sym (c .before .before .before .before .before .is-outside2 .ensures) ∙ c .before .before .before .before .if2 .left) in
-    let p = within 1 128 (c .before .before .before .row-count .result) (sym (c .before .before .is-outside3 .ensures) ∙ c .before .if3 .left) in
+    let n : (1 ≤ a .n) × (a .n ≤ 16) = inside 1 16 (a .n) (sym (c .before .before .before .before .before .before .before .is-outside .ensures) ∙ c .before .before .before .before .before .before .if1 .left) in
+    let k : (1 ≤ a .k) × (a .k ≤ 15) = inside 1 15 (a .k) (sym (c .before .before .before .before .before .is-outside2 .ensures) ∙ c .before .before .before .before .if2 .left) in
+    let p = inside 1 128 (c .before .before .before .row-count .result) (sym (c .before .before .is-outside3 .ensures) ∙ c .before .if3 .left) in
     let e = equal-lengths (now (a .masks)) (now (a .values)) (now (a .words)) (omega (arith, c .before .before .before .row-count .ensures)) in
     let l = rows-count (now (a .masks)) (now (a .values)) (now (a .words)) (e .0) (e .1) in
     ((omega arith, omega arith, omega (arith, c .before .before .before .row-count .ensures)), e)

@@ -1,0 +1,2 @@
+-- Cubes in three lent lists, and R by them.
+pub mod Stored

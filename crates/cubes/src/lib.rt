@@ -1,0 +1,215 @@
+// R of a list of rows by cubes (document 003, Theorem 1): one cube for each pair of rows with equal words, its parts laid out in three
+// slices; what the cubes add at one t, and at every t of a bounded weight. Every function here is inner.
+ghost use mathlib.Core.Path.{_≡_};
+ghost use mathlib.Core.Bool.{cond};
+ghost use Prim.Native.Nat.{ℕ, _-_, _*_, _≤_, _<_, _^_};
+ghost use lib.Bits.{bitAnd, bitXor, bitOr};
+ghost use lib.Count.{ones};
+ghost use lib.Dec.{eqb};
+ghost use lib.ListN.{length, set};
+ghost use Rattle.slices.specs.Places.{at, tab, over};
+ghost use Rattle.block.specs.Words.{ofRows, rowsOf};
+ghost use Rattle.block.specs.Measure.{shift};
+ghost use Rattle.pairs.specs.Cube.{Sound};
+ghost use Rattle.pairs.specs.Theorem.{Every, Disjoint};
+ghost use Rattle.pairs.specs.Symmetric.{cubesOf};
+ghost use Rattle.listing.specs.Listing.{Listed};
+ghost use Rattle.cubes.specs.Stored.{CubesAt, addedBy, limited};
+
+// Whether two words are equal, in all their columns; word 0 is a word like any other.
+pub fn same_word(a: u32, b: u32) -> bool
+    ensures { λ r. ⌜ r ≡ eqb a b ⌝ }
+{
+    a == b
+}
+
+// What a pair of rows weighs: 2 to the number of inputs that neither fixes, once for a row with itself, and twice for two rows, whose
+// pair counts in both orders. A one-bit of `fixed` is an input that one of the two fixes.
+pub fn weight_of(n: usize, fixed: u32, single: bool) -> u32
+    requires { ⌜ (n ≤ 16) × (fixed < 2 ^ n) ⌝ }
+    ensures { λ r. ⌜ r ≡ 2 ^ (n - ones fixed) * cond single 1 2 ⌝ }
+{
+    let once = numbers::power(n - u32::count_ones(fixed) as usize);
+    if single {
+        return once;
+    }
+    once * 2
+}
+
+// Puts the cube of the rows i and j at a place of the three slices.
+pub fn put_cube(
+    n: usize,
+    masks: &[u32],
+    values: &[u32],
+    i: usize,
+    j: usize,
+    cube_masks: &mut [u32],
+    cube_values: &mut [u32],
+    cube_weights: &mut [u32],
+    place: usize,
+)
+    requires { ⌜ (n ≤ 16) × (i < length (now masks)) × (j < length (now masks)) × (length (now values) ≡ length (now masks)) ⌝ }
+    requires { ⌜ (at (now masks) i < 2 ^ n) × (at (now masks) j < 2 ^ n) ⌝ }
+    requires { ⌜ (place < length (now «cube_masks»)) × (place < length (now «cube_values»)) × (place < length (now «cube_weights»)) ⌝ }
+    ensures { λ _. ⌜ now («cube_masks» .exit) ≡ set (now («cube_masks» .entry)) place (bitAnd (at (now (masks .entry)) i) (at (now (masks .entry)) j)) ⌝ }
+    ensures { λ _. ⌜ now («cube_values» .exit) ≡ set (now («cube_values» .entry)) place (bitAnd (bitAnd (at (now (masks .entry)) i) (at (now (masks .entry)) j)) (bitXor (at (now (values .entry)) i) (at (now (values .entry)) j))) ⌝ }
+    ensures { λ _. ⌜ now («cube_weights» .exit) ≡ set (now («cube_weights» .entry)) place (2 ^ (n - ones (bitOr (at (now (masks .entry)) i) (at (now (masks .entry)) j))) * cond (eqb i j) 1 2) ⌝ }
+{
+    let mask = masks[i];
+    let mask2 = masks[j];
+    cube_masks[place] = mask & mask2;
+    cube_values[place] = (mask & mask2) & (values[i] ^ values[j]);
+    cube_weights[place] = weight_of(n, mask | mask2, i == j);
+}
+
+// Puts the cubes of all pairs of rows with equal words, i up to j, in the order of the loops, and answers how many there are.
+pub fn put_cubes(
+    n: usize,
+    masks: &[u32],
+    values: &[u32],
+    words: &[u32],
+    cube_masks: &mut [u32],
+    cube_values: &mut [u32],
+    cube_weights: &mut [u32],
+) -> usize
+    requires { ⌜ (n ≤ 16) × Listed 128 (now masks) (now values) (now words) ⌝ }
+    requires { ⌜ Every (Sound n) (rowsOf (now masks) (now values) (now words)) ⌝ }
+    requires { ⌜ (8256 ≤ length (now «cube_masks»)) × (8256 ≤ length (now «cube_values»)) × (8256 ≤ length (now «cube_weights»)) ⌝ }
+    ensures { λ r. ⌜ CubesAt (cubesOf n (rowsOf (now (masks .entry)) (now (values .entry)) (now (words .entry)))) (now («cube_masks» .entry)) (now («cube_values» .entry)) (now («cube_weights» .entry)) (now («cube_masks» .exit)) (now («cube_values» .exit)) (now («cube_weights» .exit)) r ⌝ }
+{
+    let p = masks.len();
+    let mut count: usize = 0;
+    for i in 0..p {
+        for j in i..p {
+            if same_word(words[i], words[j]) {
+                put_cube(
+                    n,
+                    masks,
+                    values,
+                    i,
+                    j,
+                    cube_masks,
+                    cube_values,
+                    cube_weights,
+                    count,
+                );
+                count += 1;
+            }
+        }
+    }
+    count
+}
+
+// What the cubes add to R(t).
+pub fn shift_by_cubes(
+    cube_masks: &[u32],
+    cube_values: &[u32],
+    cube_weights: &[u32],
+    count: usize,
+    t: u32,
+) -> u32
+    requires { ⌜ (count ≤ length (now «cube_masks»)) × (count ≤ length (now «cube_values»)) × (count ≤ length (now «cube_weights»)) ⌝ }
+    requires { ⌜ addedBy (now «cube_masks») (now «cube_values») (now «cube_weights») count t ≤ 65536 ⌝ }
+    ensures { λ r. ⌜ r ≡ addedBy (now («cube_masks» .entry)) (now («cube_values» .entry)) (now («cube_weights» .entry)) count t ⌝ }
+{
+    let mut sum: u32 = 0;
+    let mut q: usize = 0;
+    while q < count {
+        if t & cube_masks[q] == cube_values[q] {
+            sum += cube_weights[q];
+        }
+        q += 1;
+    }
+    sum
+}
+
+// The same where t has at most w one-bits, and else 0.
+pub fn limited_shift(
+    cube_masks: &[u32],
+    cube_values: &[u32],
+    cube_weights: &[u32],
+    count: usize,
+    w: usize,
+    t: u32,
+) -> u32
+    requires { ⌜ (count ≤ length (now «cube_masks»)) × (count ≤ length (now «cube_values»)) × (count ≤ length (now «cube_weights»)) × (w ≤ 16) ⌝ }
+    requires { ⌜ addedBy (now «cube_masks») (now «cube_values») (now «cube_weights») count t ≤ 65536 ⌝ }
+    ensures { λ r. ⌜ r ≡ limited w (addedBy (now («cube_masks» .entry)) (now («cube_values» .entry)) (now («cube_weights» .entry)) count) t ⌝ }
+{
+    if u32::count_ones(t) <= w as u32 {
+        return shift_by_cubes(cube_masks, cube_values, cube_weights, count, t);
+    }
+    0
+}
+
+// What the cubes add at every t below 2^n with at most w one-bits, each worked out once, and 0 at the others.
+pub fn shifts_by_cubes(
+    cube_masks: &[u32],
+    cube_values: &[u32],
+    cube_weights: &[u32],
+    count: usize,
+    n: usize,
+    w: usize,
+    out: &mut [u32],
+)
+    requires { ⌜ (count ≤ length (now «cube_masks»)) × (count ≤ length (now «cube_values»)) × (count ≤ length (now «cube_weights»)) ⌝ }
+    requires { ⌜ (n ≤ 16) × (w ≤ n) × (2 ^ n ≤ length (now out)) ⌝ }
+    requires { ⌜ ((t : ℕ) → t < 2 ^ n → addedBy (now «cube_masks») (now «cube_values») (now «cube_weights») count t ≤ 65536) ⌝ }
+    ensures { λ _. ⌜ now (out .exit) ≡ over (tab (2 ^ n) (limited w (addedBy (now («cube_masks» .entry)) (now («cube_values» .entry)) (now («cube_weights» .entry)) count))) (now (out .entry)) ⌝ }
+{
+    let size = numbers::size(n);
+    let mut t: usize = 0;
+    while t < size {
+        out[t] = limited_shift(cube_masks, cube_values, cube_weights, count, w, t as u32);
+        t += 1;
+    }
+}
+
+// R(t) of a list of disjoint rows.
+pub fn shift_of_rows(n: usize, masks: &[u32], values: &[u32], words: &[u32], t: u32) -> u32
+    requires { ⌜ (n ≤ 16) × (t < 2 ^ n) × Listed 128 (now masks) (now values) (now words) ⌝ }
+    requires { ⌜ Disjoint n (rowsOf (now masks) (now values) (now words)) ⌝ }
+    ensures { λ r. ⌜ r ≡ shift (ofRows (rowsOf (now (masks .entry)) (now (values .entry)) (now (words .entry)))) n t ⌝ }
+{
+    let mut cube_masks = [0u32; 8256];
+    let mut cube_values = [0u32; 8256];
+    let mut cube_weights = [0u32; 8256];
+    let count = put_cubes(
+        n,
+        masks,
+        values,
+        words,
+        &mut cube_masks,
+        &mut cube_values,
+        &mut cube_weights,
+    );
+    shift_by_cubes(&cube_masks, &cube_values, &cube_weights, count, t)
+}
+
+// R of a list of disjoint rows at every t below 2^n with at most w one-bits, each worked out once, and 0 at the others.
+pub fn shifts_of_rows(
+    n: usize,
+    w: usize,
+    masks: &[u32],
+    values: &[u32],
+    words: &[u32],
+    out: &mut [u32],
+)
+    requires { ⌜ (n ≤ 16) × (w ≤ n) × (2 ^ n ≤ length (now out)) × Listed 128 (now masks) (now values) (now words) ⌝ }
+    requires { ⌜ Disjoint n (rowsOf (now masks) (now values) (now words)) ⌝ }
+    ensures { λ _. ⌜ now (out .exit) ≡ over (tab (2 ^ n) (limited w (shift (ofRows (rowsOf (now (masks .entry)) (now (values .entry)) (now (words .entry)))) n))) (now (out .entry)) ⌝ }
+{
+    let mut cube_masks = [0u32; 8256];
+    let mut cube_values = [0u32; 8256];
+    let mut cube_weights = [0u32; 8256];
+    let count = put_cubes(
+        n,
+        masks,
+        values,
+        words,
+        &mut cube_masks,
+        &mut cube_values,
+        &mut cube_weights,
+    );
+    shifts_by_cubes(&cube_masks, &cube_values, &cube_weights, count, n, w, out);
+}
