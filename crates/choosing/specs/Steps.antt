@@ -15,7 +15,7 @@ use Rattle.slices.specs.Filled.{over-at, over-over, tab-cong, length-over}
 use Rattle.sums.specs.Sums.{sum}
 use Rattle.sums.specs.Laws.{sum-cong}
 use Rattle.block.specs.Basis.{before, best, candidate, span, apply}
-use Rattle.block.specs.Rows.{highest, partner, rest}
+use Rattle.block.specs.Rows.{highest, partner, rest, reached}
 use Rattle.choice.specs.Choice.{best-cong}
 use Rattle.choice.specs.Chosen.{pick, pick-best}
 use Rattle.matrix.specs.Linear.{apply-cong}
@@ -136,13 +136,17 @@ module _ (n : ℕ) (c : ℕ → ℕ) where
       f ∙ ap₂ over (tab-cong n (stepRows n k t (at s)) (reachRows n c (k + 1)) rows) e
       ∙ over-over n (reachRows n c k) (reachRows n c (k + 1)) l
 
+  -- the rows held give the coordinates reached
+  pub apply-held : (k : ℕ) (l s : List ℕ) → k ≤ n → Independent c n k → s ≡ over (tab n (reachRows n c k)) l → (x : ℕ) → x < 2 ^ n
+      → apply (at s) n x ≡ reached n c k x
+  apply-held k l s hk i e x h = apply-cong (at s) (reachRows n c k) n x (held k l s e) ∙ reach-apply n c k hk i x h
+
   -- a matrix row is an XOR of some set of earlier ones exactly where its coordinates are below 2^j
   pub span-held : (j : ℕ) (l s : List ℕ) → j < n → Independent c n j → c j < 2 ^ n → s ≡ over (tab n (reachRows n c j)) l
       → span c j (c j) ≡ ltb (apply (at s) n (c j)) (2 ^ j)
   span-held j l s hj i b e =
       reached-span n c j (omega arith) i (c j) b
-      ∙ ap (λ (y : ℕ). ltb y (2 ^ j))
-      (sym (reach-apply n c j (omega arith) i (c j) b) ∙ sym (apply-cong (at s) (reachRows n c j) n (c j) (held j l s e)))
+      ∙ ap (λ (y : ℕ). ltb y (2 ^ j)) (sym (apply-held j l s (omega arith) i e (c j) b))
 
 -- the best candidate by the matrix reached is the number that the rule takes
 pub choose-turn : (v : ℕ → ℕ) (n w k r : ℕ) (l s : List ℕ) → 1 ≤ w → k < n → s ≡ over (tab n (reachRows n (pick v n w) k)) l

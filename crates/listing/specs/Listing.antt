@@ -15,10 +15,14 @@ use Rattle.block.specs.Words.{row, rowsOf}
 use Rattle.block.specs.Refusals.{badRow, rowAt}
 use Rattle.block.specs.declared.Row.{Row}
 
+-- the first p rows of three flat slices
+abbrev pub rowsFrom : ℕ → List ℕ → List ℕ → List ℕ → List Row
+rowsFrom p masks values words = tab p (λ i. row (at masks i) (at values i) (at words i))
+
 module _ (masks values words : List ℕ) where
   -- slices of one length are a list
   pub rows-of : length values ≡ length masks → length words ≡ length masks
-      → rowsOf masks values words ≡ tab (length masks) (λ i. row (at masks i) (at values i) (at words i))
+      → rowsOf masks values words ≡ rowsFrom (length masks) masks values words
   unfolding rowsOf
   rows-of e f = rw (eq-eqb _ _ e, eq-eqb _ _ f)
 

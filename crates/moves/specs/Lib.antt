@@ -1,5 +1,6 @@
--- How rows are transformed: an exchange, a shear, a step, any number of steps.
+-- How rows are transformed: an exchange, a shear, a step, any number of steps, the smaller rows.
 pub mod Exchange
 pub mod Shear
 pub mod Step
 pub mod Moved
+pub mod Smaller

@@ -1,95 +1,30 @@
 -- Any number of steps (01, How rows are transformed): the rows after them, at the coordinates reached, are the rows at the point;
--- rows stay well formed and apart, keep their words, and never grow fewer. It is asked that each step's number, in the coordinates
--- reached, is not 0. Not here: that independent choices give this. Assumes nothing.
-use mathlib.Core.Path.{_≡_, refl, ap, _∙_}
+-- rows stay well formed and apart, keep their words, and never grow fewer. Independent numbers make such steps. Not here: the
+-- numbers that the rule takes (`Smaller`). Assumes nothing.
+use mathlib.Core.Path.{_≡_, refl, _∙_}
 use mathlib.Core.Bool.{false}
 use mathlib.Core.List.{List}
-use Prim.Native.Nat.{ℕ, zero, suc, _*_, _/_, _^_, _≤_, _<_}
-use native.Mathlib.Decide.{decLt, ℕ-discrete}
-use native.Mathlib.Nat.{mod-lt}
-use native.Mathlib.Numerals.{one-add}
+use Prim.Native.Nat.{ℕ, zero, suc, _*_, _^_, _≤_, _<_}
+use native.Mathlib.Decide.{ℕ-discrete}
 use native.Mathlib.Omega.{arith}
-use borrow.Author.Tests.{eq-eqb, ne-eqb}
 use lib.Arith.{lt-one}
-use lib.Bits.{xor-lt}
 use lib.ListN.{length}
-use lib.Pow.{pow-pos, pow-lt, pow-mono, shr-lt, split}
-use Rattle.bits.specs.Digits.{bit}
-use Rattle.bits.specs.Bit.{bit-lt, bit-xor, bit-pow-same}
 use Rattle.block.specs.Words.{wordAt}
-use Rattle.block.specs.Rows.{highest, partner, exchange, rest, reached, moved}
+use Rattle.block.specs.Rows.{partner, rest, reached, moved}
 use Rattle.block.specs.Refusals.{badRow}
 use Rattle.block.specs.declared.Row.{Row}
 use Rattle.pairs.specs.Cube.{Sound}
 use Rattle.pairs.specs.Theorem.{Every, Apart, Disjoint}
-use Rattle.moves.specs.Exchange.{exchange-lt, exchange-first}
+use Rattle.matrix.specs.Steps.{partner-bit, rest-lt, rest-own}
+use Rattle.matrix.specs.Reached.{Independent, independent-fewer, reaches, reached-next, reached-cong}
 use Rattle.moves.specs.Step.{Ready, stepRows, stepPoint, step-lt, step-word, step-sound, step-words, step-good, step-apart, step-disjoint, step-length, step-length-le}
 
 -- ---- the step of one chosen number
 
--- without its highest digit 0 a number is shorter
-shorter : (m y : ℕ) → y < 2 ^ suc m → bit y m ≡ 0 → y < 2 ^ m
-shorter m y h e =
-    omega (arith, split y m, shr-lt {n = y} 1 m (rw (one-add m) h), mod-lt y (pow-pos m), ap (λ (q : ℕ). q * 2 ^ m) none)
-  where
-    none : y / 2 ^ m ≡ 0
-    none = omega (arith, shr-lt {n = y} 1 m (rw (one-add m) h))
-
--- no one-bit stands above the highest
-pub highest-top : (m y : ℕ) → y < 2 ^ m → y < 2 ^ suc (highest m y)
-unfolding highest
-highest-top zero y h = omega arith
-highest-top (suc m) y h = go (ℕ-discrete (bit y m) 1) (λ l. highest-top m y l)
-  where
-    go : Dec (bit y m ≡ 1) → (y < 2 ^ m → y < 2 ^ suc (highest m y)) → y < 2 ^ suc (highest (suc m) y)
-    go (yes e) ih = rw (eq-eqb (bit y m) 1 e) h
-    go (no n) ih = rw (ne-eqb (bit y m) 1 n) (ih (shorter m y h (omega (arith, bit-lt y m))))
-
--- the highest stands below m, and is a one
-pub highest-one : (m y : ℕ) → y < 2 ^ m → 0 < y → (highest m y < m) × (bit y (highest m y) ≡ 1)
-unfolding highest
-highest-one zero y h l = absurd (omega arith)
-highest-one (suc m) y h l = go (ℕ-discrete (bit y m) 1) (λ s. highest-one m y s l)
-  where
-    go : Dec (bit y m ≡ 1) → (y < 2 ^ m → (highest m y < m) × (bit y (highest m y) ≡ 1))
-        → (highest (suc m) y < suc m) × (bit y (highest (suc m) y) ≡ 1)
-    go (yes e) ih = rw (eq-eqb (bit y m) 1 e) (omega arith, e)
-    go (no n) ih =
-        let s = ih (shorter m y h (omega (arith, bit-lt y m))) in
-        rw (ne-eqb (bit y m) 1 n) (omega (arith, s .0), s .1)
-
--- the position that step k + 1 exchanges with k is below n and has a one
-pub partner-one : (n k y : ℕ) → k < n → y < 2 ^ n → 0 < y → (partner n k y < n) × (bit y (partner n k y) ≡ 1)
-unfolding partner
-partner-one n k y hk hy l = go (ℕ-discrete (bit y k) 1)
-  where
-    go : Dec (bit y k ≡ 1) → (partner n k y < n) × (bit y (partner n k y) ≡ 1)
-    go (yes e) = rw (eq-eqb (bit y k) 1 e) (hk, e)
-    go (no m) = rw (ne-eqb (bit y k) 1 m) (highest-one n y hy l)
-
--- and is not below k, where y has a one there or above
-pub partner-ge : (n k y : ℕ) → y < 2 ^ n → 2 ^ k ≤ y → k ≤ partner n k y
-unfolding partner
-partner-ge n k y hy l = go (ℕ-discrete (bit y k) 1) (decLt (highest n y) k)
-  where
-    go : Dec (bit y k ≡ 1) → Dec (highest n y < k) → k ≤ partner n k y
-    go (yes e) d = rw (eq-eqb (bit y k) 1 e) (omega arith)
-    go (no m) (yes s) = absurd (omega (arith, highest-top n y hy, pow-mono {i = suc (highest n y)} {j = k} (omega arith)))
-    go (no m) (no s) = rw (ne-eqb (bit y k) 1 m) (omega arith)
-
--- a chosen number that is not 0 makes a step
-pub ready : (n k y : ℕ) → k < n → y < 2 ^ n → 0 < y → Ready n k (partner n k y) (rest n k y)
-unfolding rest
-ready n k y hk hy l =
-    let p = partner-one n k y hk hy l in
-    record {
-      place = hk;
-      other = p .0;
-      below = xor-lt n (exchange k (partner n k y) y) (2 ^ k) (exchange-lt n k (partner n k y) y hk (p .0) hy) (pow-lt hk);
-      clear =
-          bit-xor (exchange k (partner n k y) y) (2 ^ k) k
-          ∙ rw (exchange-first k (partner n k y) y, p .1, bit-pow-same k);
-    }
+-- a number from 2^k on makes a step
+pub ready : (n k y : ℕ) → k < n → 2 ^ k ≤ y → y < 2 ^ n → Ready n k (partner n k y) (rest n k y)
+ready n k y hk l h =
+    record { place = hk; other = partner-bit n k y hk l h .1; below = rest-lt n k y hk l h; clear = rest-own n k y hk l h }
 
 -- ---- k steps, in which c 0 .. c (k - 1) are chosen
 
@@ -118,6 +53,14 @@ pub moved-suc : (n : ℕ) (c : ℕ → ℕ) (k : ℕ) (rs : List Row)
     → moved n c (suc k) rs ≡ stepRows k (partner n k (reached n c k (c k))) (rest n k (reached n c k (c k))) (moved n c k rs)
 unfolding moved
 moved-suc n c k rs = refl
+
+-- they depend on the first k numbers alone
+pub moved-cong : (n : ℕ) (c d : ℕ → ℕ) (k : ℕ) (rs : List Row) → ((j : ℕ) → j < k → c j ≡ d j) → moved n c k rs ≡ moved n d k rs
+unfolding moved
+moved-cong n c d zero rs h = refl
+moved-cong n c d (suc k) rs h =
+    let less : (j : ℕ) → j < k → c j ≡ d j = λ j l. h j (omega arith) in
+    rw (h k (omega arith), reached-cong n c d k less (d k), moved-cong n c d k rs less)
 
 -- one step never lessens the number of rows
 moved-length-suc : (n : ℕ) (c : ℕ → ℕ) (k : ℕ) (rs : List Row) → length (moved n c k rs) ≤ length (moved n c (suc k) rs)
@@ -149,19 +92,11 @@ module _ (n : ℕ) (c : ℕ → ℕ) where
   reached-lt zero s x h = h
   reached-lt (suc k) s x h = step-lt n k _ _ (s k (omega arith)) (reached n c k x) (reached-lt k (fewer k s) x h)
 
-  -- chosen numbers that are below 2^n, and not 0 in the coordinates reached, make steps
-  pub steps : (k : ℕ) → k ≤ n → ((j : ℕ) → j < k → c j < 2 ^ n) → ((j : ℕ) → j < k → 0 < reached n c j (c j)) → Steps n c k
-  steps zero h b p = λ j l. absurd (omega arith)
-  steps (suc k) h b p = go (steps k (omega arith) (λ j l. b j (omega arith)) (λ j l. p j (omega arith)))
-    where
-      go : Steps n c k → Steps n c (suc k)
-      go s j l = at (ℕ-discrete j k)
-        where
-          at : Dec (j ≡ k) → Ready n j (partner n j (reached n c j (c j))) (rest n j (reached n c j (c j)))
-          at (yes e) =
-              rw e
-              (ready n k (reached n c k (c k)) (omega arith) (reached-lt k s (c k) (b k (omega arith))) (p k (omega arith)))
-          at (no m) = s j (omega arith)
+  -- independent numbers make steps
+  pub steps : (k : ℕ) → k ≤ n → Independent c n k → Steps n c k
+  steps k h i j l =
+      ready n j (reached n c j (c j)) (omega arith) (reached-next n c j (omega arith) (independent-fewer c n (suc j) k (omega arith) i))
+      (reaches n c j (omega arith) (independent-fewer c n j k (omega arith) i) .keeps (c j) (i .below j l))
 
   -- rows stay well formed
   pub moved-sound : (k : ℕ) → Steps n c k → (rs : List Row) → Every (Sound n) rs → Every (Sound n) (moved n c k rs)

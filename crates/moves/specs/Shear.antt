@@ -1,9 +1,9 @@
--- The flips of v, which has no bit k, in a point and in a row: the bits of a point, that they undo themselves and stay within the
--- width; that a row flipped, kept or split has the flipped points of the row before, each in one row only; and that such rows stay
--- well formed. Not here: lists of rows (`Step`). Assumes nothing.
+-- The flips of v, which has no bit k, in a row: a row flipped, kept or split has the flipped points of the row before, each in one
+-- row only, and such rows stay well formed. Not here: the flips of a point (crate matrix, `Steps`), lists of rows (`Step`).
+-- Assumes nothing.
 use mathlib.Core.Path.{_≡_, sym, ap, ap₂, _∙_}
 use mathlib.Core.Bool.{false, _&&_, and-true, and-false}
-use Prim.Native.Nat.{ℕ, _+_, _*_, _%_, _^_, _<_}
+use Prim.Native.Nat.{ℕ, _*_, _^_, _<_}
 use native.Mathlib.Decide.{ℕ-discrete}
 use native.Mathlib.Nat.{zero-mul}
 use native.Mathlib.Omega.{arith}
@@ -12,33 +12,12 @@ use lib.Bits.{bitAnd, bitXor, xor-lt, xor-zero-r, and-comm}
 use lib.Dec.{eqb}
 use lib.Pow.{pow-lt}
 use Rattle.bits.specs.Digits.{bit}
-use Rattle.bits.specs.Xor.{xor-cancel-r, and-xor, and-times, and-again, eqb-xor}
-use Rattle.bits.specs.Bit.{bit-lt, bit-xor, bit-and, bit-times, bit-pow-same, times-lt, and-pow}
+use Rattle.bits.specs.Xor.{and-xor, and-times, and-again, eqb-xor}
+use Rattle.bits.specs.Bit.{bit-lt, bit-xor, bit-and, bit-times, bit-pow-same, and-pow}
 use Rattle.block.specs.Words.{under}
 use Rattle.block.specs.Rows.{shear, flipRow, half}
 use Rattle.block.specs.declared.Row.{Row}
 use Rattle.pairs.specs.Cube.{Sound}
-
--- ---- points
-
--- they stay within the width
-pub shear-lt : (n k v x : ℕ) → v < 2 ^ n → x < 2 ^ n → shear k v x < 2 ^ n
-unfolding shear
-shear-lt n k v x hv hx = xor-lt n x (v * bit x k) hx (times-lt v (bit x k) n (bit-lt x k) hv)
-
--- bit j changes where v has it, if the point has bit k
-pub shear-bit : (k v x j : ℕ) → bit (shear k v x) j ≡ (bit x j + bit v j * bit x k) % 2
-unfolding shear
-shear-bit k v x j = bit-xor x (v * bit x k) j ∙ ap (λ (y : ℕ). (bit x j + y) % 2) (bit-times v (bit x k) j (bit-lt x k))
-
--- bit k stays
-pub shear-stays : (k v x : ℕ) → bit v k ≡ 0 → bit (shear k v x) k ≡ bit x k
-shear-stays k v x h = shear-bit k v x k ∙ ap (λ (y : ℕ). (bit x k + y * bit x k) % 2) h ∙ omega (arith, bit-lt x k)
-
--- the flips undo themselves
-pub shear-twice : (k v x : ℕ) → bit v k ≡ 0 → shear k v (shear k v x) ≡ x
-unfolding shear
-shear-twice k v x h = ap (λ (d : ℕ). bitXor (bitXor x (v * bit x k)) (v * d)) (shear-stays k v x h) ∙ xor-cancel-r x (v * bit x k)
 
 -- ---- rows that are kept or flipped
 

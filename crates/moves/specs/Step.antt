@@ -22,8 +22,9 @@ use Rattle.block.specs.declared.Row.{Row}
 use Rattle.pairs.specs.Cube.{Sound}
 use Rattle.pairs.specs.Theorem.{Every, Apart, Disjoint, every-cons}
 use Rattle.pairs.specs.Share.{good-sound, good-word, sound-good}
-use Rattle.moves.specs.Exchange.{exchange-lt, exchange-twice, under-exchange, sound-exchange}
-use Rattle.moves.specs.Shear.{shear-lt, shear-twice, under-keep, under-flip, sound-flip, half-fixed, under-half, sound-half}
+use Rattle.matrix.specs.Steps.{exchange-lt, exchange-twice, shear-lt, shear-twice}
+use Rattle.moves.specs.Exchange.{under-exchange, sound-exchange}
+use Rattle.moves.specs.Shear.{under-keep, under-flip, sound-flip, half-fixed, under-half, sound-half}
 
 -- what a step needs: positions k and h below n, and a number v below 2^n without bit k
 pub record Ready (n k h v : ℕ) : Type 0 where
@@ -165,7 +166,8 @@ became-length k v r = go (eqb (bit (r .mask) k) 1) (eqb (bitAnd (r .mask) v) 0)
 
 -- ---- the whole list
 
-split-length : (k v : ℕ) (rs : List Row) → (length rs ≤ length (splitRows k v rs)) × (length (splitRows k v rs) ≤ length rs * 2)
+-- the splits never lessen the number of rows, and at most double it
+pub split-length : (k v : ℕ) (rs : List Row) → (length rs ≤ length (splitRows k v rs)) × (length (splitRows k v rs) ≤ length rs * 2)
 unfolding splitRows
 split-length k v [] = (omega arith, omega arith)
 split-length k v (r ∷ rs) = go (became-length k v r) (split-length k v rs)

@@ -13,6 +13,7 @@ use Rattle.slices.specs.Filled.{tab-suc}
 use Rattle.block.specs.Words.{row}
 use Rattle.block.specs.Text.{rowLine, rowLines}
 use Rattle.block.specs.declared.Row.{Row}
+use Rattle.listing.specs.Listing.{rowsFrom}
 
 -- one run of stores after the other is a run of both
 pub sets-append : (a b l : List ℕ) (i j : ℕ) → j ≡ i + length a → sets (sets l i a) j b ≡ sets l i (a ++ b)
@@ -49,10 +50,6 @@ copy-more l s at i h k =
     ∙ ap (λ (t : List ℕ). sets l at t) (sym (take-suc s i 0 h) ∙ ap (λ (j : ℕ). take j s) (sym (add-one i)))
 
 -- ---- the lines of rows
-
--- the first p rows of three flat lists
-abbrev pub rowsFrom : ℕ → List ℕ → List ℕ → List ℕ → List Row
-rowsFrom p masks values words = tab p (λ i. row (at masks i) (at values i) (at words i))
 
 pub lines-append : (n k : ℕ) (rs ss : List Row) → rowLines n k (rs ++ ss) ≡ rowLines n k rs ++ rowLines n k ss
 unfolding rowLines

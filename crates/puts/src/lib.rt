@@ -8,7 +8,8 @@ ghost use lib.ListN.{length};
 ghost use Rattle.slices.specs.Places.{at, tab};
 ghost use Rattle.block.specs.Words.{row};
 ghost use Rattle.block.specs.Text.{decimal, symbols, bits, rowLine, rowLines};
-ghost use Rattle.puts.specs.Puts.{Put, rowsFrom};
+ghost use Rattle.listing.specs.Listing.{rowsFrom};
+ghost use Rattle.puts.specs.Puts.{Put};
 ghost use Rattle.puts.specs.Digits.{symbolOf};
 
 // Puts one byte.

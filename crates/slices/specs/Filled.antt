@@ -96,6 +96,12 @@ map-push {ℓ} : {A B : Type ℓ} (f : A → B) (s : List A) (x : A) → map f (
 map-push f [] x = refl
 map-push f (a ∷ s) x = ap (λ l. f a ∷ l) (map-push f s x)
 
+-- a map over listed values lists the mapped values
+pub map-tab {ℓ} : {A B : Type ℓ} (f : A → B) (m : ℕ) (g : ℕ → A) → map f (tab m g) ≡ tab m (λ i. f (g i))
+unfolding tab
+map-tab f zero g = refl
+map-tab f (suc m) g = map-push f (tab m g) (g m) ∙ ap (λ l. l ++ (f (g m) ∷ [])) (map-tab f m g)
+
 -- a list grows at its end while one part of each entry is stored
 pub over-push {ℓ} : {A B : Type ℓ} (f : A → B) (s : List A) (x : A) (l : List B) → length s < length l
     → set (over (map f s) l) (length s) (f x) ≡ over (map f (s ++ (x ∷ []))) l

@@ -8,7 +8,8 @@ use borrow.Author.Needs.{needs}
 use denote.Ref.{now}
 use lib.ListN.{length}
 use Rattle.block.specs.Text.{rowLines}
-use Rattle.puts.specs.Puts.{Put, then, none-put, rowsFrom, lines-more, lines-none, row-within}
+use Rattle.listing.specs.Listing.{rowsFrom}
+use Rattle.puts.specs.Puts.{Put, then, none-put, lines-more, lines-none, row-within}
 use Rattle.puts.proofs.put_rows.Statement.{statement}
 use Rattle.puts.proofs.put_rows.Tie as tie
 
