@@ -1,6 +1,6 @@
 -- Laws of listed values, and of a lent list that a loop overwrites from the front. Assumes nothing.
 use mathlib.Core.Path.{_≡_, refl, sym, ap, ap₂, _∙_}
-use mathlib.Core.List.{List, [], _∷_, _++_, append-assoc}
+use mathlib.Core.List.{List, [], _∷_, _++_, append-assoc, map}
 use Prim.Native.Nat.{ℕ, zero, suc, _+_, _≤_, _<_}
 use native.Mathlib.Decide.{decLt}
 use native.Mathlib.Numerals.{add-one}
@@ -68,3 +68,13 @@ over-at m f l d i h = List·getD-append (tab m f) (drop (length (tab m f)) l) d 
 -- a second result of the same length takes the first one's place
 pub over-over {ℓ} : {A : Type ℓ} (m : ℕ) (f g : ℕ → A) (l : List A) → over (tab m g) (over (tab m f) l) ≡ over (tab m g) l
 over-over m f g l = over-tab m g (over (tab m f) l) ∙ ap (λ k. tab m g ++ k) (drop-at (tab m f) (drop (length (tab m f)) l) m (length-tab m f) ∙ ap (λ (i : ℕ). drop i l) (length-tab m f)) ∙ sym (over-tab m g l)
+
+-- a function over listed values
+map-last {ℓ ℓ′} : {A : Type ℓ} {B : Type ℓ′} (g : A → B) (l : List A) (x : A) → map g (l ++ (x ∷ [])) ≡ map g l ++ (g x ∷ [])
+map-last g [] x = refl
+map-last g (y ∷ l) x = ap (λ k. g y ∷ k) (map-last g l x)
+
+pub map-tab {ℓ ℓ′} : {A : Type ℓ} {B : Type ℓ′} (g : A → B) (m : ℕ) (f : ℕ → A) → map g (tab m f) ≡ tab m (λ i. g (f i))
+unfolding tab
+map-tab g zero f = refl
+map-tab g (suc m) f = map-last g (tab m f) (f m) ∙ ap (λ l. l ++ (g (f m) ∷ [])) (map-tab g m f)
