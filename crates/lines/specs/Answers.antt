@@ -12,7 +12,7 @@ use borrow.Author.Tests.{lt-ltb, le-ltb, eq-eqb, ne-eqb, eqb-true, not-false}
 use lib.Dec.{eqb, ltb}
 use lib.ListN.{length, drop}
 use Rattle.slices.specs.Places.{tab, first, over}
-use Rattle.slices.specs.Least.{first-le, first-below, first-after, first-cong}
+use Rattle.slices.specs.Least.{first-below, first-after, first-cong}
 use Rattle.slices.specs.Filled.{map-tab, tab-cong}
 use Rattle.block.specs.Refusals.{answer, verdict, carried, stored}
 use Rattle.block.specs.Text.{lineAt, headForm, rowForm, due, headNumber, rowOn, faulty, readVerdict, readText, rowsIn, kindNumber, numbers}
@@ -32,7 +32,7 @@ use Rattle.lines.specs.declared.Opening.{Opening}
 use Rattle.lines.specs.declared.Opening.the-variants.{Open, Stopped}
 use Rattle.lines.specs.ByPlace.{headAt, refusal, headings, rangedOf, onValue, openingOf, rowOr, lineOf, fieldOf, faultOf, filledOf, closedOf, readingOf, afterOf}
 use Rattle.lines.specs.Front.{start, line-front, line-add}
-use Rattle.lines.specs.Whole.{head-of, line-of, fault-of, lacks, row-due}
+use Rattle.lines.specs.Whole.{head-of, line-of, fault-of, fault-le, lacks, row-due}
 
 -- no kind of refusal is 0
 kind-refused : {A : Type 0} (kind : Kind) (x y : A) → cond (eqb (kindNumber kind) 0) x y ≡ y
@@ -159,15 +159,12 @@ module _ (text : List ℕ) (room : ℕ) where
       ≡ cond (eqb fault (p + 2)) (answer 0 0 0) (answer 10 (fault + 4) 0)
   last-line f = rw f (go (ℕ-discrete fault (p + 2)))
     where
-      most : fault ≤ p + 2
-      most = rw (fault-of rest n k p) (first-le (p + 2) (lacks rest n k p))
-
       go : Dec (fault ≡ p + 2)
           → cond (ltb (3 + fault) (5 + p)) (answer 10 (suc (3 + fault)) 0) (answer 0 0 0)
           ≡ cond (eqb fault (p + 2)) (answer 0 0 0) (answer 10 (fault + 4) 0)
       go (yes e) = rw (eq-eqb fault (p + 2) e, le-ltb (3 + fault) (5 + p) (omega arith))
       go (no m) =
-          let l = most in
+          let l = fault-le rest n k p in
           rw (ne-eqb fault (p + 2) m, lt-ltb (3 + fault) (5 + p) (omega arith)) (ap (λ (i : ℕ). answer 10 i 0) (omega arith))
 
   in-range : openingOf text room ≡ rangedOf n k p (start text 3) room → readVerdict text room ≡ ranges → faulty text (5 + p) ≡ 3 + fault

@@ -249,3 +249,6 @@ module _ (s : List ℕ) (n k p : ℕ) where
       go (no l) =
           let m = first-le p (λ i. not (rowForm n k (lineAt s i))) in
           rw (le-ltb f p (omega arith)) (sym (ends (λ i q. formed i (omega arith))))
+
+  pub fault-le : faultOf s n k p ≤ p + 2
+  fault-le = rw fault-of (first-le (p + 2) lacks)
