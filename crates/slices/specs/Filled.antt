@@ -124,13 +124,3 @@ pub length-over-map {ℓ} : {A B : Type ℓ} (f : A → B) (s : List A) (l : Lis
     → length (over (map f s) l) ≡ length l
 length-over-map f s l h =
     length-append (map f s) (drop (length (map f s)) l) ∙ rw (length-map s f, length-drop (length s) l) (omega arith)
-
--- a function over listed values
-map-last {ℓ ℓ′} : {A : Type ℓ} {B : Type ℓ′} (g : A → B) (l : List A) (x : A) → map g (l ++ (x ∷ [])) ≡ map g l ++ (g x ∷ [])
-map-last g [] x = refl
-map-last g (y ∷ l) x = ap (λ k. g y ∷ k) (map-last g l x)
-
-pub map-tab {ℓ ℓ′} : {A : Type ℓ} {B : Type ℓ′} (g : A → B) (m : ℕ) (f : ℕ → A) → map g (tab m f) ≡ tab m (λ i. g (f i))
-unfolding tab
-map-tab g zero f = refl
-map-tab g (suc m) f = map-last g (tab m f) (f m) ∙ ap (λ l. l ++ (g (f m) ∷ [])) (map-tab g m f)
