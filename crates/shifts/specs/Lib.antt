@@ -1,2 +1,3 @@
--- R of a table, one point at a time.
+-- R of a table, one point at a time (`Points`) and by blocks of points (`Blocks`).
 pub mod Points
+pub mod Blocks
