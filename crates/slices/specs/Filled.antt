@@ -6,7 +6,7 @@ use native.Mathlib.Decide.{decLt}
 use native.Mathlib.Numerals.{add-one}
 use native.Mathlib.Omega.{arith}
 use lib.ListN.{length, getD, drop, set, length-append, length-drop, List·getD-append}
-use lib.Seq.{set-at, drop-cons, drop-at, getD-append-add}
+use lib.Seq.{set-at, drop-cons, drop-at, getD-append-add, ext-getD}
 use Rattle.slices.specs.Places.{tab, at, over}
 
 pub length-tab {ℓ} : {A : Type ℓ} (m : ℕ) (f : ℕ → A) → length (tab m f) ≡ m
@@ -78,3 +78,9 @@ pub map-tab {ℓ ℓ′} : {A : Type ℓ} {B : Type ℓ′} (g : A → B) (m : �
 unfolding tab
 map-tab g zero f = refl
 map-tab g (suc m) f = map-last g (tab m f) (f m) ∙ ap (λ l. l ++ (g (f m) ∷ [])) (map-tab g m f)
+
+-- a list is the listing of its own values
+pub tab-list {ℓ} : {A : Type ℓ} (d : A) (l : List A) → tab (length l) (λ i. getD l i d) ≡ l
+tab-list d l =
+    ext-getD d (tab (length l) (λ i. getD l i d)) l (length-tab (length l) (λ i. getD l i d))
+    (λ i h. tab-at (length l) (λ i. getD l i d) d i (rw (length-tab (length l) (λ i. getD l i d)) at h))
