@@ -125,9 +125,6 @@ pub length-over-map {ℓ} : {A B : Type ℓ} (f : A → B) (s : List A) (l : Lis
 length-over-map f s l h =
     length-append (map f s) (drop (length (map f s)) l) ∙ rw (length-map s f, length-drop (length s) l) (omega arith)
 
-map-tab g zero f = refl
-map-tab g (suc m) f = map-last g (tab m f) (f m) ∙ ap (λ l. l ++ (g (f m) ∷ [])) (map-tab g m f)
-
 -- a list is the listing of its own values
 pub tab-list {ℓ} : {A : Type ℓ} (d : A) (l : List A) → tab (length l) (λ i. getD l i d) ≡ l
 tab-list d l =

@@ -21,7 +21,7 @@ use Rattle.block.specs.Text.{headLine, rowLine, rowLines, endLine, textOf, equa
 use Rattle.block.specs.declared.Row.{Row}
 use Rattle.block.specs.declared.Answer.{Answer}
 use Rattle.block.specs.declared.ReadAnswer.{ReadAnswer}
-use Rattle.listing.specs.Listing.{within}
+use Rattle.checks.specs.Sizes.{inside}
 use Rattle.rowtext.specs.Length.{text-le}
 use Rattle.lines.specs.Tests.{equal-true, equal-same}
 use Rattle.lines.specs.Front.{start, front, line-front, line-add}
@@ -86,7 +86,7 @@ module _ (text : List ℕ) where
       go false false false false true q r s t u v w e = absurd (omega arith)
       go false false false false false true r s t u v w e = absurd (omega arith)
       go false false false false false false r s t u v w e = (
-        record { inputs = within 1 16 n s; outputs = within 1 15 k t; count = within 1 128 p u; enough = ltb-false room p v },
+        record { inputs = inside 1 16 n s; outputs = inside 1 15 k t; count = inside 1 128 p u; enough = ltb-false room p v },
         λ i h.
             not-false (dueAt text i) (first-below (5 + p) (λ i. not (dueAt text i)) i (omega (arith, ltb-false (faulty text (5 + p)) (5 + p) w))),
       )

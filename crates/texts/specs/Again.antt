@@ -20,7 +20,7 @@ use Rattle.block.specs.Text.{headLine, rowLine, rowLines, endLine, textOf, equa
 use Rattle.block.specs.declared.Row.{Row}
 use Rattle.block.specs.declared.Answer.{Answer}
 use Rattle.block.specs.declared.ReadAnswer.{ReadAnswer}
-use Rattle.listing.specs.Listing.{within}
+use Rattle.checks.specs.Sizes.{inside}
 use Rattle.rowtext.specs.Length.{text-le}
 use Rattle.lines.specs.Tests.{equal-true, equal-same}
 use Rattle.lines.specs.Front.{start, front, line-front, line-add}

@@ -17,7 +17,7 @@ use Rattle.block.specs.Refusals.{answer, verdict, carried, outside}
 use Rattle.block.specs.Text.{endLine, equal, lineAt, numberPart, headForm, due, headNumber, faulty, readVerdict, readText}
 use Rattle.block.specs.declared.Answer.{Answer}
 use Rattle.block.specs.declared.ReadAnswer.{ReadAnswer}
-use Rattle.listing.specs.Listing.{within}
+use Rattle.checks.specs.Sizes.{inside}
 use Rattle.rowtext.specs.Length.{heading-le}
 use Rattle.lines.specs.Tests.{not-both, equal-true}
 use Rattle.lines.specs.Front.{front, start, line-front}
@@ -177,7 +177,7 @@ checks-same f n k p room g g' h =
     go false true c d q r s = refl
     go false false true d q r s = refl
     go false false false true q r s = refl
-    go false false false false q r s = ap last (h (within 1 16 n q .1) (within 1 15 k r .1) (within 1 128 p s .1))
+    go false false false false q r s = ap last (h (inside 1 16 n q .1) (inside 1 15 k r .1) (inside 1 128 p s .1))
 
 -- an answer with what it carries
 abbrev withHeadings : Answer → ℕ → ℕ → ℕ → ReadAnswer

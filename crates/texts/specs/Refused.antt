@@ -14,7 +14,7 @@ use Rattle.slices.specs.Least.{first-is, first-below, first-passes}
 use Rattle.block.specs.Refusals.{answer, verdict, outside}
 use Rattle.block.specs.Text.{headNumber, faulty, readVerdict}
 use Rattle.block.specs.declared.Answer.{Answer}
-use Rattle.listing.specs.Listing.{within}
+use Rattle.checks.specs.Sizes.{inside}
 use Rattle.texts.specs.Accepted.{Within, dueAt}
 use Rattle.texts.specs.Again.{inside}
 
@@ -93,6 +93,6 @@ ten-only text room e =
           faulty text (5 + p),
           rw (r, s, t, u, v, w),
           first-fault (5 + p) l,
-          inr (record { inputs = within 1 16 n s; outputs = within 1 15 k t; count = within 1 128 p u; enough = ltb-false room p v }, l),
+          inr (record { inputs = inside 1 16 n s; outputs = inside 1 15 k t; count = inside 1 128 p u; enough = ltb-false room p v }, l),
         )
     go false false false false false false r s t u v w e = absurd (omega arith)
