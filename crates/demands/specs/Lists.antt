@@ -23,7 +23,7 @@ use Rattle.block.specs.Lists.{rowsAfter, passing, methodChecks, rowMethodVerdic
 use Rattle.block.specs.declared.Row.{Row}
 use Rattle.block.specs.declared.Answer.{Answer}
 use Rattle.verdicts.specs.Verdicts.{verdict-miss, verdict-none, answered-clear, carried-yes}
-use Rattle.checks.specs.Sizes.{inside}
+use Rattle.checks.specs.Sizes.{inside, within}
 use Rattle.choice.specs.Chosen.{basis-tab, pick-cong}
 use Rattle.matrix.specs.Linear.{columns-lt}
 use Rattle.matrix.specs.Candidate.{basis-independent}
@@ -71,10 +71,6 @@ none-fails : (bad : Row → Bool) (rs : List Row) → Every (λ r. bad r ≡ fal
 none-fails bad rs h =
     le-ltb _ (length rs)
     (rw (first-is (length rs) (λ i. bad (rowAt rs i)) (length rs) (omega arith) h (λ b. absurd (omega arith))) (omega arith))
-
--- a number within its range
-within : (low high x : ℕ) → low ≤ x → x ≤ high → outside low high x ≡ false
-within low high x a b = rw (le-ltb x low a, le-ltb high x b)
 
 -- filling answers for a well formed list of 1 to 512 disjoint rows, where there is room
 fill-answers : (n k : ℕ) (rs : List Row) (room : ℕ) → outside 1 tableInputs n ≡ false → outside 1 outputs k ≡ false → 1 ≤ length rs

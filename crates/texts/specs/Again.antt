@@ -20,7 +20,7 @@ use Rattle.block.specs.Text.{headLine, rowLine, rowLines, endLine, textOf, equa
 use Rattle.block.specs.declared.Row.{Row}
 use Rattle.block.specs.declared.Answer.{Answer}
 use Rattle.block.specs.declared.ReadAnswer.{ReadAnswer}
-use Rattle.checks.specs.Sizes.{inside}
+use Rattle.checks.specs.Sizes.{within}
 use Rattle.rowtext.specs.Length.{text-le}
 use Rattle.lines.specs.Tests.{equal-true, equal-same}
 use Rattle.lines.specs.Front.{start, front, line-front, line-add}
@@ -31,10 +31,6 @@ use Rattle.texts.specs.Rows.{form-row, row-form}
 use Rattle.texts.specs.Written.{line-0, line-1, line-2, line-row, line-end, line-past, line-apart, rows-apart, empty-front}
 use Rattle.texts.specs.Accepted.{Within, within-same, AllGood, accepted, dueAt}
 
--- a number within a range is not outside
-pub inside : (lo hi x : ℕ) → (lo ≤ x) × (x ≤ hi) → outside lo hi x ≡ false
-inside lo hi x h = rw (le-ltb x lo (h .0), le-ltb hi x (h .1))
-
 -- where no line is faulty and all is in range, no check holds
 none-refused : (text : List ℕ) (room : ℕ) → faulty text 3 ≡ 3 → Within (headNumber text 0) (headNumber text 1) (headNumber text 2) room
     → faulty text (5 + headNumber text 2) ≡ 5 + headNumber text 2 → readVerdict text room ≡ answer 0 0 0
@@ -42,9 +38,9 @@ unfolding readVerdict verdict
 none-refused text room f w g =
     rw (
       f,
-      inside 1 16 (headNumber text 0) (w .inputs),
-      inside 1 15 (headNumber text 1) (w .outputs),
-      inside 1 128 (headNumber text 2) (w .count),
+      within 1 16 (headNumber text 0) (w .inputs .0) (w .inputs .1),
+      within 1 15 (headNumber text 1) (w .outputs .0) (w .outputs .1),
+      within 1 128 (headNumber text 2) (w .count .0) (w .count .1),
       le-ltb room (headNumber text 2) (w .enough),
       g,
       le-ltb (5 + headNumber text 2) (5 + headNumber text 2) (omega arith),

@@ -14,9 +14,8 @@ use Rattle.slices.specs.Least.{first-is, first-below, first-passes}
 use Rattle.block.specs.Refusals.{answer, verdict, outside}
 use Rattle.block.specs.Text.{headNumber, faulty, readVerdict}
 use Rattle.block.specs.declared.Answer.{Answer}
-use Rattle.checks.specs.Sizes.{inside}
+use Rattle.checks.specs.Sizes.{inside, within}
 use Rattle.texts.specs.Accepted.{Within, dueAt}
-use Rattle.texts.specs.Again.{inside}
 
 -- line i is not of the form due there, and every earlier line is
 abbrev pub FirstFault : List ℕ → ℕ → Type 0
@@ -46,9 +45,9 @@ ten-when text room i f s = go (decLt i 3) s
     go (no l) (inr (w, b)) =
         rw (
           faultless text 3 (λ j h. f .1 j (omega arith)),
-          inside 1 16 (headNumber text 0) (w .inputs),
-          inside 1 15 (headNumber text 1) (w .outputs),
-          inside 1 128 (headNumber text 2) (w .count),
+          within 1 16 (headNumber text 0) (w .inputs .0) (w .inputs .1),
+          within 1 15 (headNumber text 1) (w .outputs .0) (w .outputs .1),
+          within 1 128 (headNumber text 2) (w .count .0) (w .count .1),
           le-ltb room (headNumber text 2) (w .enough),
           fault-is text (5 + headNumber text 2) i b f,
           lt-ltb i (5 + headNumber text 2) b,
