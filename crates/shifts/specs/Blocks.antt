@@ -1,21 +1,23 @@
--- R of a full table by blocks of 64 points: the table is held to a copy of itself that is moved by the low part of t and marks points
--- without an output, and the blocks are taken in pairs. Also the order in which the values are stored. Assumes nothing.
-use mathlib.Core.Path.{_≡_, refl, sym, ap, ap₂, _∙_}
-use mathlib.Core.Bool.{Bool, true, false, not, cond, _&&_, _||_, and-false}
+-- R of a full table by blocks of 64 points: t is high * 64 + low. The table is held to a copy of itself that is moved by low and marks
+-- the points without an output, so that one comparison says all of a point. Blocks b and b XOR high add the same, so each such pair is
+-- counted once. First the definitions, then the copy, the number of blocks, what a pair adds, and R. Not here: the order in which the
+-- values are stored (`Order`). Assumes nothing.
+use mathlib.Core.Path.{_≡_, refl, sym, ap, _∙_}
+use mathlib.Core.Bool.{Bool, true, false, not, cond, _&&_, and-false}
 use mathlib.Core.List.{List}
-use Prim.Native.Nat.{ℕ, _+_, _*_, _-_, _/_, _%_, _^_, _≤_, _<_}
-use native.Mathlib.Decide.{decLt, ℕ-discrete}
+use Prim.Native.Nat.{ℕ, _+_, _*_, _-_, _/_, _^_, _≤_, _<_}
+use native.Mathlib.Decide.{ℕ-discrete}
 use native.Mathlib.Omega.{arith}
 use native.Mathlib.Nat.{mul-one}
-use borrow.Author.Tests.{ltb-true, eq-eqb, ne-eqb, lt-ltb, le-ltb, lt-leb, le-leb}
+use borrow.Author.Tests.{ltb-true, eq-eqb, ne-eqb, lt-leb, le-leb}
 use lib.Bits.{bitXor, xor-lt, xor-block, xor-zero-r}
 use lib.Dec.{eqb, ltb, leb}
-use lib.ListN.{length, getD}
+use lib.ListN.{length}
 use lib.Pow.{pow-mono, pow-add}
 use Rattle.bits.specs.Xor.{xor-cancel-r, eqb-turn}
 use Rattle.slices.specs.Places.{at, tab, over}
 use Rattle.slices.specs.Filled.{length-over, over-at, getD-any}
-use Rattle.sums.specs.Sums.{sum, one, count}
+use Rattle.sums.specs.Sums.{sum, count}
 use Rattle.sums.specs.Laws.{count-cong, count-le, count-blocks, count-moved, sum-cong, sum-paired}
 use Rattle.block.specs.Words.{none, ofTable}
 use Rattle.block.specs.Measure.{same, shift}
@@ -33,8 +35,8 @@ matching a p b c = count (λ i. eqb (at a (b * 64 + i)) (at p (c * 64 + i))) 64
 unfoldable pub pairAdds : List ℕ → List ℕ → ℕ → ℕ → ℕ
 pairAdds a p high b = cond (leb b (bitXor b high)) (matching a p b (bitXor b high) * cond (eqb b (bitXor b high)) 1 2) 0
 
--- a full table of at least one block
-pub record Blocks (table : List ℕ) (n : ℕ) : Type 0 where
+-- a full table of at least one block, in which no entry is the mark
+pub record FullTable (table : List ℕ) (n : ℕ) : Type 0 where
   pub entries : length table ≡ 2 ^ n
   pub least : 6 ≤ n
   pub most : n ≤ 12
@@ -53,17 +55,17 @@ good-unmarked k x h good e = go (ltb x (2 ^ k)) refl
 
 -- the marked copy p: entry y is the table's entry at y XOR low
 pub record Copied (table p : List ℕ) (n low : ℕ) : Type 0 where
-  pub blocks : Blocks table n
+  pub full : FullTable table n
   pub below : low < 64
   pub room : 2 ^ n ≤ length p
   pub copy : (y : ℕ) → y < 2 ^ n → at p y ≡ marked (at table (bitXor y low))
 
 -- a copy stored entry by entry
-pub copied : (table p l : List ℕ) (n low : ℕ) → Blocks table n → low < 64 → 2 ^ n ≤ length l
+pub copy-made : (table p l : List ℕ) (n low : ℕ) → FullTable table n → low < 64 → 2 ^ n ≤ length l
     → p ≡ over (tab (2 ^ n) (λ y. marked (at table (bitXor y low)))) l → Copied table p n low
-copied table p l n low b h r e =
+copy-made table p l n low b h r e =
     record {
-      blocks = b;
+      full = b;
       below = h;
       room = omega (arith, ap length e ∙ length-over (2 ^ n) (λ y. marked (at table (bitXor y low))) l r);
       copy = λ y hy. ap (λ (k : List ℕ). at k y) e ∙ over-at (2 ^ n) (λ y. marked (at table (bitXor y low))) l 0 y hy;
@@ -109,6 +111,8 @@ module _ (a p : List ℕ) (high b : ℕ) where
       go true true h = omega arith
       go true false h = omega arith
       go false d h = omega arith
+
+-- ---- R
 
 and-turn : (a b c : Bool) → (a && (b && c)) ≡ (b && (a && c))
 and-turn true b c = refl
@@ -164,16 +168,16 @@ module _ (table p : List ℕ) (n low high : ℕ) (c : Copied table p n low) (hh 
           let x = b * 64 + i in
           let y = bitXor b high * 64 + i in
           let z = bitXor b high * 64 + bitXor i low in
-          let hx : b * 64 + i < 2 ^ n = point-lt n b i (c .blocks .least) hb hi in
-          let hz : bitXor b high * 64 + bitXor i low < 2 ^ n = point-lt n (bitXor b high) (bitXor i low) (c .blocks .least) (other-lt b hb) (low-lt i hi) in
+          let hx : b * 64 + i < 2 ^ n = point-lt n b i (c .full .least) hb hi in
+          let hz : bitXor b high * 64 + bitXor i low < 2 ^ n = point-lt n (bitXor b high) (bitXor i low) (c .full .least) (other-lt b hb) (low-lt i hi) in
           rw (
             moved b i hi,
-            getD-any table none 0 x (omega (arith, c .blocks .entries)),
-            getD-any table none 0 z (omega (arith, c .blocks .entries)),
+            getD-any table none 0 x (omega (arith, c .full .entries)),
+            getD-any table none 0 z (omega (arith, c .full .entries)),
           )
-          (same-marked (at table x) (at table z) (c .blocks .unmarked x hx)
+          (same-marked (at table x) (at table z) (c .full .unmarked x hx)
           ∙ ap (λ (v : ℕ). eqb (at table x) (marked (at table v))) (sym within)
-          ∙ ap (eqb (at table x)) (sym (c .copy y (point-lt n (bitXor b high) i (c .blocks .least) (other-lt b hb) hi))))
+          ∙ ap (eqb (at table x)) (sym (c .copy y (point-lt n (bitXor b high) i (c .full .least) (other-lt b hb) hi))))
         where
           lowest : low ≡ 0 * 64 + low
           lowest = omega arith
@@ -187,49 +191,8 @@ module _ (table p : List ℕ) (n low high : ℕ) (c : Copied table p n low) (hh 
   pub shift-blocks : shift (ofTable table) n (high * 64 + low) ≡ sum (pairAdds table p high) (2 ^ (n - 6))
   unfolding shift pairAdds
   shift-blocks =
-      ap (count (same (ofTable table) (high * 64 + low))) (whole n (c .blocks .least))
+      ap (count (same (ofTable table) (high * 64 + low))) (whole n (c .full .least))
       ∙ count-blocks (same (ofTable table) (high * 64 + low)) 64 (2 ^ (n - 6))
       ∙ sum-paired adds (λ b. bitXor b high) (2 ^ (n - 6)) other-lt (λ b hb. xor-cancel-r b high) adds-turn
       ∙ sum-cong _ _ (2 ^ (n - 6))
       (λ b hb. ap (λ (x : ℕ). cond (leb b (bitXor b high)) (x * cond (eqb b (bitXor b high)) 1 2) 0) (adds-matching b hb))
-
--- ---- the order of storing: for each low part, every high part
-
--- the places below m with this low part
-abbrev pub atLow : ℕ → ℕ → ℕ → Bool
-atLow low m t = eqb (t % 64) low && ltb t m
-
--- the places below m with a smaller low part
-abbrev pub belowLow : ℕ → ℕ → ℕ → Bool
-belowLow low m t = ltb (t % 64) low && ltb t m
-
-pub at-low-none : (low t : ℕ) → atLow low 0 t ≡ false
-at-low-none low t = rw (le-ltb t 0 (omega arith)) (and-false (eqb (t % 64) low))
-
-pub at-low-more : (low high t : ℕ) → low < 64 → atLow low ((high + 1) * 64) t ≡ (eqb t (high * 64 + low) || atLow low (high * 64) t)
-at-low-more low high t h = go (ℕ-discrete (t % 64) low) (ℕ-discrete t (high * 64 + low)) (decLt t (high * 64))
-  where
-    go : Dec (t % 64 ≡ low) → Dec (t ≡ high * 64 + low) → Dec (t < high * 64)
-        → atLow low ((high + 1) * 64) t ≡ (eqb t (high * 64 + low) || atLow low (high * 64) t)
-    go (no n) d e = rw (ne-eqb (t % 64) low n, ne-eqb t (high * 64 + low) (omega arith))
-    go (yes m) (yes d) e = rw (eq-eqb (t % 64) low m, eq-eqb t (high * 64 + low) d, lt-ltb t ((high + 1) * 64) (omega arith))
-    go (yes m) (no d) (yes e) =
-        rw (eq-eqb (t % 64) low m, ne-eqb t (high * 64 + low) d, lt-ltb t ((high + 1) * 64) (omega arith), lt-ltb t (high * 64) e)
-    go (yes m) (no d) (no e) =
-        rw (eq-eqb (t % 64) low m, ne-eqb t (high * 64 + low) d, le-ltb t ((high + 1) * 64) (omega arith), le-ltb t (high * 64) (omega arith))
-
-pub below-low-none : (m t : ℕ) → belowLow 0 m t ≡ false
-below-low-none m t = rw (le-ltb (t % 64) 0 (omega arith))
-
-pub below-low-more : (low m t : ℕ) → belowLow (low + 1) m t ≡ (atLow low m t || belowLow low m t)
-below-low-more low m t = go (ℕ-discrete (t % 64) low) (decLt (t % 64) low) (ltb t m)
-  where
-    go : Dec (t % 64 ≡ low) → Dec (t % 64 < low) → (b : Bool)
-        → (ltb (t % 64) (low + 1) && b) ≡ ((eqb (t % 64) low && b) || (ltb (t % 64) low && b))
-    go (yes e) d true = rw (eq-eqb (t % 64) low e, lt-ltb (t % 64) (low + 1) (omega arith))
-    go (yes e) d false = rw (eq-eqb (t % 64) low e, le-ltb (t % 64) low (omega arith), and-false)
-    go (no n) (yes d) b = rw (ne-eqb (t % 64) low n, lt-ltb (t % 64) (low + 1) (omega arith), lt-ltb (t % 64) low d)
-    go (no n) (no d) b = rw (ne-eqb (t % 64) low n, le-ltb (t % 64) (low + 1) (omega arith), le-ltb (t % 64) low (omega arith))
-
-pub below-low-all : (m t : ℕ) → belowLow 64 m t ≡ ltb t m
-below-low-all m t = rw (lt-ltb (t % 64) 64 (omega arith))

@@ -1,4 +1,4 @@
-// R of a full table: at one t, at every t, and its sums. Every function here is inner.
+// R of a full table: at one t, point by point, and at every t, by blocks of 64 points. Every function here is inner.
 ghost use mathlib.Core.Path.{_≡_};
 ghost use Prim.Native.Nat.{ℕ, _+_, _*_, _-_, _≤_, _<_, _^_};
 ghost use lib.Bits.{bitXor};
@@ -7,7 +7,8 @@ ghost use Rattle.slices.specs.Places.{at, tab, over};
 ghost use Rattle.slices.specs.Placed.{Placed};
 ghost use Rattle.block.specs.Words.{ofTable};
 ghost use Rattle.block.specs.Measure.{shift};
-ghost use Rattle.shifts.specs.Blocks.{marked, matching, pairAdds, Blocks, Copied, atLow};
+ghost use Rattle.shifts.specs.Blocks.{marked, matching, pairAdds, FullTable, Copied};
+ghost use Rattle.shifts.specs.Order.{atLow};
 
 // R(t) of a full table of 2^n words.
 pub fn shift_at(table: &[u16], n: usize, t: usize) -> u32
@@ -108,7 +109,7 @@ fn shift_by_blocks(table: &[u16], copy: &[u16], n: usize, low: usize, high: usiz
 
 // R(t) for every t with the given low part.
 fn shifts_at_low(table: &[u16], n: usize, low: usize, out: &mut [u32])
-    requires { ⌜ (Blocks (now table) n) × (low < 64) × (2 ^ n ≤ length (now out)) ⌝ }
+    requires { ⌜ (FullTable (now table) n) × (low < 64) × (2 ^ n ≤ length (now out)) ⌝ }
     ensures { λ _. ⌜ Placed (atLow low (2 ^ n)) (shift (ofTable (now (table .entry))) n) (now (out .entry)) (now (out .exit)) ⌝ }
 {
     let mut copy = [0u16; 4096];

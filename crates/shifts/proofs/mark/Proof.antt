@@ -1,5 +1,4 @@
 -- `shifts::mark` meets its contract: one case for each answer. Assumes nothing.
-use mathlib.Core.Path.{_≡_, refl}
 use borrow.Author.Tests.{eq-eqb, ne-eqb}
 use Rattle.block.specs.Words.{none}
 use Rattle.shifts.proofs.mark.Statement.{statement}

@@ -1,11 +1,9 @@
 -- `shifts::pair_adds` meets its contract: one case for each answer. Assumes nothing.
-use mathlib.Core.Path.{_≡_, sym, ap, _∙_}
-use Prim.Native.Nat.{ℕ, _≤_, _<_, _-_, _+_, _*_, _^_}
+use mathlib.Core.Path.{ap, _∙_}
+use Prim.Native.Nat.{ℕ, _-_, _*_}
 use native.Mathlib.Omega.{arith}
 use lib.Bits.{bitXor, xor-lt}
-use lib.ListN.{length}
-use denote.Ref.{now}
-use Rattle.shifts.specs.Blocks.{matching, matching-le, block-le, pair-counted, pair-alone, pair-both}
+use Rattle.shifts.specs.Blocks.{block-le, pair-counted, pair-alone, pair-both}
 use borrow.Author.Needs.{needs}
 use Rattle.shifts.proofs.pair_adds.Statement.{statement}
 use Rattle.shifts.proofs.pair_adds.Tie as tie

@@ -1,6 +1,6 @@
 -- `shifts::put_copy` meets its contract. The loop's invariant: the first y entries are done. The measure is what is left.
 -- Assumes nothing.
-use mathlib.Core.Path.{_≡_, refl, sym, ap, _∙_}
+use mathlib.Core.Path.{_≡_}
 use Prim.Native.Nat.{ℕ, _≤_, _<_, _-_, _^_}
 use native.Mathlib.Omega.{arith}
 use lib.Bits.{bitXor, xor-lt}

@@ -1,7 +1,7 @@
 -- `shifts::shift_by_blocks` meets its contract. The loop's invariant: r is what the pairs of blocks before b add. The measure is what is
 -- left. Assumes nothing.
-use mathlib.Core.Path.{_≡_, sym, ap, _∙_}
-use Prim.Native.Nat.{ℕ, _≤_, _<_, _-_, _+_, _*_, _/_, _^_}
+use mathlib.Core.Path.{_≡_, sym, _∙_}
+use Prim.Native.Nat.{_≤_, _-_, _/_, _^_}
 use native.Mathlib.Omega.{arith}
 use lib.ListN.{length}
 use lib.Pow.{pow-mono}
@@ -21,7 +21,7 @@ abbrev μ-loop : tie.MeasureT-loop
 
 number : (c : tie.At-loop Inv-loop μ-loop) → length (now (c .before .before .before .args .table)) / 64 ≡ 2 ^ (c .before .before .before .args .n - 6)
 number c =
-    let h = c .before .before .before .pre .0 .blocks in
+    let h = c .before .before .before .pre .0 .full in
     number-of-blocks _ _ (h .least) (h .entries)
 
 loop-holds : tie.Need-loop-holds Inv-loop μ-loop
@@ -30,7 +30,7 @@ loop-holds c = (search needs, sym (sum-zero _))
 pair-adds-requires : tie.Need-pair-adds-requires Inv-loop μ-loop
 pair-adds-requires c κs =
     let h = c .before .before .before .before .pre in
-    (h .0 .blocks .entries, h .0 .blocks .least, h .0 .room, h .1, omega (arith, number (c .before)))
+    (h .0 .full .entries, h .0 .full .least, h .0 .room, h .1, omega (arith, number (c .before)))
 
 add-r : tie.Need-add-r Inv-loop μ-loop
 add-r c =

@@ -1,7 +1,7 @@
 -- `shifts::shifts_at_low` meets its contract. The loop's invariant: the places of this low part before high hold R, and the others what
 -- they held. The measure is what is left. Assumes nothing.
-use mathlib.Core.Path.{_≡_, sym, ap, _∙_}
-use Prim.Native.Nat.{ℕ, _≤_, _<_, _-_, _+_, _*_, _/_, _^_}
+use mathlib.Core.Path.{_≡_}
+use Prim.Native.Nat.{_≤_, _<_, _-_, _+_, _*_, _/_, _^_}
 use native.Mathlib.Omega.{arith}
 use lib.ListN.{length, replicate}
 use lib.Pow.{pow-mono}
@@ -9,7 +9,8 @@ use denote.Ref.{now}
 use Rattle.slices.specs.Placed.{Placed, placed-none, placed-more}
 use Rattle.block.specs.Words.{ofTable}
 use Rattle.block.specs.Measure.{shift}
-use Rattle.shifts.specs.Blocks.{atLow, at-low-none, at-low-more, number-of-blocks, point-lt, whole, copied}
+use Rattle.shifts.specs.Blocks.{number-of-blocks, point-lt, whole, copy-made}
+use Rattle.shifts.specs.Order.{atLow, at-low-none, at-low-more}
 use borrow.Author.Needs.{needs}
 use Rattle.shifts.proofs.shifts_at_low.Statement.{statement}
 use Rattle.shifts.proofs.shifts_at_low.Tie as tie
@@ -50,7 +51,7 @@ slice-aggregate-shift-by-blocks c = search needs
 shift-by-blocks-requires : tie.Need-shift-by-blocks-requires Inv-loop μ-loop
 shift-by-blocks-requires c κs =
     let s = c .before .before .before .before .before .before .before .before in (
-      copied _ _ (replicate 4096 0) _ _ (s .pre .0) (s .pre .1) (pow-mono (s .pre .0 .most)) (c .before .before .before .before .put-copy .ensures),
+      copy-made _ _ (replicate 4096 0) _ _ (s .pre .0) (s .pre .1) (pow-mono (s .pre .0 .most)) (c .before .before .before .before .put-copy .ensures),
       omega (arith, number (c .before .before)),
     )
 

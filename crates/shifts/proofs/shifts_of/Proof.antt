@@ -1,14 +1,12 @@
 -- `shifts::shifts_of` meets its contract. The loop's invariant: the places with a low part before low hold R, and the others what they
 -- held. The measure is what is left of 64. Assumes nothing.
-use mathlib.Core.Path.{_≡_, sym, ap, _∙_}
-use Prim.Native.Nat.{ℕ, _≤_, _<_, _-_, _+_, _^_}
+use mathlib.Core.Path.{_≡_}
+use Prim.Native.Nat.{_≤_, _-_, _^_}
 use native.Mathlib.Omega.{arith}
-use lib.ListN.{length}
-use denote.Ref.{now}
 use Rattle.slices.specs.Placed.{Placed, placed-none, placed-then, placed-over}
 use Rattle.block.specs.Words.{ofTable}
 use Rattle.block.specs.Measure.{shift}
-use Rattle.shifts.specs.Blocks.{Blocks, belowLow, below-low-none, below-low-more, below-low-all}
+use Rattle.shifts.specs.Order.{belowLow, below-low-none, below-low-more, below-low-all}
 use borrow.Author.Needs.{needs}
 use Rattle.shifts.proofs.shifts_of.Statement.{statement}
 use Rattle.shifts.proofs.shifts_of.Tie as tie

@@ -1,13 +1,12 @@
 -- `shifts::small_shifts` meets its contract. The loop's invariant: the first t entries hold R, and the rest what they held.
 -- The measure is what is left. Assumes nothing.
-use mathlib.Core.Path.{_≡_, ap, _∙_}
-use Prim.Native.Nat.{ℕ, _≤_, _<_, _-_, _^_}
+use mathlib.Core.Path.{_≡_}
+use Prim.Native.Nat.{_≤_, _-_, _^_}
 use native.Mathlib.Omega.{arith}
 use lib.ListN.{length}
-use lib.Pow.{pow-mono}
 use denote.Ref.{now}
 use Rattle.slices.specs.Places.{tab, over}
-use Rattle.slices.specs.Filled.{over-none, over-more, length-over}
+use Rattle.slices.specs.Filled.{over-none, over-more}
 use Rattle.block.specs.Words.{ofTable}
 use Rattle.block.specs.Measure.{shift}
 use borrow.Author.Needs.{needs}
