@@ -1,0 +1,2 @@
+-- The work of the row method, as its parts have it.
+pub mod Work
