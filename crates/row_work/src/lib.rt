@@ -1,7 +1,10 @@
 // The work of the row method, once its checks from 1 to 7 have passed: R of every candidate by cubes, the choice, the rows moved in
 // working storage, and the results written out at the end, where the list never passed 512 rows. Every function here is inner.
+use block::RowMethodAnswer;
 use choosing::Measures;
 use row_steps::Replay;
+ghost use mathlib.Core.Path.{_≡_};
+ghost use mathlib.Core.Bool.{false};
 ghost use Prim.Native.Nat.{_≤_};
 ghost use lib.ListN.{length};
 ghost use Rattle.slices.specs.Places.{at};
@@ -13,6 +16,7 @@ ghost use Rattle.choosing.specs.Found.{Found};
 ghost use Rattle.row_steps.specs.Held.{Room};
 ghost use Rattle.row_steps.specs.Passed.{Replayed};
 ghost use Rattle.row_work.specs.Work.{ListPut, RowsWorked};
+ghost use Rattle.row_work.specs.Method.{MethodDone};
 
 // T, sigma and both measures of a list of disjoint rows.
 pub fn find_basis(
@@ -143,5 +147,66 @@ pub fn work_rows(
         before: measures.before,
         after: measures.after,
         count: m.count,
+    }
+}
+
+// The row method for any arguments; `short` says that the lent room is too short, and is asked for after 4 and before 6.
+pub fn method_rows(
+    n: usize,
+    k: usize,
+    w: usize,
+    masks: &[u32],
+    values: &[u32],
+    words: &[u32],
+    short: bool,
+    basis: &mut [u32],
+    sigma: &mut [u32],
+    out_masks: &mut [u32],
+    out_values: &mut [u32],
+    out_words: &mut [u32],
+) -> RowMethodAnswer
+    requires { ⌜ (short ≡ false → n ≤ 16 → (n ≤ length (now basis)) × (n ≤ length (now sigma)) × (512 ≤ length (now «out_masks»)) × (512 ≤ length (now «out_values»)) × (512 ≤ length (now «out_words»))) ⌝ }
+    ensures { λ r. ⌜ MethodDone n k w (rowsOf (now (masks .entry)) (now (values .entry)) (now (words .entry))) short (now (basis .entry)) (now (sigma .entry)) (now («out_masks» .entry)) (now («out_values» .entry)) (now («out_words» .entry)) (now (basis .exit)) (now (sigma .exit)) (now («out_masks» .exit)) (now («out_values» .exit)) (now («out_words» .exit)) r ⌝ }
+{
+    let v = row_checks::method_checked(n, k, w, masks, values, words, short);
+    if v.number != 0 {
+        return RowMethodAnswer {
+            number: v.number,
+            a: v.a,
+            b: v.b,
+            before: 0,
+            after: 0,
+            count: 0,
+        };
+    }
+    let done = work_rows(
+        n,
+        w,
+        masks,
+        values,
+        words,
+        basis,
+        sigma,
+        out_masks,
+        out_values,
+        out_words,
+    );
+    if done.step != 0 {
+        return RowMethodAnswer {
+            number: 9,
+            a: done.step,
+            b: 0,
+            before: 0,
+            after: 0,
+            count: 0,
+        };
+    }
+    RowMethodAnswer {
+        number: 0,
+        a: 0,
+        b: 0,
+        before: done.before,
+        after: done.after,
+        count: done.count,
     }
 }
