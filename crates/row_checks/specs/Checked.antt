@@ -1,5 +1,5 @@
--- The checks of the operations on lists: the row method's before 9, which needs the rows transformed; 6 and 7 as the code finds them;
--- and what an answer of 0 says of n, k and the rows, for each operation. Assumes nothing.
+-- The checks of the operations on lists: the row method's before 9, which needs the rows transformed; 6 and 7 as the code finds
+-- them; and what an answer of 0 says of n, k and the rows, for each operation. Assumes nothing.
 use mathlib.Core.Path.{_≡_, refl, sym, ap, _∙_}
 use mathlib.Core.Bool.{Bool, false, not}
 use mathlib.Core.List.{List, [], _∷_, _++_}
@@ -8,7 +8,8 @@ use native.Mathlib.Omega.{arith}
 use borrow.Author.Tests.{eq-eqb, lt-ltb, le-ltb, ltb-true, ltb-false, not-false}
 use lib.Dec.{ltb}
 use lib.ListN.{length}
-use Rattle.slices.specs.Places.{first}
+use lib.Pow.{pow-mono}
+use Rattle.slices.specs.Places.{at, first}
 use Rattle.block.specs.Limits.{listInputs, tableInputs, outputs, givenRows, smallerRows}
 use Rattle.block.specs.Words.{rowsOf}
 use Rattle.block.specs.Refusals.{Check, check, answer, verdict, answered, outside, sizeChecks, badRow, rowAt}
@@ -18,8 +19,8 @@ use Rattle.block.specs.declared.Answer.{Answer}
 use Rattle.verdicts.specs.Verdicts.{verdict-hit, verdict-miss, Numbered, answered-clear}
 use Rattle.checks.specs.Sizes.{inside}
 use Rattle.pairs.specs.Theorem.{Every, Disjoint}
-use Rattle.pairs.specs.Share.{every-good, checked-disjoint}
-use Rattle.listing.specs.Listing.{Listed, rows-count, equal-lengths}
+use Rattle.pairs.specs.Share.{good-word, every-good, checked-disjoint}
+use Rattle.listing.specs.Listing.{Listed, rows-count, row-at, equal-lengths}
 
 -- the row method: 1, 2, 3, 4, 5, 6, 7
 unfoldable pub methodChecked : ℕ → ℕ → ℕ → List Row → Bool → List Check
@@ -99,45 +100,66 @@ checked-when inputs most n k masks values words one two four six seven =
       disjoint = checked-disjoint n k (rowsOf masks values words) (c .1) six seven;
     }
 
+-- each word is below 2^15, and so fits a table's entry
+pub checked-words : (inputs most n k : ℕ) (masks values words : List ℕ) → Checked inputs most n k masks values words
+    → (i : ℕ) → i < length words → at words i < 65536
+checked-words inputs most n k masks values words c i h =
+    let l = c .listed in
+    let p = rows-count masks values words (l .values-too) (l .words-too) in
+    let r = row-at masks values words (l .values-too) (l .words-too) i (omega arith) in
+    omega (
+      arith,
+      ap (λ (r : Row). r .word) r,
+      good-word n k (rowAt (rowsOf masks values words) i) (c .good i (omega arith)),
+      pow-mono (c .columns .1),
+    )
+
 -- a single value
-pub value-checked : (n k t : ℕ) (masks values words : List ℕ) → rowValueVerdict n k t (rowsOf masks values words) .number ≡ 0
-    → Checked listInputs givenRows n k masks values words × (t < 2 ^ n)
+pub value-checked : (n k t : ℕ) (masks values words : List ℕ) (v : Answer) → v ≡ rowValueVerdict n k t (rowsOf masks values words)
+    → v .number ≡ 0 → Checked listInputs givenRows n k masks values words × (t < 2 ^ n)
 unfolding rowValueVerdict
-value-checked n k t masks values words e =
+value-checked n k t masks values words v e h =
     let rs : List Row = rowsOf masks values words in
     let clear =
     answered-clear
-    (sizeChecks listInputs n k (check (not (ltb t (2 ^ n))) 3 0 0 ∷ countCheck givenRows rs ∷ badRowCheck n k rs ∷ shareCheck n rs ∷ []))
-    (refl, (refl, (refl, (refl, (refl, (refl, tt)))))) (eq-eqb _ 0 e) in (
-      checked-when listInputs givenRows n k masks values words (clear 0 (omega arith)) (clear 1 (omega arith)) (clear 3 (omega arith))
+    (sizeChecks listInputs n k
+    (check (not (ltb t (2 ^ n))) 3 0 0 ∷ countCheck givenRows rs ∷ badRowCheck n k rs ∷ shareCheck n rs ∷ []))
+    (refl, (refl, (refl, (refl, (refl, (refl, tt)))))) (sym (ap answered e) ∙ eq-eqb (v .number) 0 h) in (
+      checked-when listInputs givenRows n k masks values words (clear 0 (omega arith)) (clear 1 (omega arith))
+          (clear 3 (omega arith))
           (clear 4 (omega arith)) (clear 5 (omega arith)),
       ltb-true t (2 ^ n) (not-false _ (clear 2 (omega arith))),
     )
 
 -- filling
-pub fill-checked : (n k : ℕ) (masks values words : List ℕ) (room : ℕ) → fillVerdict n k (rowsOf masks values words) room .number ≡ 0
+pub fill-checked : (n k : ℕ) (masks values words : List ℕ) (room : ℕ) (v : Answer)
+    → v ≡ fillVerdict n k (rowsOf masks values words) room → v .number ≡ 0
     → Checked tableInputs smallerRows n k masks values words × (2 ^ n ≤ room)
 unfolding fillVerdict
-fill-checked n k masks values words room e =
+fill-checked n k masks values words room v e h =
     let rs : List Row = rowsOf masks values words in
     let clear =
     answered-clear
-    (sizeChecks tableInputs n k (countCheck smallerRows rs ∷ check (ltb room (2 ^ n)) 5 0 0 ∷ badRowCheck n k rs ∷ shareCheck n rs ∷ []))
-    (refl, (refl, (refl, (refl, (refl, (refl, tt)))))) (eq-eqb _ 0 e) in (
-      checked-when tableInputs smallerRows n k masks values words (clear 0 (omega arith)) (clear 1 (omega arith)) (clear 2 (omega arith))
+    (sizeChecks tableInputs n k
+    (countCheck smallerRows rs ∷ check (ltb room (2 ^ n)) 5 0 0 ∷ badRowCheck n k rs ∷ shareCheck n rs ∷ []))
+    (refl, (refl, (refl, (refl, (refl, (refl, tt)))))) (sym (ap answered e) ∙ eq-eqb (v .number) 0 h) in (
+      checked-when tableInputs smallerRows n k masks values words (clear 0 (omega arith)) (clear 1 (omega arith))
+          (clear 2 (omega arith))
           (clear 4 (omega arith)) (clear 5 (omega arith)),
       ltb-false room (2 ^ n) (clear 3 (omega arith)),
     )
 
 -- the row method, but for 9
-pub method-checked : (n k w : ℕ) (masks values words : List ℕ) (short : Bool)
-    → verdict (methodChecked n k w (rowsOf masks values words) short) .number ≡ 0
+pub method-checked : (n k w : ℕ) (masks values words : List ℕ) (short : Bool) (v : Answer)
+    → v ≡ verdict (methodChecked n k w (rowsOf masks values words) short) → v .number ≡ 0
     → Checked listInputs givenRows n k masks values words × ((1 ≤ w) × (w ≤ n)) × (short ≡ false)
 unfolding methodChecked
-method-checked n k w masks values words short e =
+method-checked n k w masks values words short v e h =
     let rs : List Row = rowsOf masks values words in
-    let clear = answered-clear (methodChecked n k w rs short) (method-numbered n k w rs short) (eq-eqb _ 0 e) in (
-      checked-when listInputs givenRows n k masks values words (clear 0 (omega arith)) (clear 1 (omega arith)) (clear 3 (omega arith))
+    let clear = answered-clear (methodChecked n k w rs short) (method-numbered n k w rs short)
+    (sym (ap answered e) ∙ eq-eqb (v .number) 0 h) in (
+      checked-when listInputs givenRows n k masks values words (clear 0 (omega arith)) (clear 1 (omega arith))
+          (clear 3 (omega arith))
           (clear 5 (omega arith)) (clear 6 (omega arith)),
       inside 1 n w (clear 2 (omega arith)),
       clear 4 (omega arith),

@@ -132,3 +132,9 @@ pub length-over-map {ℓ} : {A B : Type ℓ} (f : A → B) (s : List A) (l : Lis
     → length (over (map f s) l) ≡ length l
 length-over-map f s l h =
     length-append (map f s) (drop (length (map f s)) l) ∙ rw (length-map s f, length-drop (length s) l) (omega arith)
+
+-- a list is the listing of its own values
+pub tab-list {ℓ} : {A : Type ℓ} (d : A) (l : List A) → tab (length l) (λ i. getD l i d) ≡ l
+tab-list d l =
+    ext-getD d (tab (length l) (λ i. getD l i d)) l (length-tab (length l) (λ i. getD l i d))
+    (λ i h. tab-at (length l) (λ i. getD l i d) d i (rw (length-tab (length l) (λ i. getD l i d)) at h))

@@ -1,0 +1,10 @@
+-- `cubes::same_word` meets its contract: its test is the contract's. Assumes nothing.
+use mathlib.Core.Path.{refl}
+use Rattle.cubes.proofs.same_word.Statement.{statement}
+use Rattle.cubes.proofs.same_word.Tie as tie
+
+returns : tie.Need-returns
+returns c = refl
+
+pub same-word-spec : {M : Type 1} → statement M
+same-word-spec = tie.close (tie.spec returns)

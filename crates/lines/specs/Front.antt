@@ -1,0 +1,128 @@
+-- The lines of a text by its first line: `front` cuts it off, and every line is the front of what follows those before it. A list
+-- that stands in a text, and a line that does is its front. Assumes nothing.
+use mathlib.Core.Path.{_≡_, refl, sym, ap, _∙_}
+use mathlib.Core.Bool.{Bool, true, false, not, cond, _&&_}
+use mathlib.Core.List.{List, [], _∷_, _++_}
+use Prim.Native.Nat.{ℕ, zero, suc, _+_, _-_, _≤_, _<_}
+use native.Mathlib.Nat.{zero-add}
+use native.Mathlib.Omega.{arith}
+use borrow.Author.Tests.{eq-eqb, ne-eqb, eqb-true, not-true}
+use lib.Dec.{eqb}
+use lib.ListN.{length, getD, take, drop, length-append, List·getD-append, List·getD-eq-default, drop-of-length-le}
+use lib.Seq.{drop-drop, drop-nil, getD-append-add, getD-append-seam, getD-drop}
+use Rattle.slices.specs.Places.{at}
+use Rattle.block.specs.Text.{lines, onto, lineAt, every}
+use Rattle.lines.specs.Tests.{both}
+
+-- the first line, with its LF where it has one
+unfoldable pub front : List ℕ → List ℕ
+front [] = []
+front (b ∷ bs) = cond (eqb b 10) (10 ∷ []) (b ∷ front bs)
+
+-- a text that is not empty has a first line, and the others are the lines of the rest
+lines-cons : (b : ℕ) (bs : List ℕ)
+    → lines (b ∷ bs) ≡ front (b ∷ bs) ∷ lines (drop (length (front (b ∷ bs))) (b ∷ bs))
+unfolding lines front
+lines-cons b [] = go (eqb b 10)
+  where
+    go : (t : Bool)
+        → cond t ((10 ∷ []) ∷ []) ((b ∷ []) ∷ []) ≡ cond t (10 ∷ []) (b ∷ []) ∷ lines (drop (length (cond t (10 ∷ []) (b ∷ []))) (b ∷ []))
+    go true = refl
+    go false = refl
+lines-cons b (c ∷ cs) = go (eqb b 10) (lines-cons c cs)
+  where
+    l : List ℕ
+    l = front (c ∷ cs)
+
+    go : (t : Bool) → lines (c ∷ cs) ≡ l ∷ lines (drop (length l) (c ∷ cs))
+        → cond t ((10 ∷ []) ∷ lines (c ∷ cs)) (onto b (lines (c ∷ cs)))
+        ≡ cond t (10 ∷ []) (b ∷ l) ∷ lines (drop (length (cond t (10 ∷ []) (b ∷ l))) (b ∷ c ∷ cs))
+    go true ih = refl
+    go false ih = ap (onto b) ih
+
+pub line-first : (s : List ℕ) → lineAt s 0 ≡ front s
+unfolding lines front
+line-first [] = refl
+line-first (b ∷ bs) = ap (λ (l : List (List ℕ)). getD l 0 []) (lines-cons b bs)
+
+pub line-next : (s : List ℕ) (i : ℕ) → lineAt s (suc i) ≡ lineAt (drop (length (front s)) s) i
+unfolding lines front
+line-next [] i = refl
+line-next (b ∷ bs) i = ap (λ (l : List (List ℕ)). getD l (suc i) []) (lines-cons b bs)
+
+-- the place where line i starts
+unfoldable pub start : List ℕ → ℕ → ℕ
+start s zero = 0
+start s (suc i) = start s i + length (front (drop (start s i) s))
+
+-- lines i + j are those of the text from line i on
+pub line-add : (s : List ℕ) (i j : ℕ) → lineAt s (i + j) ≡ lineAt (drop (start s i) s) j
+unfolding start
+line-add s zero j = ap (lineAt s) (zero-add j)
+line-add s (suc i) j =
+    ap (lineAt s) (omega arith)
+    ∙ line-add s i (suc j)
+    ∙ line-next (drop (start s i) s) j
+    ∙ ap (λ (l : List ℕ). lineAt l j) (drop-drop (length (front (drop (start s i) s))) (start s i) s)
+
+-- line i is the front of the text from its start on
+pub line-front : (s : List ℕ) (i : ℕ) → lineAt s i ≡ front (drop (start s i) s)
+line-front s i = ap (lineAt s) (omega arith) ∙ line-add s i 0 ∙ line-first (drop (start s i) s)
+
+-- ---- a list that stands in a text
+
+-- t stands in s from a place on
+abbrev pub Stands : List ℕ → ℕ → List ℕ → Type 0
+Stands s from t = (i : ℕ) → i < length t → at s (from + i) ≡ at t i
+
+pub stands-left : (s : List ℕ) (from : ℕ) (a b : List ℕ) → Stands s from (a ++ b) → Stands s from a
+stands-left s from a b h i k = h i (omega (arith, length-append a b)) ∙ List·getD-append a b 0 i k
+
+pub stands-right : (s : List ℕ) (from : ℕ) (a b : List ℕ) → Stands s from (a ++ b) → Stands s (from + length a) b
+stands-right s from a b h i k =
+    ap (at s) (omega arith) ∙ h (length a + i) (omega (arith, length-append a b)) ∙ getD-append-add a b i 0
+
+-- the front stands at the text's start
+pub front-stands : (s : List ℕ) → Stands s 0 (front s)
+unfolding front
+front-stands [] i h = absurd (omega arith)
+front-stands (b ∷ bs) i h = ap (at (b ∷ bs)) (zero-add i) ∙ go (front-stands bs) (eqb b 10) refl i h
+  where
+    go : Stands bs 0 (front bs) → (t : Bool) → eqb b 10 ≡ t → (i : ℕ) → i < length (cond t (10 ∷ []) (b ∷ front bs))
+        → at (b ∷ bs) i ≡ at (cond t (10 ∷ []) (b ∷ front bs)) i
+    go ih true e zero h = eqb-true b 10 e
+    go ih true e (suc i) h = absurd (omega arith)
+    go ih false e zero h = refl
+    go ih false e (suc i) h = ap (at bs) (sym (zero-add i)) ∙ ih i (omega arith)
+
+-- no byte of l is LF
+abbrev pub noLF : List ℕ → Bool
+noLF l = every (λ b. not (eqb b 10)) l
+
+-- a line that stands at the text's start is its front
+pub stands-front : (b s : List ℕ) → noLF b ≡ true → Stands s 0 (b ++ (10 ∷ [])) → front s ≡ b ++ (10 ∷ [])
+unfolding front every
+stands-front b [] e h =
+    let z : _≡_ {A = ℕ} 0 10 = h (length b) (omega (arith, length-append b (10 ∷ []))) ∙ getD-append-seam b 10 [] 0 in
+    absurd (omega arith)
+stands-front [] (x ∷ s) e h = rw (eq-eqb x 10 (h 0 (omega arith)))
+stands-front (y ∷ b) (x ∷ s) e h =
+    let t = both (not (eqb y 10)) (noLF b) e in
+    let f : x ≡ y = h 0 (omega arith) in
+    rw (f, not-true (eqb y 10) (t .0))
+    (ap (λ (l : List ℕ). y ∷ l)
+    (stands-front b s (t .1) (λ i k. ap (at s) (zero-add i) ∙ ap (at (x ∷ s)) (sym (zero-add (suc i))) ∙ h (suc i) (omega arith))))
+
+-- the text is its front and the rest
+pub front-rest : (s : List ℕ) → front s ++ drop (length (front s)) s ≡ s
+unfolding front
+front-rest [] = refl
+front-rest (b ∷ bs) = go (eqb b 10) refl (front-rest bs)
+  where
+    go : (t : Bool) → eqb b 10 ≡ t → front bs ++ drop (length (front bs)) bs ≡ bs
+        → cond t (10 ∷ []) (b ∷ front bs) ++ drop (length (cond t (10 ∷ []) (b ∷ front bs))) (b ∷ bs) ≡ b ∷ bs
+    go true e ih = ap (λ (x : ℕ). x ∷ bs) (sym (eqb-true b 10 e))
+    go false e ih = ap (λ (l : List ℕ). b ∷ l) ih
+
+pub front-le : (s : List ℕ) → length (front s) ≤ length s
+front-le s = omega (arith, length-append (front s) (drop (length (front s)) s), ap length (front-rest s))

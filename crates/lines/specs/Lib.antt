@@ -1,0 +1,10 @@
+-- The text reader by places and by lines: `ByPlace` has what its functions give; `Tests` what tests say together; `Front` the laws of lines; `Numerals`, `HeadLines`,
+-- `RowLines` and `Whole` show that the two agree, on a heading, a row and the whole text.
+pub mod ByPlace
+pub mod Tests
+pub mod Front
+pub mod Numerals
+pub mod HeadLines
+pub mod RowLines
+pub mod Whole
+pub mod Answers

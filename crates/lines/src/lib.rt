@@ -1,0 +1,30 @@
+// The text reader by places, and by lines. The reader looks at bytes by their place in the text; the meaning (block's `Text`) cuts the
+// text at LF and says what is due on each line. This crate has no functions: it holds the reader's inner types, in specs/ByPlace.antt
+// what each of its functions gives, and the laws by which that is what the meaning says of the lines.
+use block::Headings;
+use block::Refusal;
+use block::Row;
+
+// The number of a heading, and how many bytes its line takes with its LF.
+pub enum Number {
+    Value(usize, usize),
+    Formless,
+}
+
+// What some symbols spell: a mask and the values under it, highest input first.
+pub enum Spelling {
+    Good(u32, u32),
+    Bad,
+}
+
+// A row's line.
+pub enum Line {
+    Sound(Row),
+    Broken,
+}
+
+// The three headings: what they say and the place after them, or why the text is refused before any row.
+pub enum Opening {
+    Open(Headings, usize),
+    Stopped(Refusal),
+}

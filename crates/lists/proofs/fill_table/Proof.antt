@@ -1,0 +1,38 @@
+-- `lists::fill_table` meets its contract. A refusal leaves the table alone; on 0 every check passed, so that the table has room
+-- and each word fits an entry. Assumes nothing.
+use borrow.Author.Tests.{eq-eqb, ne-eqb}
+use denote.Ref.{now}
+use lib.ListN.{length}
+use Rattle.row_checks.specs.Checked.{fill-checked, checked-words}
+use borrow.Author.Needs.{needs}
+use Rattle.lists.proofs.fill_table.Statement.{statement}
+use Rattle.lists.proofs.fill_table.Tie as tie
+
+fill-verdict-requires : tie.Need-fill-verdict-requires
+fill-verdict-requires c κs = search needs
+
+returns : tie.Need-returns
+returns c =
+    let e = c .before .before .fill-verdict .ensures in
+    (e, rw (← e, ne-eqb _ _ (c .if1 .taken)))
+
+fill-rows-requires : tie.Need-fill-rows-requires
+fill-rows-requires c κs =
+    let a = c .before .before .before .before .before .before .before .before .args in
+    let w = fill-checked (a .n) (a .k) (now (a .masks)) (now (a .values)) (now (a .words)) (length (now (a .table))) _
+    (c .before .before .before .fill-verdict .ensures) (c .before .if1 .left) in (
+      (w .0 .size .1, w .1, w .0 .listed),
+      checked-words 12 512 (a .n) (a .k) (now (a .masks)) (now (a .values)) (now (a .words)) (w .0),
+    )
+
+same-length : tie.Need-same-length
+same-length c = search needs
+
+returns-2 : tie.Need-returns-2
+returns-2 c =
+    let e = c .before .before .before .before .before .before .fill-verdict .ensures in
+    (e, rw (← e, eq-eqb _ _ (c .before .before .before .before .if1 .left)) (c .before .before .fill-rows .ensures))
+
+pub fill-table-spec : {M : Type 1} → statement M
+fill-table-spec =
+    tie.close (tie.spec fill-verdict-requires returns fill-rows-requires same-length returns-2)

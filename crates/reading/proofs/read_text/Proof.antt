@@ -1,0 +1,59 @@
+-- `reading::read_text` meets its contract: the answer by place, and the slices after it, are the meaning's by the laws of the crate lines.
+-- Assumes nothing.
+use Prim.Native.Nat.{ℕ, min}
+use mathlib.Core.Path.{_≡_, refl, sym, ap, _∙_}
+use native.Mathlib.Omega.{arith}
+use borrow.Author.Needs.{needs}
+use denote.Ref.{now}
+use lib.ListN.{length}
+use Rattle.block.specs.Text.{numbers}
+use Rattle.lines.specs.ByPlace.{maskIn, valuesIn, wordIn}
+use Rattle.lines.specs.Answers.{numbers-read, after-read}
+use Rattle.reading.proofs.read_text.Statement.{statement}
+use Rattle.reading.proofs.read_text.Tie as tie
+
+least-requires : tie.Need-least-requires
+least-requires c κs = search needs
+
+least-requires-2 : tie.Need-least-requires-2
+least-requires-2 c κs = search needs
+
+read-from-requires : tie.Need-read-from-requires
+read-from-requires c κs = omega arith
+
+same-length : tie.Need-same-length
+same-length c = search needs
+
+same-length-2 : tie.Need-same-length-2
+same-length-2 c = search needs
+
+same-length-3 : tie.Need-same-length-3
+same-length-3 c = search needs
+
+returns : tie.Need-returns
+returns c =
+    let a = c .before .before .before .before .before .before .before .before .before .before .before .before .before .before .before .before .args in
+    let r = c .before .before .before .before .before .before .read-from .ensures in
+    let e : c .before .before .before .before .before .before .before .before .before .before .least2 .result ≡ min (length (now (a .masks))) (min (length (now (a .values))) (length (now (a .words)))) = omega arith in
+    rw (← e) (
+      ap numbers (r .0) ∙ numbers-read (now (a .text)) _,
+      (
+        r .1 .0 ∙ after-read (now (a .text)) _ maskIn (now (a .masks)),
+        (
+          r .1 .1 .0 ∙ after-read (now (a .text)) _ valuesIn (now (a .values)),
+          r .1 .1 .1 ∙ after-read (now (a .text)) _ wordIn (now (a .words)),
+        ),
+      ),
+    )
+
+pub read-text-spec : {M : Type 1} → statement M
+read-text-spec =
+    tie.close
+    (tie.spec
+    least-requires
+    least-requires-2
+    read-from-requires
+    same-length
+    same-length-2
+    same-length-3
+    returns)
