@@ -8,11 +8,10 @@ use borrow.Author.Tests.{le-ltb, ltb-false}
 use lib.Dec.{ltb}
 use lib.ListN.{length}
 use Rattle.slices.specs.Places.{first}
-use Rattle.slices.specs.Least.{first-below, first-le}
+use Rattle.slices.specs.Least.{first-below}
 use Rattle.block.specs.Refusals.{answer, verdict, outside, some, badRow, rowAt}
 use Rattle.block.specs.Text.{writeVerdict}
 use Rattle.block.specs.declared.Row.{Row}
-use Rattle.block.specs.declared.Answer.{Answer}
 use Rattle.listing.specs.Listing.{within}
 
 -- n, k and the number of rows are in range, the room is long enough, and no row is malformed

@@ -1,34 +1,26 @@
 -- What is written for n, k and rows within the ranges, none malformed, is accepted with them (`written-read`): rows written and read
 -- again are the same rows. With `accepted-only` a text is accepted exactly where it is so written. Assumes nothing.
-use mathlib.Core.Path.{_≡_, refl, sym, ap, ap₂, _∙_}
-use mathlib.Core.Bool.{Bool, true, false, not, cond}
-use mathlib.Core.List.{List, [], _∷_, _++_, append-assoc, append-nil}
-use Prim.Native.Nat.{ℕ, zero, suc, _+_, _-_, _≤_, _<_}
+use mathlib.Core.Path.{_≡_, sym, ap, _∙_}
+use mathlib.Core.Bool.{true, false, not}
+use mathlib.Core.List.{List, []}
+use Prim.Native.Nat.{ℕ, zero, suc, _+_, _≤_, _<_}
 use native.Mathlib.Decide.{decLt}
-use native.Mathlib.Nat.{zero-add}
-use native.Mathlib.Numerals.{add-one}
 use native.Mathlib.Omega.{arith}
-use borrow.Author.Tests.{lt-ltb, le-ltb, eq-eqb, eqb-true, ltb-false, not-false}
-use lib.Dec.{eqb, ltb}
-use lib.ListN.{length, drop}
-use Rattle.slices.specs.Places.{tab, first}
-use Rattle.slices.specs.Least.{first-is, first-le, first-below}
-use Rattle.slices.specs.Filled.{tab-cong, tab-list, length-tab, tab-at}
+use borrow.Author.Tests.{le-ltb}
+use lib.ListN.{length}
+use Rattle.slices.specs.Places.{tab}
+use Rattle.slices.specs.Least.{first-is}
+use Rattle.slices.specs.Filled.{tab-cong, tab-list}
 use Rattle.block.specs.Words.{row}
-use Rattle.block.specs.Refusals.{answer, verdict, carried, outside, badRow, rowAt}
-use Rattle.block.specs.Text.{headLine, rowLine, rowLines, endLine, textOf, equal, lineAt, numberPart, headForm, rowForm, rowOn, due, headNumber, faulty, readVerdict, readText, rowsIn}
+use Rattle.block.specs.Refusals.{answer, verdict, outside, rowAt}
+use Rattle.block.specs.Text.{endLine, textOf, equal, lineAt, numberPart, headForm, rowForm, rowOn, due, headNumber, faulty, readVerdict, readText, rowsIn}
 use Rattle.block.specs.declared.Row.{Row}
-use Rattle.block.specs.declared.Answer.{Answer}
-use Rattle.block.specs.declared.ReadAnswer.{ReadAnswer}
-use Rattle.listing.specs.Listing.{within}
-use Rattle.rowtext.specs.Length.{text-le}
-use Rattle.lines.specs.Tests.{equal-true, equal-same}
-use Rattle.lines.specs.Front.{start, front, line-front, line-add}
-use Rattle.lines.specs.HeadLines.{form-written, written-form}
+use Rattle.lines.specs.Tests.{equal-same}
+use Rattle.lines.specs.HeadLines.{written-form}
 use Rattle.lines.specs.Whole.{row-due, end-due, past-due}
 use Rattle.lines.specs.Numerals.{valueOf}
-use Rattle.texts.specs.Rows.{form-row, row-form}
-use Rattle.texts.specs.Written.{line-0, line-1, line-2, line-row, line-end, line-past, line-apart, rows-apart, empty-front}
+use Rattle.texts.specs.Rows.{row-form}
+use Rattle.texts.specs.Written.{line-0, line-1, line-2, line-row, line-end, line-past}
 use Rattle.texts.specs.Accepted.{Within, within-same, AllGood, accepted, dueAt}
 
 -- a number within a range is not outside

@@ -1,25 +1,25 @@
 -- What lies beyond the first 8,192 bytes of a text changes no answer (`first-bytes`): a line that is due is at most 33 bytes, so the
 -- first line that is not, or the end, shows itself before that. Assumes nothing.
-use mathlib.Core.Path.{_≡_, refl, sym, ap, ap₂, _∙_}
+use mathlib.Core.Path.{_≡_, refl, sym, ap, _∙_}
 use mathlib.Core.Bool.{Bool, true, false, not, cond}
 use mathlib.Core.List.{List, [], _∷_}
 use Prim.Native.Nat.{ℕ, zero, suc, _+_, _-_, _*_, _≤_, _<_}
 use native.Mathlib.Decide.{decLt, decLe}
 use native.Mathlib.Nat.{zero-add, suc-add}
 use native.Mathlib.Omega.{arith}
-use borrow.Author.Tests.{lt-ltb, le-ltb, not-false}
+use borrow.Author.Tests.{lt-ltb, not-false}
 use lib.Dec.{eqb, ltb}
 use lib.ListN.{length, take, drop}
 use lib.Seq.{take-all, take-nil, length-take-le}
 use Rattle.slices.specs.Places.{first}
 use Rattle.slices.specs.Least.{first-le, first-below, first-cong, first-same}
 use Rattle.block.specs.Refusals.{answer, verdict, carried, outside}
-use Rattle.block.specs.Text.{endLine, equal, lineAt, numberPart, headForm, due, headNumber, faulty, readVerdict, readText}
+use Rattle.block.specs.Text.{endLine, lineAt, numberPart, headForm, due, headNumber, faulty, readVerdict, readText}
 use Rattle.block.specs.declared.Answer.{Answer}
 use Rattle.block.specs.declared.ReadAnswer.{ReadAnswer}
 use Rattle.listing.specs.Listing.{within}
 use Rattle.rowtext.specs.Length.{heading-le}
-use Rattle.lines.specs.Tests.{not-both, equal-true}
+use Rattle.lines.specs.Tests.{equal-true}
 use Rattle.lines.specs.Front.{front, start, line-front}
 use Rattle.lines.specs.HeadLines.{form-written}
 use Rattle.lines.specs.Numerals.{valueOf}

@@ -1,11 +1,11 @@
 -- When a text is refused with 10 at line A: exactly when line A is not of the form due there and every earlier line is, and the line is
 -- looked at: a heading always, another line where n, k, the number of rows and the room are in range (`ten-when`, `ten-only`). Lines
 -- are counted from 0 here and A from 1. Assumes nothing.
-use mathlib.Core.Path.{_≡_, refl, sym, ap, _∙_}
+use mathlib.Core.Path.{_≡_, refl, ap}
 use mathlib.Core.Bool.{Bool, true, false, not, cond}
 use mathlib.Core.List.{List}
 use mathlib.Core.Logic.{_⊎_, inl, inr}
-use Prim.Native.Nat.{ℕ, suc, _+_, _≤_, _<_}
+use Prim.Native.Nat.{ℕ, suc, _+_, _<_}
 use native.Mathlib.Decide.{decLt}
 use native.Mathlib.Omega.{arith}
 use borrow.Author.Tests.{lt-ltb, le-ltb, ltb-true, ltb-false, not-true, not-false}
@@ -13,7 +13,6 @@ use lib.Dec.{ltb}
 use Rattle.slices.specs.Least.{first-is, first-below, first-passes}
 use Rattle.block.specs.Refusals.{answer, verdict, outside}
 use Rattle.block.specs.Text.{headNumber, faulty, readVerdict}
-use Rattle.block.specs.declared.Answer.{Answer}
 use Rattle.listing.specs.Listing.{within}
 use Rattle.texts.specs.Accepted.{Within, dueAt}
 use Rattle.texts.specs.Again.{inside}

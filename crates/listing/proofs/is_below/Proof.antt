@@ -1,6 +1,5 @@
 -- `listing::is_below` meets its contract: the shift is 2^n, since n is below the width. Assumes nothing.
-use Prim.Native.Nat.{ℕ, _*_, _^_, _%_, _<_}
-use mathlib.Core.Path.{_≡_, _∙_}
+use Prim.Native.Nat.{_*_, _^_, _<_}
 use native.Mathlib.Nat.{mod-eq-of-lt, one-mul}
 use native.Mathlib.Omega.{arith}
 use borrow.Author.Needs.{needs}

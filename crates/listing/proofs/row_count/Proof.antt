@@ -1,6 +1,5 @@
 -- `listing::row_count` meets its contract by the three laws on the length of such a list. Assumes nothing.
 use mathlib.Core.Path.{sym}
-use denote.Ref.{now}
 use Rattle.listing.specs.Listing.{no-rows, no-words, rows-count}
 use Rattle.listing.proofs.row_count.Statement.{statement}
 use Rattle.listing.proofs.row_count.Tie as tie

@@ -1,6 +1,6 @@
 -- `rowlines::fill` meets its contract. The loop's invariant: the fields of the first i rows lie over each slice, and the next row starts
 -- at its place. The measure is the number of rows left. Assumes nothing.
-use Prim.Native.Nat.{ℕ, _+_, _*_, _-_, _≤_, _<_}
+use Prim.Native.Nat.{_+_, _*_, _-_, _≤_}
 use mathlib.Core.Path.{_≡_, refl, ap, _∙_}
 use native.Mathlib.Omega.{arith}
 use borrow.Author.Needs.{needs}

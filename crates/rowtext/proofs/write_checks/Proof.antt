@@ -1,12 +1,11 @@
 -- `rowtext::write_checks` meets its contract: each return is the case of `writeVerdict` that the tests on the way lead to. Where rows are
 -- looked at, n, k and their number are in range, and the slices have one length. Assumes nothing.
-use Prim.Native.Nat.{_≤_, _<_}
+use Prim.Native.Nat.{_≤_}
 use mathlib.Core.Path.{sym, _∙_}
 use native.Mathlib.Omega.{arith}
 use borrow.Author.Tests.{lt-ltb, le-ltb}
 use borrow.Author.Needs.{needs}
 use denote.Ref.{now}
-use lib.ListN.{length}
 use Rattle.block.specs.Refusals.{verdict}
 use Rattle.rowtext.specs.Checks.{last-check}
 use Rattle.listing.specs.Listing.{within, rows-count, equal-lengths}
