@@ -6,7 +6,8 @@ use block::Refusal;
 use lines::Number;
 use lines::Opening;
 ghost use mathlib.Core.Path.{_≡_};
-ghost use Rattle.lines.specs.ByPlace.{refusal, rangedOf, openWithin, openingOf};
+ghost use Prim.Native.Nat.{_≤_};
+ghost use Rattle.lines.specs.ByPlace.{refusal, countedOf, rangedOf, openWithin, openingOf};
 
 // A refusal before any row.
 pub fn stop(kind: Kind, a: usize) -> Opening
@@ -15,7 +16,25 @@ pub fn stop(kind: Kind, a: usize) -> Opening
     Opening::Stopped(Refusal { kind, a, b: 0 })
 }
 
-// The ranges of n, k and the number of rows, and the room, in their order.
+// The range of the number of rows, and the room.
+pub fn counted(n: usize, k: usize, p: usize, from: usize, room: usize) -> Opening
+    requires { ⌜ (n ≤ 16) × (k ≤ 15) ⌝ }
+    ensures { λ r. ⌜ r ≡ countedOf n k p from room ⌝ }
+    ensures { λ r. ⌜ openWithin r room ⌝ }
+{
+    if p < 1 {
+        return stop(Kind::Count, 0);
+    }
+    if 128 < p {
+        return stop(Kind::Count, 0);
+    }
+    if room < p {
+        return stop(Kind::Room, 0);
+    }
+    Opening::Open(Headings { n, k, count: p }, from)
+}
+
+// The ranges of n and k, and then of the number of rows and the room.
 pub fn ranged(n: usize, k: usize, p: usize, from: usize, room: usize) -> Opening
     ensures { λ r. ⌜ r ≡ rangedOf n k p from room ⌝ }
     ensures { λ r. ⌜ openWithin r room ⌝ }
@@ -32,16 +51,7 @@ pub fn ranged(n: usize, k: usize, p: usize, from: usize, room: usize) -> Opening
     if 15 < k {
         return stop(Kind::Outputs, 0);
     }
-    if p < 1 {
-        return stop(Kind::Count, 0);
-    }
-    if 128 < p {
-        return stop(Kind::Count, 0);
-    }
-    if room < p {
-        return stop(Kind::Room, 0);
-    }
-    Opening::Open(Headings { n, k, count: p }, from)
+    counted(n, k, p, from, room)
 }
 
 // The three headings: their form first, then their ranges.

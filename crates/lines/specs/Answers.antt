@@ -23,7 +23,7 @@ use Rattle.block.specs.declared.Kind.the-variants.{Inputs, Outputs, Count, Room
 use Rattle.block.specs.declared.Reading.the-variants.{Accepted, Refused}
 use Rattle.lines.specs.declared.Number.the-variants.{Value, Formless}
 use Rattle.lines.specs.declared.Opening.the-variants.{Open, Stopped}
-use Rattle.lines.specs.ByPlace.{headAt, refusal, headings, rangedOf, onValue, openingOf, rowOr, lineOf, fieldOf, faultOf, filledOf, closedOf, readingOf, afterOf}
+use Rattle.lines.specs.ByPlace.{headAt, refusal, headings, countedOf, rangedOf, onValue, openingOf, rowOr, lineOf, fieldOf, faultOf, filledOf, closedOf, readingOf, afterOf}
 use Rattle.lines.specs.Front.{start, line-front, line-add}
 use Rattle.lines.specs.Whole.{head-of, line-of, fault-of, fault-le, lacks, row-due}
 
@@ -162,7 +162,7 @@ module _ (text : List ℕ) (room : ℕ) where
 
   in-range : openingOf text room ≡ rangedOf n k p (start text 3) room → readVerdict text room ≡ ranges → faulty text (5 + p) ≡ 3 + fault
       → Stop ⊎ Opened
-  unfolding rangedOf
+  unfolding rangedOf countedOf
   in-range o v f = go (ltb n 1) (ltb 16 n) (ltb k 1) (ltb 15 k) (ltb p 1) (ltb 128 p) (ltb room p) refl refl refl refl refl refl refl
     where
       go : (a b c d e g h : Bool) → ltb n 1 ≡ a → ltb 16 n ≡ b → ltb k 1 ≡ c → ltb 15 k ≡ d → ltb p 1 ≡ e → ltb 128 p ≡ g → ltb room p ≡ h

@@ -8,8 +8,8 @@ use native.Mathlib.Nat.{zero-add}
 use native.Mathlib.Omega.{arith}
 use borrow.Author.Tests.{eq-eqb, eqb-true, not-true}
 use lib.Dec.{eqb}
-use lib.ListN.{length, getD, drop, length-append, List·getD-append}
-use lib.Seq.{drop-drop, getD-append-add, getD-append-seam}
+use lib.ListN.{length, getD, drop, length-append}
+use lib.Seq.{drop-drop, getD-append-seam}
 use Rattle.slices.specs.Places.{at}
 use Rattle.block.specs.Text.{lines, onto, lineAt, every}
 use Rattle.lines.specs.Tests.{both}

@@ -9,12 +9,32 @@ ghost use Rattle.block.specs.Words.{rowsOf};
 ghost use Rattle.block.specs.Refusals.{answer};
 ghost use Rattle.block.specs.Text.{headLine, textOf, writeVerdict};
 ghost use Rattle.puts.specs.Puts.{Put};
+ghost use Rattle.rowtext.specs.Checks.{earlyCheck};
 
 // An answer with its number and its second place.
 pub fn answer_of(number: u32, b: usize) -> Answer
     ensures { λ r. ⌜ r ≡ answer number 0 b ⌝ }
 {
     Answer { number, a: 0, b }
+}
+
+// The number of the first of the checks 1, 2, 4 and 5 that holds, or 0.
+pub fn early_check(n: usize, k: usize, count: usize, room: usize) -> u32
+    ensures { λ r. ⌜ r ≡ earlyCheck n k count room ⌝ }
+{
+    if listing::is_outside(1, 16, n) {
+        return 1;
+    }
+    if listing::is_outside(1, 15, k) {
+        return 2;
+    }
+    if listing::is_outside(1, 128, count) {
+        return 4;
+    }
+    if room < 4246 {
+        return 5;
+    }
+    0
 }
 
 // The checks of writing: 1, 2, 4, 5 and 6.
@@ -28,18 +48,10 @@ pub fn write_checks(
 ) -> Answer
     ensures { λ r. ⌜ r ≡ writeVerdict n k (rowsOf (now (masks .entry)) (now (values .entry)) (now (words .entry))) room ⌝ }
 {
-    if listing::is_outside(1, 16, n) {
-        return answer_of(1, 0);
-    }
-    if listing::is_outside(1, 15, k) {
-        return answer_of(2, 0);
-    }
     let count = listing::row_count(masks, values, words);
-    if listing::is_outside(1, 128, count) {
-        return answer_of(4, 0);
-    }
-    if room < 4246 {
-        return answer_of(5, 0);
+    let early = early_check(n, k, count, room);
+    if early != 0 {
+        return answer_of(early, 0);
     }
     let bad = listing::first_bad_row(n, k, masks, values, words);
     if bad < count {

@@ -1,8 +1,9 @@
 -- What is written for n, k and rows within the ranges, none malformed, is accepted with them (`written-read`): rows written and read
--- again are the same rows. With `accepted-only` a text is accepted exactly where it is so written. Assumes nothing.
+-- again are the same rows. So a text is accepted exactly where it is so written (`accepted-exactly`). Assumes nothing.
 use mathlib.Core.Path.{_≡_, sym, ap, _∙_}
 use mathlib.Core.Bool.{true, false, not}
 use mathlib.Core.List.{List, []}
+use mathlib.Core.Logic.{_↔_}
 use Prim.Native.Nat.{ℕ, zero, suc, _+_, _≤_, _<_}
 use native.Mathlib.Decide.{decLt}
 use native.Mathlib.Omega.{arith}
@@ -21,7 +22,7 @@ use Rattle.lines.specs.Whole.{row-due, end-due, past-due}
 use Rattle.lines.specs.Numerals.{valueOf}
 use Rattle.texts.specs.Rows.{row-form}
 use Rattle.texts.specs.Written.{line-0, line-1, line-2, line-row, line-end, line-past}
-use Rattle.texts.specs.Accepted.{Within, within-same, AllGood, accepted, dueAt}
+use Rattle.texts.specs.Accepted.{Within, within-same, AllGood, accepted, accepted-only, dueAt}
 
 -- a number within a range is not outside
 pub inside : (lo hi x : ℕ) → (lo ≤ x) × (x ≤ hi) → outside lo hi x ≡ false
@@ -132,3 +133,12 @@ module _ (n k room : ℕ) (rs : List Row) (w : Within n k (length rs) room) (goo
 
       rows : (a b c : ℕ) → a ≡ n → b ≡ k → c ≡ p → tab c (λ i. rowOn a b (lineAt text (3 + i))) ≡ tab p (λ i. rowOn n k (lineAt text (3 + i)))
       rows a b c q r s = rw (q, r, s)
+
+-- a text is accepted with n, k and rows exactly where it is what is written for them, within the ranges and none malformed
+pub accepted-exactly : (text : List ℕ) (room n k : ℕ) (rs : List Row)
+    → ((readText text room ≡ accepted n k (length rs)) × (rowsIn text ≡ rs))
+    ↔ ((text ≡ textOf n k rs) × Within n k (length rs) room × AllGood n k rs)
+accepted-exactly text room n k rs = (λ a. accepted-only text room n k rs (a .0) (a .1), λ t. back t)
+  where
+    back : (text ≡ textOf n k rs) × Within n k (length rs) room × AllGood n k rs → (readText text room ≡ accepted n k (length rs)) × (rowsIn text ≡ rs)
+    back (e, w, g) = rw e (written-read n k room rs w g)

@@ -25,6 +25,7 @@ use Rattle.lines.specs.HeadLines.{form-written}
 use Rattle.lines.specs.Numerals.{valueOf}
 use Rattle.lines.specs.RowLines.{row-length}
 use Rattle.lines.specs.Whole.{row-due, end-due, past-due}
+use Rattle.texts.specs.Accepted.{accepted-le}
 
 -- ---- the lines of a text that is cut off
 
@@ -242,3 +243,10 @@ module _ (text : List ℕ) (room : ℕ) where
           (first (5 + p) (λ i. not (due n k p i (lineAt cutText i)))) (line-kept n k p))
           ∙ renamed cutText (faulty text 3) (faulty cutText 3) n (headNumber cutText 0) k (headNumber cutText 1) p (headNumber cutText 2) heads-kept
           (sym (numbers-kept f 0 (omega arith))) (sym (numbers-kept f 1 (omega arith))) (sym (numbers-kept f 2 (omega arith)))
+
+-- a text whose first 8,192 bytes are accepted ends within them
+pub accepted-whole : (text : List ℕ) (room : ℕ) → readVerdict (take 8192 text) room .number ≡ 0 → take 8192 text ≡ text
+unfolding readText
+accepted-whole text room e =
+    let z : readVerdict text room .number ≡ 0 = ap (λ (a : ReadAnswer). a .number) (first-bytes text room) ∙ e in
+    take-all 8192 text (omega (arith, accepted-le text room z))

@@ -1,10 +1,10 @@
 -- When a text is refused with 10 at line A: exactly when line A is not of the form due there and every earlier line is, and the line is
--- looked at: a heading always, another line where n, k, the number of rows and the room are in range (`ten-when`, `ten-only`). Lines
+-- looked at: a heading always, another line where n, k, the number of rows and the room are in range (`ten-exactly`). Lines
 -- are counted from 0 here and A from 1. Assumes nothing.
-use mathlib.Core.Path.{_≡_, refl, ap}
+use mathlib.Core.Path.{_≡_, refl, sym, ap, _∙_}
 use mathlib.Core.Bool.{Bool, true, false, not, cond}
 use mathlib.Core.List.{List}
-use mathlib.Core.Logic.{_⊎_, inl, inr}
+use mathlib.Core.Logic.{_⊎_, _↔_, inl, inr}
 use Prim.Native.Nat.{ℕ, suc, _+_, _<_}
 use native.Mathlib.Decide.{decLt}
 use native.Mathlib.Omega.{arith}
@@ -13,6 +13,7 @@ use lib.Dec.{ltb}
 use Rattle.slices.specs.Least.{first-is, first-below, first-passes}
 use Rattle.block.specs.Refusals.{answer, verdict, outside}
 use Rattle.block.specs.Text.{headNumber, faulty, readVerdict}
+use Rattle.block.specs.declared.Answer.{Answer}
 use Rattle.listing.specs.Listing.{within}
 use Rattle.texts.specs.Accepted.{Within, dueAt}
 use Rattle.texts.specs.Again.{inside}
@@ -95,3 +96,13 @@ ten-only text room e =
           inr (record { inputs = within 1 16 n s; outputs = within 1 15 k t; count = within 1 128 p u; enough = ltb-false room p v }, l),
         )
     go false false false false false false r s t u v w e = absurd (omega arith)
+
+pub ten-exactly : (text : List ℕ) (room i : ℕ) → (readVerdict text room ≡ answer 10 (suc i) 0) ↔ (FirstFault text i × Looked text room i)
+ten-exactly text room i = (λ e. only e, λ (f, s). ten-when text room i f s)
+  where
+    only : readVerdict text room ≡ answer 10 (suc i) 0 → FirstFault text i × Looked text room i
+    only e =
+        let r = ten-only text room (ap (λ (a : Answer). a .number) e) in
+        let s = ap (λ (a : Answer). a .a) (sym (r .1) ∙ e) in
+        let q : r .0 ≡ i = omega arith in
+        (rw q at (r .2), rw q at (r .3))
