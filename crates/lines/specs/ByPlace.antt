@@ -190,11 +190,11 @@ afterOf (Open h from) s f l =
 
 -- ---- the fields of rows
 
-abbrev pub maskIn : Row → ℕ
-maskIn r = r .mask
+abbrev pub maskPart : Row → ℕ
+maskPart r = r .mask
 
-abbrev pub valuesIn : Row → ℕ
-valuesIn r = r .values
+abbrev pub valuesPart : Row → ℕ
+valuesPart r = r .values
 
-abbrev pub wordIn : Row → ℕ
-wordIn r = r .word
+abbrev pub wordPart : Row → ℕ
+wordPart r = r .word

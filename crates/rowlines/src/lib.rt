@@ -4,7 +4,7 @@ ghost use mathlib.Core.Path.{_≡_};
 ghost use Prim.Native.Nat.{_≤_};
 ghost use lib.ListN.{length};
 ghost use Rattle.slices.specs.Places.{tab, first, over};
-ghost use Rattle.lines.specs.ByPlace.{brokenLine, fieldOf, endOf, faultOf, filledOf, maskIn, valuesIn, wordIn};
+ghost use Rattle.lines.specs.ByPlace.{brokenLine, fieldOf, endOf, faultOf, filledOf, maskPart, valuesPart, wordPart};
 
 // The first row that is broken, or p.
 pub fn first_broken(s: &[u8], n: usize, k: usize, p: usize) -> usize
@@ -36,9 +36,9 @@ pub fn fill(
 )
     requires { ⌜ (n ≤ 16) × (k ≤ 15) × (p ≤ 512) ⌝ }
     requires { ⌜ (p ≤ length (now masks)) × (p ≤ length (now values)) × (p ≤ length (now words)) ⌝ }
-    ensures { λ _. ⌜ now (masks .exit) ≡ over (tab p (fieldOf maskIn (now (s .entry)) n k)) (now (masks .entry)) ⌝ }
-    ensures { λ _. ⌜ now (values .exit) ≡ over (tab p (fieldOf valuesIn (now (s .entry)) n k)) (now (values .entry)) ⌝ }
-    ensures { λ _. ⌜ now (words .exit) ≡ over (tab p (fieldOf wordIn (now (s .entry)) n k)) (now (words .entry)) ⌝ }
+    ensures { λ _. ⌜ now (masks .exit) ≡ over (tab p (fieldOf maskPart (now (s .entry)) n k)) (now (masks .entry)) ⌝ }
+    ensures { λ _. ⌜ now (values .exit) ≡ over (tab p (fieldOf valuesPart (now (s .entry)) n k)) (now (values .entry)) ⌝ }
+    ensures { λ _. ⌜ now (words .exit) ≡ over (tab p (fieldOf wordPart (now (s .entry)) n k)) (now (words .entry)) ⌝ }
 {
     let w = n + k + 2;
     let mut from = 0;
@@ -102,9 +102,9 @@ pub fn read_rows(
     requires { ⌜ (n ≤ 16) × (k ≤ 15) × (p ≤ 512) ⌝ }
     requires { ⌜ (p ≤ length (now masks)) × (p ≤ length (now values)) × (p ≤ length (now words)) ⌝ }
     ensures { λ r. ⌜ r ≡ faultOf (now (s .entry)) n k p ⌝ }
-    ensures { λ r. ⌜ now (masks .exit) ≡ filledOf r p (fieldOf maskIn (now (s .entry)) n k) (now (masks .entry)) ⌝ }
-    ensures { λ r. ⌜ now (values .exit) ≡ filledOf r p (fieldOf valuesIn (now (s .entry)) n k) (now (values .entry)) ⌝ }
-    ensures { λ r. ⌜ now (words .exit) ≡ filledOf r p (fieldOf wordIn (now (s .entry)) n k) (now (words .entry)) ⌝ }
+    ensures { λ r. ⌜ now (masks .exit) ≡ filledOf r p (fieldOf maskPart (now (s .entry)) n k) (now (masks .entry)) ⌝ }
+    ensures { λ r. ⌜ now (values .exit) ≡ filledOf r p (fieldOf valuesPart (now (s .entry)) n k) (now (values .entry)) ⌝ }
+    ensures { λ r. ⌜ now (words .exit) ≡ filledOf r p (fieldOf wordPart (now (s .entry)) n k) (now (words .entry)) ⌝ }
 {
     let fault = first_fault(s, n, k, p);
     if fault != p + 2 {
