@@ -1,49 +1,16 @@
 // 01's cases that are run, for tables: the ends of each range, lengths one short and one long, and a table with no output anywhere.
 // Each line says what was asked, then number, A, B and the results; the file stdout has what 01 says.
-use libc::STDOUT_FILENO;
+use saying::part16;
+use saying::part32;
+use saying::room16;
+use saying::room32;
+use saying::say;
+use saying::say_answer;
+use saying::say_number;
+use saying::wide16;
+use saying::wide32;
 ghost use mathlib.Core.Path.{_≡_};
 ghost use lib.ListN.{length};
-
-fn say(text: &[u8]) {
-    io::write_all(STDOUT_FILENO, text);
-}
-
-fn say_number(x: u64) {
-    io::write_all(STDOUT_FILENO, b" ");
-    io::print_decimal(STDOUT_FILENO, x);
-}
-
-// Number, A and B of an answer.
-fn say_answer(number: u32, a: usize, b: usize) {
-    say_number(number as u64);
-    say_number(a as u64);
-    say_number(b as u64);
-}
-
-fn wide16(x: u16) -> u64 {
-    x as u64
-}
-
-fn wide32(x: u32) -> u64 {
-    x as u64
-}
-
-// The first n entries, or all of them.
-fn part16(s: &[u16], n: usize) -> &[u16] {
-    if n < s.len() { &s[..n] } else { s }
-}
-
-fn part32(s: &[u32], n: usize) -> &[u32] {
-    if n < s.len() { &s[..n] } else { s }
-}
-
-fn room16(s: &mut [u16], n: usize) -> &mut [u16] {
-    if n < s.len() { &mut s[..n] } else { s }
-}
-
-fn room32(s: &mut [u32], n: usize) -> &mut [u32] {
-    if n < s.len() { &mut s[..n] } else { s }
-}
 
 // A single value of a table whose entries are all the same word.
 fn value(label: &[u8], n: usize, k: usize, t: usize, entries: usize, word: u16) {

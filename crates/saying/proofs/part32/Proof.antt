@@ -1,9 +1,9 @@
--- `run_tables::part32` is safe: a part is as long as it says. Assumes nothing.
+-- `saying::part32` is safe: a part is as long as it says. Assumes nothing.
 use native.Mathlib.Omega.{arith}
 use lib.ListN.{length-take}
 use borrow.Author.Needs.{needs}
-use Rattle.run_tables.proofs.part32.Statement.{statement}
-use Rattle.run_tables.proofs.part32.Tie as tie
+use Rattle.saying.proofs.part32.Statement.{statement}
+use Rattle.saying.proofs.part32.Tie as tie
 
 slice-aggregate-result : tie.Need-slice-aggregate-result
 slice-aggregate-result c = simp length-take (omega arith)

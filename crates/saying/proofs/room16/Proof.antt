@@ -1,9 +1,9 @@
--- `run_tables::room16` is safe: a part is as long as it says. Assumes nothing.
+-- `saying::room16` is safe: a part is as long as it says. Assumes nothing.
 use native.Mathlib.Omega.{arith}
 use lib.ListN.{length-take}
 use borrow.Author.Needs.{needs}
-use Rattle.run_tables.proofs.room16.Statement.{statement}
-use Rattle.run_tables.proofs.room16.Tie as tie
+use Rattle.saying.proofs.room16.Statement.{statement}
+use Rattle.saying.proofs.room16.Tie as tie
 
 slice-aggregate-result : tie.Need-slice-aggregate-result
 slice-aggregate-result c = simp length-take (omega arith)

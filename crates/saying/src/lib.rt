@@ -1,0 +1,43 @@
+// What the programs that the gate runs share: lines on standard output, and parts of slices. Every function here is inner.
+use libc::STDOUT_FILENO;
+
+pub fn say(text: &[u8]) {
+    io::write_all(STDOUT_FILENO, text);
+}
+
+pub fn say_number(x: u64) {
+    io::write_all(STDOUT_FILENO, b" ");
+    io::print_decimal(STDOUT_FILENO, x);
+}
+
+// Number, A and B of an answer.
+pub fn say_answer(number: u32, a: usize, b: usize) {
+    say_number(number as u64);
+    say_number(a as u64);
+    say_number(b as u64);
+}
+
+pub fn wide16(x: u16) -> u64 {
+    x as u64
+}
+
+pub fn wide32(x: u32) -> u64 {
+    x as u64
+}
+
+// The first n entries, or all of them.
+pub fn part16(s: &[u16], n: usize) -> &[u16] {
+    if n < s.len() { &s[..n] } else { s }
+}
+
+pub fn part32(s: &[u32], n: usize) -> &[u32] {
+    if n < s.len() { &s[..n] } else { s }
+}
+
+pub fn room16(s: &mut [u16], n: usize) -> &mut [u16] {
+    if n < s.len() { &mut s[..n] } else { s }
+}
+
+pub fn room32(s: &mut [u32], n: usize) -> &mut [u32] {
+    if n < s.len() { &mut s[..n] } else { s }
+}
