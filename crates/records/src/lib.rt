@@ -1,0 +1,143 @@
+// The operations on lists of rows for a caller that lends the rows as records, one record a row (01, Words and numbers): a single shift
+// value, filling a table, and row text, written and read. Each takes any numbers and any slices, and answers or refuses as 01 says; its
+// promise speaks of the records themselves. This crate holds the public operations with records, and beside them what they share: the
+// records are copied out once into three arrays, or copied in from them, and a function on the arrays lends these as flat slices to the
+// operation of the same name. A list of 513 rows is too long for every operation, so that no more rows are copied out.
+use block::Answer;
+use block::ReadAnswer;
+use block::Reading;
+use block::Row;
+use block::TextAnswer;
+use block::ValueAnswer;
+ghost use mathlib.Core.Path.{_≡_};
+ghost use Prim.Native.Nat.{_≤_, min};
+ghost use lib.ListN.{length};
+ghost use Rattle.block.specs.Refusals.{stored};
+ghost use Rattle.block.specs.Lists.{rowValue, fillVerdict, filled};
+ghost use Rattle.block.specs.Text.{textOf, writeVerdict, writeText, readVerdict, readText, rowsIn, numbers};
+ghost use Rattle.records.specs.Flat.{Gathered, Scattered, Sized, listed};
+
+// ---- what the operations share
+
+// Rows, field by field.
+struct FlatRows {
+    masks: [u32; 513],
+    values: [u32; 513],
+    words: [u32; 513],
+}
+
+// How many records of a list are copied out.
+fn fits(len: usize) -> usize
+    ensures { λ r. ⌜ r ≡ min len 513 ⌝ }
+{
+    if len < 513 { len } else { 513 }
+}
+
+// The first m records, and zeros after them.
+fn gather(rows: &[Row], m: usize) -> FlatRows
+    requires { ⌜ (m ≤ length (now rows)) × (m ≤ 513) ⌝ }
+    ensures { λ r. ⌜ Gathered (now (rows .entry)) m r ⌝ }
+{
+    let mut masks = [0u32; 513];
+    let mut values = [0u32; 513];
+    let mut words = [0u32; 513];
+    let mut i: usize = 0;
+    while i < m {
+        let r = rows[i];
+        masks[i] = r.mask;
+        values[i] = r.values;
+        words[i] = r.word;
+        i += 1;
+    }
+    FlatRows {
+        masks,
+        values,
+        words,
+    }
+}
+
+// Makes the first m records those of the arrays: the others hold what they held.
+fn scatter(flat: FlatRows, m: usize, rows: &mut [Row])
+    requires { ⌜ (m ≤ 513) × (m ≤ length (now rows)) ⌝ }
+    ensures { λ _. ⌜ Scattered flat m (now (rows .entry)) (now (rows .exit)) ⌝ }
+{
+    let masks = flat.masks;
+    let values = flat.values;
+    let words = flat.words;
+    let mut i: usize = 0;
+    while i < m {
+        rows[i] = Row {
+            mask: masks[i],
+            values: values[i],
+            word: words[i],
+        };
+        i += 1;
+    }
+}
+
+// ---- a single shift value
+
+fn value_of(n: usize, k: usize, t: usize, flat: FlatRows, m: usize) -> ValueAnswer
+    requires { ⌜ Sized flat × (m ≤ 513) ⌝ }
+    ensures { λ r. ⌜ r ≡ rowValue n k t (listed flat m) ⌝ }
+{
+    let masks = flat.masks;
+    let values = flat.values;
+    let words = flat.words;
+    lists::row_value(n, k, t, &masks[..m], &values[..m], &words[..m])
+}
+
+// R(t) of a list. Refuses with 1, 2, 3 (t), 4, 6 and 7.
+pub fn row_value(n: usize, k: usize, t: usize, rows: &[Row]) -> ValueAnswer
+    ensures { λ r. ⌜ r ≡ rowValue n k t (now (rows .entry)) ⌝ }
+{
+    let m = fits(rows.len());
+    let flat = gather(rows, m);
+    value_of(n, k, t, flat, m)
+}
+
+// ---- filling a table
+
+fn fill_of(n: usize, k: usize, flat: FlatRows, m: usize, table: &mut [u16]) -> Answer
+    requires { ⌜ Sized flat × (m ≤ 513) ⌝ }
+    ensures answer { λ r. ⌜ r ≡ fillVerdict n k (listed flat m) (length (now (table .entry))) ⌝ }
+    ensures table { λ _. ⌜ now (table .exit) ≡ stored (fillVerdict n k (listed flat m) (length (now (table .entry)))) (filled n (listed flat m)) (now (table .entry)) ⌝ }
+{
+    let masks = flat.masks;
+    let values = flat.values;
+    let words = flat.words;
+    lists::fill_table(n, k, &masks[..m], &values[..m], &words[..m], table)
+}
+
+// Fills the table of a list, of up to 512 rows. Refuses with 1, 2, 4, 5 (2^n entries), 6 and 7.
+pub fn fill_table(n: usize, k: usize, rows: &[Row], table: &mut [u16]) -> Answer
+    ensures answer { λ r. ⌜ r ≡ fillVerdict n k (now (rows .entry)) (length (now (table .entry))) ⌝ }
+    ensures table { λ _. ⌜ now (table .exit) ≡ stored (fillVerdict n k (now (rows .entry)) (length (now (table .entry)))) (filled n (now (rows .entry))) (now (table .entry)) ⌝ }
+{
+    let m = fits(rows.len());
+    let flat = gather(rows, m);
+    fill_of(n, k, flat, m, table)
+}
+
+// ---- writing row text
+
+fn write_of(n: usize, k: usize, flat: FlatRows, m: usize, out: &mut [u8]) -> TextAnswer
+    requires { ⌜ Sized flat × (m ≤ 513) ⌝ }
+    ensures answer { λ r. ⌜ r ≡ writeText n k (listed flat m) (length (now (out .entry))) ⌝ }
+    ensures text { λ _. ⌜ now (out .exit) ≡ stored (writeVerdict n k (listed flat m) (length (now (out .entry)))) (textOf n k (listed flat m)) (now (out .entry)) ⌝ }
+{
+    let masks = flat.masks;
+    let values = flat.values;
+    let words = flat.words;
+    writing::write_text(n, k, &masks[..m], &values[..m], &words[..m], out)
+}
+
+// Writes the rows as text to the front of out. Refuses with 1, 2, 4, 5 (4,246 bytes) and 6.
+pub fn write_text(n: usize, k: usize, rows: &[Row], out: &mut [u8]) -> TextAnswer
+    ensures answer { λ r. ⌜ r ≡ writeText n k (now (rows .entry)) (length (now (out .entry))) ⌝ }
+    ensures text { λ _. ⌜ now (out .exit) ≡ stored (writeVerdict n k (now (rows .entry)) (length (now (out .entry)))) (textOf n k (now (rows .entry))) (now (out .entry)) ⌝ }
+{
+    let m = fits(rows.len());
+    let flat = gather(rows, m);
+    write_of(n, k, flat, m, out)
+}
