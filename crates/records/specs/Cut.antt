@@ -23,7 +23,7 @@ use Rattle.block.specs.declared.Answer.{Answer}
 use Rattle.verdicts.specs.Verdicts.{verdict-hit, verdict-miss, Numbered}
 
 -- what stands after a check that holds does not count
-past : (pre : List Check) (c : Check) (ds es : List Check) → c .holds ≡ true → verdict (pre ++ (c ∷ ds)) ≡ verdict (pre ++ (c ∷ es))
+pub past : (pre : List Check) (c : Check) (ds es : List Check) → c .holds ≡ true → verdict (pre ++ (c ∷ ds)) ≡ verdict (pre ++ (c ∷ es))
 past [] c ds es h = verdict-hit c ds h ∙ sym (verdict-hit c es h)
 past (p ∷ pre) c ds es h = go (past pre c ds es h) (p .holds) refl
   where

@@ -2,3 +2,5 @@
 pub mod Copied
 pub mod Flat
 pub mod Cut
+pub mod Yielded
+pub mod Reading

@@ -16,6 +16,7 @@ ghost use Rattle.block.specs.Refusals.{stored};
 ghost use Rattle.block.specs.Lists.{rowValue, fillVerdict, filled};
 ghost use Rattle.block.specs.Text.{textOf, writeVerdict, writeText, readVerdict, readText, rowsIn, numbers};
 ghost use Rattle.records.specs.Flat.{Gathered, Scattered, Sized, listed};
+ghost use Rattle.records.specs.Yielded.{Yielded};
 
 // ---- what the operations share
 
@@ -31,6 +32,17 @@ fn fits(len: usize) -> usize
     ensures { λ r. ⌜ r ≡ min len 513 ⌝ }
 {
     if len < 513 { len } else { 513 }
+}
+
+// Arrays to store rows in.
+fn blank() -> FlatRows
+    ensures { λ r. ⌜ Sized r ⌝ }
+{
+    FlatRows {
+        masks: [0u32; 513],
+        values: [0u32; 513],
+        words: [0u32; 513],
+    }
 }
 
 // The first m records, and zeros after them.
@@ -140,4 +152,66 @@ pub fn write_text(n: usize, k: usize, rows: &[Row], out: &mut [u8]) -> TextAnswe
     let m = fits(rows.len());
     let flat = gather(rows, m);
     write_of(n, k, flat, m, out)
+}
+
+// ---- reading row text
+
+// What is read: the rows, their number, and the answer.
+struct ReadRows {
+    flat: FlatRows,
+    count: usize,
+    answer: Reading,
+}
+
+// The number of rows that an answer says: none with a refusal.
+fn rows_read(answer: Reading) -> usize
+    ensures { λ r. ⌜ r ≡ numbers answer .count ⌝ }
+{
+    match answer {
+        Reading::Accepted(h) => h.count,
+        Reading::Refused(_) => 0,
+    }
+}
+
+// The text is read into the first m places of the arrays.
+fn read_into(text: &[u8], flat: FlatRows, m: usize) -> ReadRows
+    requires { ⌜ Sized flat × (m ≤ 513) ⌝ }
+    ensures answer { λ r. ⌜ numbers (r .answer) ≡ readText (now (text .entry)) m ⌝ }
+    ensures rows { λ r. ⌜ Yielded (readVerdict (now (text .entry)) m) (rowsIn (now (text .entry))) m (r .flat) (r .count) ⌝ }
+{
+    let mut masks = flat.masks;
+    let mut values = flat.values;
+    let mut words = flat.words;
+    let answer = reading::read_text(text, &mut masks[..m], &mut values[..m], &mut words[..m]);
+    let count = rows_read(answer);
+    let read = FlatRows {
+        masks,
+        values,
+        words,
+    };
+    ReadRows {
+        flat: read,
+        count,
+        answer,
+    }
+}
+
+fn read_of(text: &[u8], room: usize) -> ReadRows
+    ensures answer { λ r. ⌜ numbers (r .answer) ≡ readText (now (text .entry)) room ⌝ }
+    ensures rows { λ r. ⌜ Yielded (readVerdict (now (text .entry)) room) (rowsIn (now (text .entry))) room (r .flat) (r .count) ⌝ }
+{
+    let m = fits(room);
+    let flat = blank();
+    read_into(text, flat, m)
+}
+
+// Reads the text: its rows are the first records, and the others hold what they held. Refuses with 10 for a heading, then 1, 2, 4 and
+// 5 (the .p count of rows), then 10 for the rest.
+pub fn read_text(text: &[u8], rows: &mut [Row]) -> Reading
+    ensures answer { λ r. ⌜ numbers r ≡ readText (now (text .entry)) (length (now (rows .entry))) ⌝ }
+    ensures rows { λ _. ⌜ now (rows .exit) ≡ stored (readVerdict (now (text .entry)) (length (now (rows .entry)))) (rowsIn (now (text .entry))) (now (rows .entry)) ⌝ }
+{
+    let read = read_of(text, rows.len());
+    scatter(read.flat, read.count, rows);
+    read.answer
 }
