@@ -4,6 +4,7 @@
 // records are copied out once into three arrays, or copied in from them, and a function on the arrays lends these as flat slices to the
 // operation of the same name. A list of 513 rows is too long for every operation, so that no more rows are copied out.
 use block::Answer;
+use block::Kind;
 use block::ReadAnswer;
 use block::Reading;
 use block::Row;
@@ -14,7 +15,7 @@ ghost use Prim.Native.Nat.{_≤_, min};
 ghost use lib.ListN.{length};
 ghost use Rattle.block.specs.Refusals.{stored};
 ghost use Rattle.block.specs.Lists.{rowValue, fillVerdict, filled};
-ghost use Rattle.block.specs.Text.{textOf, writeVerdict, writeText, readVerdict, readText, rowsIn, numbers};
+ghost use Rattle.block.specs.Text.{textOf, writeVerdict, writeText, readVerdict, readText, rowsIn, kindNumber, numbers};
 ghost use Rattle.records.specs.Flat.{Gathered, Scattered, Sized, listed};
 ghost use Rattle.records.specs.Yielded.{Yielded};
 
@@ -100,7 +101,8 @@ fn value_of(n: usize, k: usize, t: usize, flat: FlatRows, m: usize) -> ValueAnsw
 }
 
 // R(t) of a list. Refuses with 1, 2, 3 (t), 4, 6 and 7.
-pub fn row_value(n: usize, k: usize, t: usize, rows: &[Row]) -> ValueAnswer
+#[no_mangle]
+pub extern "C" fn row_value(n: usize, k: usize, t: usize, rows: &[Row]) -> ValueAnswer
     ensures { λ r. ⌜ r ≡ rowValue n k t (now (rows .entry)) ⌝ }
 {
     let m = fits(rows.len());
@@ -122,7 +124,8 @@ fn fill_of(n: usize, k: usize, flat: FlatRows, m: usize, table: &mut [u16]) -> A
 }
 
 // Fills the table of a list, of up to 512 rows. Refuses with 1, 2, 4, 5 (2^n entries), 6 and 7.
-pub fn fill_table(n: usize, k: usize, rows: &[Row], table: &mut [u16]) -> Answer
+#[no_mangle]
+pub extern "C" fn fill_table(n: usize, k: usize, rows: &[Row], table: &mut [u16]) -> Answer
     ensures answer { λ r. ⌜ r ≡ fillVerdict n k (now (rows .entry)) (length (now (table .entry))) ⌝ }
     ensures table { λ _. ⌜ now (table .exit) ≡ stored (fillVerdict n k (now (rows .entry)) (length (now (table .entry)))) (filled n (now (rows .entry))) (now (table .entry)) ⌝ }
 {
@@ -145,7 +148,8 @@ fn write_of(n: usize, k: usize, flat: FlatRows, m: usize, out: &mut [u8]) -> Tex
 }
 
 // Writes the rows as text to the front of out. Refuses with 1, 2, 4, 5 (4,246 bytes) and 6.
-pub fn write_text(n: usize, k: usize, rows: &[Row], out: &mut [u8]) -> TextAnswer
+#[no_mangle]
+pub extern "C" fn write_text(n: usize, k: usize, rows: &[Row], out: &mut [u8]) -> TextAnswer
     ensures answer { λ r. ⌜ r ≡ writeText n k (now (rows .entry)) (length (now (out .entry))) ⌝ }
     ensures text { λ _. ⌜ now (out .exit) ≡ stored (writeVerdict n k (now (rows .entry)) (length (now (out .entry)))) (textOf n k (now (rows .entry))) (now (out .entry)) ⌝ }
 {
@@ -212,6 +216,81 @@ pub fn read_text(text: &[u8], rows: &mut [Row]) -> Reading
     ensures rows { λ _. ⌜ now (rows .exit) ≡ stored (readVerdict (now (text .entry)) (length (now (rows .entry)))) (rowsIn (now (text .entry))) (now (rows .entry)) ⌝ }
 {
     let read = read_of(text, rows.len());
+    scatter(read.flat, read.count, rows);
+    read.answer
+}
+
+// ---- reading row text, with an answer in numbers
+
+// The number of a refusal's kind.
+fn kind_number(kind: Kind) -> u32
+    ensures { λ r. ⌜ r ≡ kindNumber kind ⌝ }
+{
+    match kind {
+        Kind::Inputs => 1,
+        Kind::Outputs => 2,
+        Kind::Count => 4,
+        Kind::Room => 5,
+        Kind::Form => 10,
+    }
+}
+
+// The answer in numbers.
+fn in_numbers(answer: Reading) -> ReadAnswer
+    ensures { λ r. ⌜ r ≡ numbers answer ⌝ }
+{
+    match answer {
+        Reading::Accepted(h) => ReadAnswer {
+            number: 0,
+            a: 0,
+            b: 0,
+            n: h.n,
+            k: h.k,
+            count: h.count,
+        },
+        Reading::Refused(r) => {
+            let kind = r.kind;
+            ReadAnswer {
+                number: kind_number(kind),
+                a: r.a,
+                b: r.b,
+                n: 0,
+                k: 0,
+                count: 0,
+            }
+        }
+    }
+}
+
+// What is read: the rows, their number, and the answer in numbers.
+struct ReadNumbers {
+    flat: FlatRows,
+    count: usize,
+    answer: ReadAnswer,
+}
+
+fn read_numbers_of(text: &[u8], room: usize) -> ReadNumbers
+    ensures answer { λ r. ⌜ r .answer ≡ readText (now (text .entry)) room ⌝ }
+    ensures rows { λ r. ⌜ Yielded (readVerdict (now (text .entry)) room) (rowsIn (now (text .entry))) room (r .flat) (r .count) ⌝ }
+{
+    let read = read_of(text, room);
+    let flat = read.flat;
+    let reading = read.answer;
+    let answer = in_numbers(reading);
+    ReadNumbers {
+        flat,
+        count: read.count,
+        answer,
+    }
+}
+
+// Reads the text as `read_text` does, for a program in another language: an enum is no answer there.
+#[no_mangle]
+pub extern "C" fn read_numbers(text: &[u8], rows: &mut [Row]) -> ReadAnswer
+    ensures answer { λ r. ⌜ r ≡ readText (now (text .entry)) (length (now (rows .entry))) ⌝ }
+    ensures rows { λ _. ⌜ now (rows .exit) ≡ stored (readVerdict (now (text .entry)) (length (now (rows .entry)))) (rowsIn (now (text .entry))) (now (rows .entry)) ⌝ }
+{
+    let read = read_numbers_of(text, rows.len());
     scatter(read.flat, read.count, rows);
     read.answer
 }
