@@ -75,17 +75,22 @@ rowMethodVerdict n k w rs roomT roomSigma roomRows =
 unfoldable pub smallerList : ℕ → ℕ → List Row → List Row
 smallerList n w rs = rowsAfter n w n rs
 
-unfoldable pub rowMethod : ℕ → ℕ → ℕ → List Row → ℕ → ℕ → ℕ → RowMethodAnswer
-rowMethod n k w rs roomT roomSigma roomRows =
-    let v : Answer = rowMethodVerdict n k w rs roomT roomSigma roomRows in
+-- an answer with both measures and the number of rows
+abbrev pub withRows : Answer → ℕ → ℕ → ℕ → RowMethodAnswer
+withRows v x y c =
     record {
       number = v .number;
       a = v .a;
       b = v .b;
-      before = carried v (measure (ofRows rs) n);
-      after = carried v (measure (smallerOf (ofRows rs) n w) n);
-      count = carried v (length (smallerList n w rs));
+      before = carried v x;
+      after = carried v y;
+      count = carried v c;
     }
+
+unfoldable pub rowMethod : ℕ → ℕ → ℕ → List Row → ℕ → ℕ → ℕ → RowMethodAnswer
+rowMethod n k w rs roomT roomSigma roomRows =
+    withRows (rowMethodVerdict n k w rs roomT roomSigma roomRows)
+    (measure (ofRows rs) n) (measure (smallerOf (ofRows rs) n w) n) (length (smallerList n w rs))
 
 -- ---- filling a table from rows: 1, 2, 4 (up to 512 rows), 5, 6, 7
 

@@ -4,7 +4,7 @@ use mathlib.Core.Bool.{Bool, true, false, _||_}
 use mathlib.Core.List.{[]}
 use Prim.Native.Nat.{ℕ, _≤_}
 use native.Mathlib.Omega.{arith}
-use borrow.Author.Tests.{ltb-false, eq-eqb}
+use borrow.Author.Tests.{le-ltb, ltb-false, eq-eqb}
 use lib.Dec.{ltb}
 use Rattle.block.specs.Limits.{outputs}
 use Rattle.block.specs.Refusals.{verdict, answered, outside, sizeChecks}
@@ -25,6 +25,10 @@ or-right false q h = h
 
 pub inside : (low high x : ℕ) → outside low high x ≡ false → (low ≤ x) × (x ≤ high)
 inside low high x h = (ltb-false x low (or-left (ltb x low) (ltb high x) h), ltb-false high x (or-right (ltb x low) (ltb high x) h))
+
+-- and a number within its range is not outside
+pub within : (low high x : ℕ) → low ≤ x → x ≤ high → outside low high x ≡ false
+within low high x a b = rw (le-ltb x low a, le-ltb high x b)
 
 -- sizes that pass
 pub sized : (most n k : ℕ) (v : Answer) → v ≡ verdict (sizeChecks most n k []) → v .number ≡ 0

@@ -8,7 +8,7 @@ use Prim.Native.Nat.{ℕ, zero, suc, _+_, _≤_, _<_}
 use native.Mathlib.Decide.{ℕ-discrete}
 use native.Mathlib.Numerals.{add-one}
 use native.Mathlib.Omega.{arith}
-use borrow.Author.Tests.{eq-eqb, ne-eqb}
+use borrow.Author.Tests.{eq-eqb, ne-eqb, eqb-false}
 use lib.Dec.{eqb}
 use Rattle.sums.specs.Laws.{below-suc}
 use Rattle.block.specs.Basis.{before, better, best}
@@ -70,6 +70,19 @@ module _ (ahead : ℕ → ℕ → Bool) (ok : ℕ → Bool) where
   best-lt (suc m) k h l =
       ⊎-elim (λ e. rw e (omega arith)) (λ e. rw e (best-lt m k (omega arith) l))
       (better-of (best ahead ok m) m (ok m && (eqb (best ahead ok m) 0 || ahead m (best ahead ok m))))
+
+  -- and passes, where it is not 0
+  pub best-passes : (m : ℕ) → (best ahead ok m ≡ 0 → ⊥) → ok (best ahead ok m) ≡ true
+  unfolding best better
+  best-passes zero n = absurd (n refl)
+  best-passes (suc m) n =
+      go (λ k. best-passes m k) (ok m) (eqb (best ahead ok m) 0 || ahead m (best ahead ok m)) refl n
+    where
+      go : ((best ahead ok m ≡ 0 → ⊥) → ok (best ahead ok m) ≡ true) → (x y : Bool) → ok m ≡ x
+          → (cond (x && y) m (best ahead ok m) ≡ 0 → ⊥) → ok (cond (x && y) m (best ahead ok m)) ≡ true
+      go ih true true e k = e
+      go ih true false e k = ih k
+      go ih false y e k = ih k
 
   -- ---- the search makes the choice
 
@@ -135,22 +148,32 @@ module _ (ahead : ℕ → ℕ → Bool) (ok : ℕ → Bool) where
 
 -- ---- what the search depends on
 
+-- the better of two depends on their order alone, and on that only where both may be taken
+better-agree : (ahead early : ℕ → ℕ → Bool) (ok : ℕ → Bool) (b t : ℕ)
+    → (ok t ≡ true → (b ≡ 0 → ⊥) → ahead t b ≡ early t b) → better ahead ok b t ≡ better early ok b t
+unfolding better
+better-agree ahead early ok b t h = go (ok t) (eqb b 0) refl refl
+  where
+    go : (x y : Bool) → ok t ≡ x → eqb b 0 ≡ y → cond (x && (y || ahead t b)) t b ≡ cond (x && (y || early t b)) t b
+    go true true e d = refl
+    go true false e d = ap (λ (z : Bool). cond z t b) (h e (eqb-false b 0 d))
+    go false y e d = refl
+
 -- the test below m
 pub best-cong : (ahead : ℕ → ℕ → Bool) (p q : ℕ → Bool) (m : ℕ) → ((t : ℕ) → t < m → p t ≡ q t) → best ahead p m ≡ best ahead q m
 unfolding best better
 best-cong ahead p q zero h = refl
 best-cong ahead p q (suc m) h = rw (best-cong ahead p q m (λ t l. h t (omega arith)), h m (omega arith))
 
--- the order below m
-pub best-agree : (ahead early : ℕ → ℕ → Bool) (ok : ℕ → Bool) (m : ℕ) → ((a b : ℕ) → a < m → b < m → ahead a b ≡ early a b)
-    → best ahead ok m ≡ best early ok m
-unfolding best better
+-- the order among the numbers below m that pass: it is asked of no others
+pub best-agree : (ahead early : ℕ → ℕ → Bool) (ok : ℕ → Bool) (m : ℕ)
+    → ((a b : ℕ) → a < m → b < m → ok a ≡ true → ok b ≡ true → ahead a b ≡ early a b) → best ahead ok m ≡ best early ok m
+unfolding best
 best-agree ahead early ok zero h = refl
 best-agree ahead early ok (suc m) h =
-    rw (
-      best-agree ahead early ok m (λ a b l k. h a b (omega arith) (omega arith)),
-      h m (best early ok m) (omega arith) (best-lt early ok m (suc m) (omega arith) (omega arith)),
-    )
+    rw (best-agree ahead early ok m (λ a b l k p q. h a b (omega arith) (omega arith) p q))
+    (better-agree ahead early ok (best early ok m) m
+    (λ p n. h m (best early ok m) (omega arith) (best-lt early ok m (suc m) (omega arith) (omega arith)) p (best-passes early ok m n)))
 
 -- ---- the choice by R
 

@@ -2,10 +2,11 @@
 -- the candidates left by those before it, and what it depends on. Not here: that each step has a candidate (crate matrix,
 -- `Candidate`). Assumes nothing.
 use mathlib.Core.Path.{_≡_, refl, sym, ap, ap₂, _∙_}
-use mathlib.Core.Bool.{Bool, not, _&&_, _||_}
+use mathlib.Core.Bool.{Bool, true, false, not, _&&_, _||_, false≢true}
 use mathlib.Core.List.{List, [], _∷_, _++_}
-use Prim.Native.Nat.{ℕ, zero, suc, _^_, _<_}
+use Prim.Native.Nat.{ℕ, zero, suc, _^_, _≤_, _<_}
 use native.Mathlib.Omega.{arith}
+use borrow.Author.Tests.{leb-true}
 use lib.Bits.{bitXor}
 use lib.Count.{ones}
 use lib.Dec.{leb}
@@ -60,6 +61,16 @@ pub candidate-cong : (w : ℕ) (c d : ℕ → ℕ) (k : ℕ) → ((j : ℕ) → 
 unfolding candidate
 candidate-cong w c d k h t = ap (λ (b : Bool). leb 1 (ones t) && (leb (ones t) w && not b)) (span-cong c d k h t)
 
+-- a candidate has 1 to w one-bits
+pub candidate-ones : (w : ℕ) (c : ℕ → ℕ) (k t : ℕ) → candidate w c k t ≡ true → (1 ≤ ones t) × (ones t ≤ w)
+unfolding candidate
+candidate-ones w c k t h = go (leb 1 (ones t)) (leb (ones t) w) refl refl h
+  where
+    go : (a b : Bool) → leb 1 (ones t) ≡ a → leb (ones t) w ≡ b → a && (b && not (span c k t)) ≡ true → (1 ≤ ones t) × (ones t ≤ w)
+    go true true d e p = (leb-true 1 (ones t) d, leb-true (ones t) w e)
+    go true false d e p = absurd (false≢true p)
+    go false b d e p = absurd (false≢true p)
+
 -- ---- one step
 
 -- each number is the search's result among the candidates that those before it leave
@@ -80,13 +91,21 @@ pub before-cong : (r q : ℕ → ℕ) (a b : ℕ) → r a ≡ q a → r b ≡ q 
 unfolding before
 before-cong r q a b h k = rw (h, k)
 
-module _ (r q : ℕ → ℕ) (n w : ℕ) (h : (t : ℕ) → t < 2 ^ n → r t ≡ q t) where
+-- r and q agree where the rule asks for R: on the numbers below 2^n with 1 to w one-bits
+abbrev pub Agree : (ℕ → ℕ) → (ℕ → ℕ) → ℕ → ℕ → Type 0
+Agree r q n w = (t : ℕ) → t < 2 ^ n → 1 ≤ ones t → ones t ≤ w → r t ≡ q t
+
+module _ (r q : ℕ → ℕ) (n w : ℕ) (h : Agree r q n w) where
   next-cong : (k : ℕ) (cs : List ℕ) → next r n w k cs ≡ next q n w k cs
   unfolding next
   next-cong k cs =
-      best-agree (before r) (before q) (candidate w (at cs) k) (2 ^ n) (λ a b l m. before-cong r q a b (h a l) (h b m))
+      best-agree (before r) (before q) (candidate w (at cs) k) (2 ^ n)
+      (λ a b l m p s. before-cong r q a b (of a l (candidate-ones w (at cs) k a p)) (of b m (candidate-ones w (at cs) k b s)))
+    where
+      of : (t : ℕ) → t < 2 ^ n → (1 ≤ ones t) × (ones t ≤ w) → r t ≡ q t
+      of t l p = h t l (p .0) (p .1)
 
-  -- the lists depend on R below 2^n alone
+  -- so the lists depend on R there alone
   pub chosen-cong : (k : ℕ) → chosen r n w k ≡ chosen q n w k
   unfolding chosen
   chosen-cong zero = refl

@@ -63,7 +63,8 @@ module _ (n : ℕ) (rs : List Row) (d : Disjoint n rs) (m₀ v₀ w₀ m v w : L
   where
     -- the cubes of disjoint rows add up to R
     pub cubes-shift : (t : ℕ) → t < 2 ^ n → addedBy m v w r t ≡ shift (ofRows rs) n t
-    cubes-shift t h = rw (s .masks, s .values, s .weights, s .count) (added-stored t (cubesOf n rs) m₀ v₀ w₀ ∙ sym (shift-cubes n rs t d h))
+    cubes-shift t h =
+        rw (s .masks, s .values, s .weights, s .count) (added-stored t (cubesOf n rs) m₀ v₀ w₀ ∙ sym (shift-cubes n rs t d h))
 
     -- so what they add is small
     pub cubes-small : (t : ℕ) → t < 2 ^ n → n ≤ 16 → addedBy m v w r t ≤ 65536

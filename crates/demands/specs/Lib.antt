@@ -1,6 +1,7 @@
 -- The demands as theorems. `Basis`: the rule and that it leaves one answer. `Matrix`: T and its inverse. `Blocks`: the smaller block
--- and its measure. `Restoring`: the way back for tables.
+-- and its measure. `Restoring`: the way back for tables. `Lists`: demand 3, and the way back for lists.
 pub mod Basis
 pub mod Matrix
 pub mod Blocks
 pub mod Restoring
+pub mod Lists

@@ -24,7 +24,7 @@ use Rattle.demands.specs.Matrix.{sigma-length, sigma-lt, sigma-independe
 use Rattle.demands.specs.Blocks.{smaller-at, smaller-length, block-at}
 
 -- a list with no bad entry passes its check of 6
-not-malformed : (a : ℕ) (bad : ℕ → Bool) (l : List ℕ) → ((i : ℕ) → i < length l → bad (at l i) ≡ false) → malformed a bad l .holds ≡ false
+pub not-malformed : (a : ℕ) (bad : ℕ → Bool) (l : List ℕ) → ((i : ℕ) → i < length l → bad (at l i) ≡ false) → malformed a bad l .holds ≡ false
 not-malformed a bad l h = le-ltb _ (length l) (rw (first-is (length l) (λ i. bad (at l i)) (length l) (omega arith) h (λ b. absurd (omega arith))) (omega arith))
 
 -- going back from sigma and the smaller table of any table gives the table

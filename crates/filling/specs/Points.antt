@@ -1,4 +1,5 @@
--- The word of a list of rows at a point x, by places: that of the first row over x, and no output where there is none. Assumes nothing.
+-- The word of a list of rows at a point x, by places: that of the first row over x, and no output where there is none.
+-- Assumes nothing.
 use mathlib.Core.Path.{_≡_, refl, sym, ap, _∙_}
 use mathlib.Core.Bool.{true, false}
 use mathlib.Core.List.{List, [], _∷_}
@@ -33,7 +34,8 @@ abbrev pub Passed : List ℕ → List ℕ → ℕ → ℕ → Type 0
 Passed masks values x i = (j : ℕ) → j < i → bitAnd (at masks j) x ≡ at values j → ⊥
 
 module _ (most : ℕ) (masks values words : List ℕ) (l : Listed most masks values words) (x : ℕ) where
-  over-at : (i : ℕ) → i < length masks → under (rowAt (rowsOf masks values words) i) x ≡ under (row (at masks i) (at values i) (at words i)) x
+  over-at : (i : ℕ) → i < length masks
+      → under (rowAt (rowsOf masks values words) i) x ≡ under (row (at masks i) (at values i) (at words i)) x
   over-at i h = ap (λ (r : Row). under r x) (row-at masks values words (l .values-too) (l .words-too) i h)
 
   below : (i : ℕ) → i ≤ length masks → Passed masks values x i → Below (rowsOf masks values words) x i

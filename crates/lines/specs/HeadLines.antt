@@ -23,7 +23,7 @@ use Rattle.lines.specs.Numerals.{valueOf, one-digit, two-digits, three-d
 -- ---- the form of a heading is what is written
 
 -- a list with its last element apart
-last-apart : (m : List ℕ) (j : ℕ) → length m ≡ suc j → m ≡ take j m ++ (at m j ∷ [])
+pub last-apart : (m : List ℕ) (j : ℕ) → length m ≡ suc j → m ≡ take j m ++ (at m j ∷ [])
 last-apart m j e = sym (take-all (suc j) m (omega arith)) ∙ take-suc m j 0 (omega arith)
 
 pub form-written : (letter : ℕ) (l : List ℕ) → headForm letter l ≡ true
@@ -264,7 +264,7 @@ head-stands s from letter v w e =
         stand n (suc (suc (suc i))) h = ap (at s) (omega arith) ∙ n i (omega arith)
 
 -- a heading without its LF has none
-heading-noLF : (letter v : ℕ) → (letter ≡ 10 → ⊥) → v < 1000 → noLF (46 ∷ letter ∷ 32 ∷ decimal v) ≡ true
+pub heading-noLF : (letter v : ℕ) → (letter ≡ 10 → ⊥) → v < 1000 → noLF (46 ∷ letter ∷ 32 ∷ decimal v) ≡ true
 unfolding every
 heading-noLF letter v l h = rw (ne-eqb letter 10 l) (numeral-noLF (decimal v) (written-numeral v h .0))
 

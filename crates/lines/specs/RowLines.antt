@@ -121,10 +121,10 @@ spelled-from s from free (suc n) =
 
 -- ---- a line
 
-abbrev symbolTest : ℕ → Bool
+abbrev pub symbolTest : ℕ → Bool
 symbolTest b = eqb b 48 || (eqb b 49 || eqb b 45)
 
-abbrev bitTest : ℕ → Bool
+abbrev pub bitTest : ℕ → Bool
 bitTest b = eqb b 48 || eqb b 49
 
 -- row form, but for the length
@@ -223,7 +223,7 @@ test-append a b n k e =
     (refl, refl)
 
 -- the bytes of a row's line before its LF are no LF
-symbol-noLF : (b : ℕ) → symbolTest b ≡ true → not (eqb b 10) ≡ true
+pub symbol-noLF : (b : ℕ) → symbolTest b ≡ true → not (eqb b 10) ≡ true
 symbol-noLF b e = go (eqb b 48) (eqb b 49) (eqb b 45) (eqb b 10) refl refl refl refl e
   where
     go : (x y z t : Bool) → eqb b 48 ≡ x → eqb b 49 ≡ y → eqb b 45 ≡ z → eqb b 10 ≡ t → x || (y || z) ≡ true → not t ≡ true
@@ -233,7 +233,7 @@ symbol-noLF b e = go (eqb b 48) (eqb b 49) (eqb b 45) (eqb b 10) refl refl refl 
     go false false true true p q r u e = let a = eqb-true b 45 r in let c = eqb-true b 10 u in absurd (omega arith)
     go false false false true p q r u e = let z : _≡_ {A = ℕ} 0 1 = cc in absurd (omega arith)
 
-bit-symbol : (b : ℕ) → bitTest b ≡ true → symbolTest b ≡ true
+pub bit-symbol : (b : ℕ) → bitTest b ≡ true → symbolTest b ≡ true
 bit-symbol b e = go (eqb b 48) (eqb b 49) (eqb b 45) e
   where
     go : (x y z : Bool) → x || y ≡ true → x || (y || z) ≡ true

@@ -20,7 +20,7 @@ use Rattle.block.specs.Basis.{span, candidate, before, basisOf}
 use Rattle.block.specs.Rows.{reached}
 use Rattle.choice.specs.Order.{before-strict}
 use Rattle.choice.specs.Choice.{Choice, best-choice}
-use Rattle.choice.specs.Chosen.{pick, pick-best, pick-lt, basis-at}
+use Rattle.choice.specs.Chosen.{pick, pick-best, pick-lt, basis-at, candidate-ones}
 use Rattle.matrix.specs.Linear.{columns-lt, columns-units, linear-columns}
 use Rattle.matrix.specs.Reached.{Independent, Coordinates, independent-cong, reached-linear, returned, reaches, reached-span}
 
@@ -105,6 +105,10 @@ module _ (r : ℕ → ℕ) (n w : ℕ) (hw : 1 ≤ w) where
   -- each is the choice among the candidates that those before it leave
   pub pick-choice : (k : ℕ) → k < n → Choice (before r) (candidate w (pick r n w) k) (2 ^ n) (pick r n w k)
   pick-choice k h = step-choice k h (pick-independent k (omega arith))
+
+  -- and has 1 to w one-bits
+  pub pick-ones : (k : ℕ) → k < n → (1 ≤ ones (pick r n w k)) × (ones (pick r n w k) ≤ w)
+  pick-ones k h = candidate-ones w (pick r n w) k (pick r n w k) (pick-choice k h .passes)
 
 -- so are the columns of T
 pub basis-independent : (f : ℕ → ℕ) (n w : ℕ) → 1 ≤ w → Independent (at (basisOf f n w)) n n

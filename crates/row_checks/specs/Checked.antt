@@ -1,5 +1,5 @@
--- The checks of the operations on lists: the row method's before 9, which needs the rows transformed; 6 and 7 as the code finds them;
--- and what an answer of 0 says of n, k and the rows, for each operation. Assumes nothing.
+-- The checks of the operations on lists: the row method's before 9, which needs the rows transformed; 6 and 7 as the code finds
+-- them; and what an answer of 0 says of n, k and the rows, for each operation. Assumes nothing.
 use mathlib.Core.Path.{_≡_, refl, sym, ap, _∙_}
 use mathlib.Core.Bool.{Bool, false, not}
 use mathlib.Core.List.{List, [], _∷_, _++_}
@@ -122,9 +122,11 @@ value-checked n k t masks values words v e h =
     let rs : List Row = rowsOf masks values words in
     let clear =
     answered-clear
-    (sizeChecks listInputs n k (check (not (ltb t (2 ^ n))) 3 0 0 ∷ countCheck givenRows rs ∷ badRowCheck n k rs ∷ shareCheck n rs ∷ []))
+    (sizeChecks listInputs n k
+    (check (not (ltb t (2 ^ n))) 3 0 0 ∷ countCheck givenRows rs ∷ badRowCheck n k rs ∷ shareCheck n rs ∷ []))
     (refl, (refl, (refl, (refl, (refl, (refl, tt)))))) (sym (ap answered e) ∙ eq-eqb (v .number) 0 h) in (
-      checked-when listInputs givenRows n k masks values words (clear 0 (omega arith)) (clear 1 (omega arith)) (clear 3 (omega arith))
+      checked-when listInputs givenRows n k masks values words (clear 0 (omega arith)) (clear 1 (omega arith))
+          (clear 3 (omega arith))
           (clear 4 (omega arith)) (clear 5 (omega arith)),
       ltb-true t (2 ^ n) (not-false _ (clear 2 (omega arith))),
     )
@@ -138,9 +140,11 @@ fill-checked n k masks values words room v e h =
     let rs : List Row = rowsOf masks values words in
     let clear =
     answered-clear
-    (sizeChecks tableInputs n k (countCheck smallerRows rs ∷ check (ltb room (2 ^ n)) 5 0 0 ∷ badRowCheck n k rs ∷ shareCheck n rs ∷ []))
+    (sizeChecks tableInputs n k
+    (countCheck smallerRows rs ∷ check (ltb room (2 ^ n)) 5 0 0 ∷ badRowCheck n k rs ∷ shareCheck n rs ∷ []))
     (refl, (refl, (refl, (refl, (refl, (refl, tt)))))) (sym (ap answered e) ∙ eq-eqb (v .number) 0 h) in (
-      checked-when tableInputs smallerRows n k masks values words (clear 0 (omega arith)) (clear 1 (omega arith)) (clear 2 (omega arith))
+      checked-when tableInputs smallerRows n k masks values words (clear 0 (omega arith)) (clear 1 (omega arith))
+          (clear 2 (omega arith))
           (clear 4 (omega arith)) (clear 5 (omega arith)),
       ltb-false room (2 ^ n) (clear 3 (omega arith)),
     )
@@ -152,8 +156,10 @@ pub method-checked : (n k w : ℕ) (masks values words : List ℕ) (short : Bool
 unfolding methodChecked
 method-checked n k w masks values words short v e h =
     let rs : List Row = rowsOf masks values words in
-    let clear = answered-clear (methodChecked n k w rs short) (method-numbered n k w rs short) (sym (ap answered e) ∙ eq-eqb (v .number) 0 h) in (
-      checked-when listInputs givenRows n k masks values words (clear 0 (omega arith)) (clear 1 (omega arith)) (clear 3 (omega arith))
+    let clear = answered-clear (methodChecked n k w rs short) (method-numbered n k w rs short)
+    (sym (ap answered e) ∙ eq-eqb (v .number) 0 h) in (
+      checked-when listInputs givenRows n k masks values words (clear 0 (omega arith)) (clear 1 (omega arith))
+          (clear 3 (omega arith))
           (clear 5 (omega arith)) (clear 6 (omega arith)),
       inside 1 n w (clear 2 (omega arith)),
       clear 4 (omega arith),

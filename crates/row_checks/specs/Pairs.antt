@@ -1,5 +1,5 @@
--- The first pair of rows that share a point, as an answer (01, Numbers that come back, 7); that two nested loops over masks and values
--- find it; and check 7 by it. Assumes nothing.
+-- The first pair of rows that share a point, as an answer (01, Numbers that come back, 7); that two nested loops over masks and
+-- values find it; and check 7 by it. Assumes nothing.
 use mathlib.Core.Path.{_≡_, refl, sym, ap₂, subst, _∙_}
 use mathlib.Core.Bool.{Bool, true, false, cond}
 use mathlib.Core.List.{List, [], _∷_}
@@ -30,7 +30,8 @@ pairOf n rs = cond (ltb (sharing n rs) (length rs)) (At (sharing n rs) (second n
 -- r is that pair for the rows with these masks and values, whatever their words, if they are well formed
 abbrev pub FirstPair : List ℕ → List ℕ → Pair → Type 0
 FirstPair masks values r =
-    (n : ℕ) (words : List ℕ) → length words ≡ length masks → Every (Sound n) (rowsOf masks values words) → r ≡ pairOf n (rowsOf masks values words)
+    (n : ℕ) (words : List ℕ) → length words ≡ length masks → Every (Sound n) (rowsOf masks values words)
+    → r ≡ pairOf n (rowsOf masks values words)
 
 -- the answer of check 7
 abbrev pub pairAnswer : Pair → Answer

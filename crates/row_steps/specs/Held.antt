@@ -98,22 +98,26 @@ added-one r count m v w m′ v′ w′ room s = record { longer = refl; added = 
 pub held-past : (rs : List Row) (m v w : List ℕ) → 512 < length rs → Held rs m v w
 held-past rs m v w h = record { front = λ l. absurd (omega arith) }
 
+-- the first rows of slices that were copied from others
+pub rows-copied : (count : ℕ) (a b c m v w m′ v′ w′ : List ℕ) → m′ ≡ over (tab count (at a)) m → v′ ≡ over (tab count (at b)) v
+    → w′ ≡ over (tab count (at c)) w → rowsFrom count m′ v′ w′ ≡ rowsFrom count a b c
+rows-copied count a b c m v w m′ v′ w′ p q r =
+    tab-cong count (λ i. row (at m′ i) (at v′ i) (at w′ i)) (λ i. row (at a i) (at b i) (at c i))
+    (λ j u.
+    same-row (at m′ j) (at v′ j) (at w′ j) (at a j) (at b j) (at c j) (copied a m m′ p j u) (copied b v v′ q j u) (copied c w w′ r j u))
+  where
+    copied : (x l l′ : List ℕ) → l′ ≡ over (tab count (at x)) l → (j : ℕ) → j < count → at l′ j ≡ at x j
+    copied x l l′ d j u = ap (λ (y : List ℕ). at y j) d ∙ over-at count (at x) l 0 j u
+
 -- a list that was copied from other slices
 pub held-copied : (rs : List Row) (count : ℕ) (a b c m v w m′ v′ w′ : List ℕ) → Held rs a b c → count ≡ length rs
     → m′ ≡ over (tab count (at a)) m → v′ ≡ over (tab count (at b)) v → w′ ≡ over (tab count (at c)) w → Held rs m′ v′ w′
 held-copied rs count a b c m v w m′ v′ w′ h e p q r =
     record {
       front = λ l.
-          ap (λ (i : ℕ). rowsFrom i m′ v′ w′) (sym e)
-          ∙ tab-cong count (λ i. row (at m′ i) (at v′ i) (at w′ i)) (λ i. row (at a i) (at b i) (at c i))
-          (λ j u.
-          same-row (at m′ j) (at v′ j) (at w′ j) (at a j) (at b j) (at c j) (copied a m m′ p j u) (copied b v v′ q j u) (copied c w w′ r j u))
-          ∙ ap (λ (i : ℕ). rowsFrom i a b c) e
-          ∙ h .front l;
+          ap (λ (i : ℕ). rowsFrom i m′ v′ w′) (sym e) ∙ rows-copied count a b c m v w m′ v′ w′ p q r
+          ∙ ap (λ (i : ℕ). rowsFrom i a b c) e ∙ h .front l;
     }
-  where
-    copied : (x l l′ : List ℕ) → l′ ≡ over (tab count (at x)) l → (j : ℕ) → j < count → at l′ j ≡ at x j
-    copied x l l′ d j u = ap (λ (y : List ℕ). at y j) d ∙ over-at count (at x) l 0 j u
 
 -- positions exchanged in the masks and in the values are exchanged in the rows
 pub rows-exchanged : (p k h : ℕ) (m v w m′ v′ : List ℕ) → m′ ≡ over (tab p (λ i. exchange k h (at m i))) m

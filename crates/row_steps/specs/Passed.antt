@@ -33,6 +33,7 @@ passingBy n c rs = first n (λ i. ltb smallerRows (length (moved n c (suc i) rs)
 pub record Replayed (n : ℕ) (c : ℕ → ℕ) (rs : List Row) (masks values words : List ℕ) (r : Replay) : Type 0 where
   pub stopped : r .step ≡ cond (ltb (passingBy n c rs) n) (suc (passingBy n c rs)) 0
   pub counted : r .count ≡ cond (ltb (passingBy n c rs) n) 0 (length (moved n c n rs))
+  pub few : r .count ≤ 512
   pub rows : r .step ≡ 0 → rowsFrom (r .count) masks values words ≡ moved n c n rs
 
 module _ (n : ℕ) (c : ℕ → ℕ) (rs : List Row) where
@@ -63,6 +64,7 @@ module _ (n : ℕ) (c : ℕ → ℕ) (rs : List Row) where
       record {
         stopped = rw (e, lt-ltb k n h) (add-one k);
         counted = rw (e, lt-ltb k n h);
+        few = omega arith;
         rows = λ z. absurd (omega arith);
       }
 
@@ -76,6 +78,7 @@ module _ (n : ℕ) (c : ℕ → ℕ) (rs : List Row) where
       record {
         stopped = rw (e, le-ltb n n (omega arith));
         counted = rw (e, le-ltb n n (omega arith)) length-is;
+        few = l;
         rows = λ z. d;
       }
 

@@ -1,18 +1,18 @@
--- What the checks of writing say: where none holds, and where only the last is left. Assumes nothing.
+-- What the checks of writing say where none holds; and the last of them as the code finds it. Assumes nothing.
 use mathlib.Core.Path.{_≡_, refl}
 use mathlib.Core.Bool.{Bool, true, false, cond}
-use mathlib.Core.List.{List}
+use mathlib.Core.List.{List, [], _∷_}
 use Prim.Native.Nat.{ℕ, _≤_, _<_}
 use native.Mathlib.Omega.{arith}
-use borrow.Author.Tests.{le-ltb, ltb-false}
+use borrow.Author.Tests.{ltb-false}
 use lib.Dec.{ltb}
 use lib.ListN.{length}
 use Rattle.slices.specs.Places.{first}
-use Rattle.slices.specs.Least.{first-below, first-le}
-use Rattle.block.specs.Refusals.{answer, verdict, outside, some, badRow, rowAt}
+use Rattle.slices.specs.Least.{first-below}
+use Rattle.block.specs.Refusals.{check, answer, verdict, outside, some, badRow, rowAt}
+use Rattle.block.specs.Lists.{badRowCheck}
 use Rattle.block.specs.Text.{writeVerdict}
 use Rattle.block.specs.declared.Row.{Row}
-use Rattle.block.specs.declared.Answer.{Answer}
 use Rattle.checks.specs.Sizes.{inside}
 
 -- n, k and the number of rows are in range, the room is long enough, and no row is malformed
@@ -53,9 +53,7 @@ writable n k rs room e =
               (omega (arith, ltb-false f (length rs) t));
         }
 
--- where all but the rows passed, the least malformed row decides
-pub last-check : (n k : ℕ) (rs : List Row) (room count bad : ℕ) → outside 1 16 n ≡ false → outside 1 15 k ≡ false
-    → outside 1 128 count ≡ false → 4246 ≤ room → count ≡ length rs → bad ≡ first (length rs) (λ i. badRow n k (rowAt rs i))
-    → writeVerdict n k rs room ≡ cond (ltb bad count) (answer 6 0 bad) (answer 0 0 0)
-unfolding writeVerdict verdict
-last-check n k rs room count bad a b c d e f = rw (f, e, a, b, rw e at c, le-ltb room 4246 d)
+-- 6 by the least malformed row and the number of rows
+pub bad-check : (n k : ℕ) (rs : List Row) (count bad : ℕ) → count ≡ length rs → bad ≡ first (length rs) (λ i. badRow n k (rowAt rs i))
+    → verdict (check (ltb bad count) 6 0 bad ∷ []) ≡ verdict (badRowCheck n k rs ∷ [])
+bad-check n k rs count bad e f = rw (f, e)

@@ -6,16 +6,8 @@ ghost use mathlib.Core.List.{_++_};
 ghost use Prim.Native.Nat.{_+_, _≤_, _<_};
 ghost use lib.ListN.{length};
 ghost use Rattle.block.specs.Words.{rowsOf};
-ghost use Rattle.block.specs.Refusals.{answer};
 ghost use Rattle.block.specs.Text.{headLine, textOf, writeVerdict};
 ghost use Rattle.puts.specs.Puts.{Put};
-
-// An answer with its number and its second place.
-pub fn answer_of(number: u32, b: usize) -> Answer
-    ensures { λ r. ⌜ r ≡ answer number 0 b ⌝ }
-{
-    Answer { number, a: 0, b }
-}
 
 // The checks of writing: 1, 2, 4, 5 and 6.
 pub fn write_checks(
@@ -28,24 +20,19 @@ pub fn write_checks(
 ) -> Answer
     ensures { λ r. ⌜ r ≡ writeVerdict n k (rowsOf (now (masks .entry)) (now (values .entry)) (now (words .entry))) room ⌝ }
 {
-    if checks::is_outside(1, 16, n) {
-        return answer_of(1, 0);
-    }
-    if checks::is_outside(1, 15, k) {
-        return answer_of(2, 0);
+    let size = checks::sizes(16, n, k);
+    if size.number != 0 {
+        return size;
     }
     let count = listing::row_count(masks, values, words);
     if checks::is_outside(1, 128, count) {
-        return answer_of(4, 0);
+        return checks::refuse(4, 0, 0);
     }
     if room < 4246 {
-        return answer_of(5, 0);
+        return checks::refuse(5, 0, 0);
     }
     let bad = listing::first_bad_row(n, k, masks, values, words);
-    if bad < count {
-        return answer_of(6, bad);
-    }
-    answer_of(0, 0)
+    checks::refuse_where(bad < count, 6, 0, bad)
 }
 
 // Puts a heading: a dot, its letter, a space, the number and LF.

@@ -1,10 +1,14 @@
-// R of a full table: at one t, at every t, and its sums. Every function here is inner.
+// R of a full table: at one t, point by point, and at every t, by blocks of 64 points. Every function here is inner.
 ghost use mathlib.Core.Path.{_≡_};
-ghost use Prim.Native.Nat.{ℕ, _≤_, _<_, _^_};
+ghost use Prim.Native.Nat.{ℕ, _+_, _*_, _-_, _≤_, _<_, _^_};
+ghost use lib.Bits.{bitXor};
 ghost use lib.ListN.{length};
 ghost use Rattle.slices.specs.Places.{at, tab, over};
+ghost use Rattle.slices.specs.Placed.{Placed};
 ghost use Rattle.block.specs.Words.{ofTable};
 ghost use Rattle.block.specs.Measure.{shift};
+ghost use Rattle.shifts.specs.Blocks.{marked, matching, pairAdds, FullTable, Copied};
+ghost use Rattle.shifts.specs.Order.{atLow};
 
 // R(t) of a full table of 2^n words.
 pub fn shift_at(table: &[u16], n: usize, t: usize) -> u32
@@ -25,8 +29,8 @@ pub fn shift_at(table: &[u16], n: usize, t: usize) -> u32
     r
 }
 
-// R(t) for every t, each worked out once.
-pub fn shifts_of(table: &[u16], n: usize, out: &mut [u32])
+// R(t) for every t, point by point: for tables of less than a block.
+fn small_shifts(table: &[u16], n: usize, out: &mut [u32])
     requires { ⌜ (length (now table) ≡ 2 ^ n) × (n ≤ 12) × (2 ^ n ≤ length (now out)) ⌝ }
     ensures { λ _. ⌜ now (out .exit) ≡ over (tab (2 ^ n) (shift (ofTable (now (table .entry))) n)) (now (out .entry)) ⌝ }
 {
@@ -34,5 +38,102 @@ pub fn shifts_of(table: &[u16], n: usize, out: &mut [u32])
     while t < table.len() {
         out[t] = shift_at(table, n, t);
         t += 1;
+    }
+}
+
+// An entry as the copy holds it: 65,534, which no entry is, for no output.
+fn mark(w: u16) -> u16
+    ensures { λ r. ⌜ r ≡ marked w ⌝ }
+{
+    if w == 65535 { 65534 } else { w }
+}
+
+// The marked copy: entry y is the table's entry at y XOR low.
+fn put_copy(table: &[u16], n: usize, low: usize, copy: &mut [u16])
+    requires { ⌜ (length (now table) ≡ 2 ^ n) × (low < 2 ^ n) × (2 ^ n ≤ length (now copy)) ⌝ }
+    ensures { λ _. ⌜ now (copy .exit) ≡ over (tab (2 ^ n) (λ y. marked (at (now (table .entry)) (bitXor y low)))) (now (copy .entry)) ⌝ }
+{
+    let mut y: usize = 0;
+    while y < table.len() {
+        copy[y] = mark(table[y ^ low]);
+        y += 1;
+    }
+}
+
+// How many of the 64 points of block b hold in the table what the same points of block c hold in the copy. The bound is a number so that
+// the compiler compares many points at once.
+fn matches(table: &[u16], copy: &[u16], b: usize, c: usize) -> u16
+    requires { ⌜ (b * 64 + 64 ≤ length (now table)) × (c * 64 + 64 ≤ length (now copy)) ⌝ }
+    ensures { λ r. ⌜ r ≡ matching (now (table .entry)) (now (copy .entry)) b c ⌝ }
+{
+    let x = b * 64;
+    let y = c * 64;
+    let mut m: u16 = 0;
+    let mut i: usize = 0;
+    while i < 64 {
+        if table[x + i] == copy[y + i] {
+            m += 1;
+        }
+        i += 1;
+    }
+    m
+}
+
+// What the blocks b and b XOR high add to R together, counted at the smaller of the two.
+fn pair_adds(table: &[u16], copy: &[u16], n: usize, high: usize, b: usize) -> u32
+    requires { ⌜ (length (now table) ≡ 2 ^ n) × (6 ≤ n) × (2 ^ n ≤ length (now copy)) × (high < 2 ^ (n - 6)) × (b < 2 ^ (n - 6)) ⌝ }
+    ensures { λ r. ⌜ r ≡ pairAdds (now (table .entry)) (now (copy .entry)) high b ⌝ }
+{
+    let c = b ^ high;
+    if c < b {
+        return 0;
+    }
+    let m = matches(table, copy, b, c) as u32;
+    if b == c { m } else { m * 2 }
+}
+
+// R at high * 64 + low, from a copy made for low.
+fn shift_by_blocks(table: &[u16], copy: &[u16], n: usize, low: usize, high: usize) -> u32
+    requires { ⌜ (Copied (now table) (now copy) n low) × (high < 2 ^ (n - 6)) ⌝ }
+    ensures { λ r. ⌜ r ≡ shift (ofTable (now (table .entry))) n (high * 64 + low) ⌝ }
+{
+    let end = table.len() / 64;
+    let mut r: u32 = 0;
+    let mut b: usize = 0;
+    while b < end {
+        r += pair_adds(table, copy, n, high, b);
+        b += 1;
+    }
+    r
+}
+
+// R(t) for every t with the given low part.
+fn shifts_at_low(table: &[u16], n: usize, low: usize, out: &mut [u32])
+    requires { ⌜ (FullTable (now table) n) × (low < 64) × (2 ^ n ≤ length (now out)) ⌝ }
+    ensures { λ _. ⌜ Placed (atLow low (2 ^ n)) (shift (ofTable (now (table .entry))) n) (now (out .entry)) (now (out .exit)) ⌝ }
+{
+    let mut copy = [0u16; 4096];
+    put_copy(table, n, low, &mut copy);
+    let end = table.len() / 64;
+    let mut high: usize = 0;
+    while high < end {
+        out[high * 64 + low] = shift_by_blocks(table, &copy, n, low, high);
+        high += 1;
+    }
+}
+
+// R(t) for every t, each worked out once. No entry is 65,534, which a table with at most 15 outputs never holds.
+pub fn shifts_of(table: &[u16], n: usize, out: &mut [u32])
+    requires { ⌜ (length (now table) ≡ 2 ^ n) × (n ≤ 12) × (2 ^ n ≤ length (now out)) × ((i : ℕ) → i < 2 ^ n → at (now table) i ≡ 65534 → ⊥) ⌝ }
+    ensures { λ _. ⌜ now (out .exit) ≡ over (tab (2 ^ n) (shift (ofTable (now (table .entry))) n)) (now (out .entry)) ⌝ }
+{
+    if n < 6 {
+        small_shifts(table, n, out);
+        return;
+    }
+    let mut low: usize = 0;
+    while low < 64 {
+        shifts_at_low(table, n, low, out);
+        low += 1;
     }
 }

@@ -73,6 +73,14 @@ over-beyond m f l d i h =
     ap (λ k. getD k i d) (over-tab m f l) ∙ ap (λ (j : ℕ). getD (tab m f ++ drop m l) j d) e
     ∙ getD-append-add (tab m f) (drop m l) (i - m) d ∙ getD-drop m l (i - m) d ∙ ap (λ (j : ℕ). getD l j d) g
 
+-- what was stored is read off the front
+pub tab-front {ℓ} : {A : Type ℓ} (m : ℕ) (x l : List A) (d : A) → length x ≡ m → tab m (λ i. getD (over x l) i d) ≡ x
+tab-front m x l d e =
+    ext-getD d (tab m (λ i. getD (over x l) i d)) x (length-tab m _ ∙ sym e)
+    (λ i h.
+    let b : i < m = rw (length-tab m (λ i. getD (over x l) i d)) at h in
+    tab-at m (λ i. getD (over x l) i d) d i b ∙ List·getD-append x (drop (length x) l) d i (omega arith))
+
 -- a second result of the same length takes the first one's place
 pub over-over {ℓ} : {A : Type ℓ} (m : ℕ) (f g : ℕ → A) (l : List A) → over (tab m g) (over (tab m f) l) ≡ over (tab m g) l
 over-over m f g l = over-tab m g (over (tab m f) l) ∙ ap (λ k. tab m g ++ k) (drop-at (tab m f) (drop (length (tab m f)) l) m (length-tab m f) ∙ ap (λ (i : ℕ). drop i l) (length-tab m f)) ∙ sym (over-tab m g l)
@@ -124,3 +132,9 @@ pub length-over-map {ℓ} : {A B : Type ℓ} (f : A → B) (s : List A) (l : Lis
     → length (over (map f s) l) ≡ length l
 length-over-map f s l h =
     length-append (map f s) (drop (length (map f s)) l) ∙ rw (length-map s f, length-drop (length s) l) (omega arith)
+
+-- a list is the listing of its own values
+pub tab-list {ℓ} : {A : Type ℓ} (d : A) (l : List A) → tab (length l) (λ i. getD l i d) ≡ l
+tab-list d l =
+    ext-getD d (tab (length l) (λ i. getD l i d)) l (length-tab (length l) (λ i. getD l i d))
+    (λ i h. tab-at (length l) (λ i. getD l i d) d i (rw (length-tab (length l) (λ i. getD l i d)) at h))

@@ -80,3 +80,11 @@ first-after m j p h =
         go (no b) =
             let e : i ≡ m + (i - m) = omega arith in
             ap p e ∙ first-below j (λ i. p (m + i)) (i - m) (omega arith)
+
+-- the least place depends on the test's values up to it alone
+pub first-same : (m : ℕ) (p q : ℕ → Bool) → ((i : ℕ) → i < m → ((j : ℕ) → j < i → p j ≡ false) → p i ≡ q i) → first m p ≡ first m q
+first-same m p q h =
+    sym
+    (first-is m q (first m p) (first-le m p)
+    (λ j l. sym (h j (omega (arith, first-le m p)) (λ i b. first-below m p i (omega arith))) ∙ first-below m p j l)
+    (λ l. sym (h (first m p) l (first-below m p)) ∙ first-passes m p l))

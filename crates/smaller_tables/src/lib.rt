@@ -33,7 +33,8 @@ pub fn put_restored(sigma: &[u32], n: usize, table: &[u16], out: &mut [u16])
     }
 }
 
-// Basis, sigma, smaller table and both measures of a table that passed the checks. R is worked out once for every t.
+// Basis, sigma, smaller table and both measures of a table that passed the checks. R is worked out once for every t. No entry is 65,534,
+// which a table with at most 15 outputs never holds.
 pub fn linearize(
     table: &[u16],
     n: usize,
@@ -42,7 +43,7 @@ pub fn linearize(
     sigma: &mut [u32],
     smaller: &mut [u16],
 ) -> Measures
-    requires { ⌜ (length (now table) ≡ 2 ^ n) × (n ≤ 12) × (1 ≤ w) × (w ≤ n) × (n ≤ length (now basis)) × (n ≤ length (now sigma)) × (2 ^ n ≤ length (now smaller)) ⌝ }
+    requires { ⌜ (length (now table) ≡ 2 ^ n) × (n ≤ 12) × (1 ≤ w) × (w ≤ n) × (n ≤ length (now basis)) × (n ≤ length (now sigma)) × (2 ^ n ≤ length (now smaller)) × ((i : ℕ) → i < 2 ^ n → at (now table) i ≡ 65534 → ⊥) ⌝ }
     ensures { λ r. ⌜ Worked (ofTable (now (table .entry))) n w (now (basis .entry)) (now (sigma .entry)) (now (smaller .entry)) (now (basis .exit)) (now (sigma .exit)) (now (smaller .exit)) r ⌝ }
 {
     let mut values = [0u32; 4096];

@@ -1,5 +1,6 @@
 -- Laws of sums and counts over a range: one term more; equal terms; bounds; sums of sums; even and odd places; one place alone;
--- places that are only moved; what a count of 0, or another, says; the entries of a list; a square of terms. Assumes nothing.
+-- places that are only moved; what a count of 0, or another, says; the entries of a list; a square of terms; blocks of terms;
+-- terms in pairs. Assumes nothing.
 use mathlib.Core.Path.{_≡_, refl, sym, ap, ap₂, _∙_, subst}
 use mathlib.Core.Bool.{Bool, true, false, _&&_, cond}
 use Prim.Native.Nat.{ℕ, zero, suc, _+_, _*_, _^_, _≤_, _<_, _-_}
@@ -270,3 +271,65 @@ count-same p m h i j hi hj a b = go (decLt i j) (decLt j i)
     go (yes l) d = absurd (omega (arith, two i j l hj a b))
     go (no n) (yes l) = absurd (omega (arith, two j i l hi b a))
     go (no n) (no k) = omega arith
+
+-- k blocks of s terms
+pub sum-blocks : (f : ℕ → ℕ) (s k : ℕ) → sum f (k * s) ≡ sum (λ b. sum (λ i. f (b * s + i)) s) k
+sum-blocks f s zero = rw (zero-mul s, sum-zero) (sym (sum-zero (λ b. sum (λ i. f (b * s + i)) s)))
+sum-blocks f s (suc k) =
+    ap (sum f) whole ∙ sum-split f (k * s) s
+    ∙ ap (λ (x : ℕ). x + sum (λ i. f (k * s + i)) s) (sum-blocks f s k) ∙ sym (sum-suc (λ b. sum (λ i. f (b * s + i)) s) k)
+  where
+    whole : suc k * s ≡ k * s + s
+    whole = omega arith
+
+pub count-blocks : (p : ℕ → Bool) (s k : ℕ) → count p (k * s) ≡ sum (λ b. count (λ i. p (b * s + i)) s) k
+unfolding count
+count-blocks p s k = sum-blocks (λ x. one (p x)) s k
+
+-- a count over places that are only exchanged: p undoes itself below m
+pub count-moved : (q : ℕ → Bool) (p : ℕ → ℕ) (m : ℕ) → ((z : ℕ) → z < m → p z < m) → ((z : ℕ) → z < m → p (p z) ≡ z)
+    → count (λ z. q (p z)) m ≡ count q m
+unfolding count
+count-moved q p m hp pp = sum-moved (λ x. one (q x)) p p m hp hp pp pp
+
+-- terms that are equal at i and at p i, where p undoes itself: those at the smaller of the two, doubled where the two differ
+pub sum-paired : (f p : ℕ → ℕ) (m : ℕ) → ((i : ℕ) → i < m → p i < m) → ((i : ℕ) → i < m → p (p i) ≡ i)
+    → ((i : ℕ) → i < m → f (p i) ≡ f i) → sum f m ≡ sum (λ i. cond (leb i (p i)) (f i * cond (eqb i (p i)) 1 2) 0) m
+sum-paired f p m hp pp e =
+    sum-cong _ _ m (λ i h. whole i)
+    ∙ sum-add upper (λ i. lower i + middle i) m
+    ∙ ap (λ (x : ℕ). sum upper m + x)
+    (sum-add lower middle m ∙ ap (λ (x : ℕ). x + sum middle m) turned ∙ sym (sum-add upper middle m))
+    ∙ sym (sum-add upper (λ i. upper i + middle i) m)
+    ∙ sum-cong _ _ m (λ i h. sym (halved i))
+  where
+    upper : ℕ → ℕ
+    upper i = cond (ltb i (p i)) (f i) 0
+
+    lower : ℕ → ℕ
+    lower i = cond (ltb (p i) i) (f i) 0
+
+    middle : ℕ → ℕ
+    middle i = cond (eqb i (p i)) (f i) 0
+
+    whole : (i : ℕ) → f i ≡ upper i + (lower i + middle i)
+    whole i = go (decLt i (p i)) (ℕ-discrete i (p i))
+      where
+        go : Dec (i < p i) → Dec (i ≡ p i) → f i ≡ upper i + (lower i + middle i)
+        go (yes l) d = rw (lt-ltb i (p i) l, le-ltb (p i) i (omega arith), ne-eqb i (p i) (omega arith)) (omega arith)
+        go (no n) (yes e) = rw (le-ltb i (p i) (omega arith), le-ltb (p i) i (omega arith), eq-eqb i (p i) e) (omega arith)
+        go (no n) (no k) = rw (le-ltb i (p i) (omega arith), lt-ltb (p i) i (omega arith), ne-eqb i (p i) k) (omega arith)
+
+    halved : (i : ℕ) → cond (leb i (p i)) (f i * cond (eqb i (p i)) 1 2) 0 ≡ upper i + (upper i + middle i)
+    halved i = go (decLt i (p i)) (ℕ-discrete i (p i))
+      where
+        go : Dec (i < p i) → Dec (i ≡ p i) → cond (leb i (p i)) (f i * cond (eqb i (p i)) 1 2) 0 ≡ upper i + (upper i + middle i)
+        go (yes l) d = rw (lt-ltb i (p i) l, le-leb i (p i) (omega arith), ne-eqb i (p i) (omega arith)) (omega arith)
+        go (no n) (yes e) = rw (le-ltb i (p i) (omega arith), le-leb i (p i) (omega arith), eq-eqb i (p i) e) (omega arith)
+        go (no n) (no k) = rw (le-ltb i (p i) (omega arith), lt-leb i (p i) (omega arith), ne-eqb i (p i) k) (omega arith)
+
+    turned : sum lower m ≡ sum upper m
+    turned =
+        sum-cong lower (λ i. upper (p i)) m
+        (λ i h. sym (ap₂ (λ (x y : ℕ). cond (ltb (p i) x) y 0) (pp i h) (e i h)))
+        ∙ sum-moved upper p p m hp hp pp pp

@@ -11,6 +11,7 @@ use lib.ListN.{length, getD}
 use Rattle.slices.specs.Places.{over}
 use Rattle.block.specs.Refusals.{Check, check, answer, verdict, answered, carried, stored}
 use Rattle.block.specs.Tables.{withValue, withMeasures}
+use Rattle.block.specs.Lists.{withRows}
 use Rattle.block.specs.declared.Answer.{Answer}
 
 -- ---- one check
@@ -135,6 +136,15 @@ measures-refused v x y h = rw (ne-eqb (v .number) 0 h)
 pub measures-answered : (v : Answer) (x y : ℕ) → v .number ≡ 0
     → record { number = v .number; a = v .a; b = v .b; before = x; after = y } ≡ withMeasures v x y
 measures-answered v x y h = rw (eq-eqb (v .number) 0 h)
+
+-- likewise beside two measures and a number of rows
+pub rows-refused : (v : Answer) (x y c : ℕ) → (v .number ≡ 0 → ⊥)
+    → record { number = v .number; a = v .a; b = v .b; before = 0; after = 0; count = 0 } ≡ withRows v x y c
+rows-refused v x y c h = rw (ne-eqb (v .number) 0 h)
+
+pub rows-answered : (v : Answer) (x y c : ℕ) → v .number ≡ 0
+    → record { number = v .number; a = v .a; b = v .b; before = x; after = y; count = c } ≡ withRows v x y c
+rows-answered v x y c h = rw (eq-eqb (v .number) 0 h)
 
 -- lent storage, where the verdict v is that of 01: kept with a refusal, with the result at its front on 0
 pub kept {ℓ} : {A : Type ℓ} (v u : Answer) (s l : List A) → v ≡ u → (v .number ≡ 0 → ⊥) → l ≡ stored u s l

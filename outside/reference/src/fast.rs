@@ -8,6 +8,7 @@
 //! chosen numbers, kept in echelon form.
 
 use crate::list::{answer_method, check_fill, check_value, Found};
+use crate::matrix::highest;
 use crate::table::{check_method, check_restore};
 use crate::{
     matrix, sheet as texts, Answer, List, Measures, Refusal, Room, Row, Smaller, NO_OUTPUT,
@@ -28,7 +29,7 @@ impl Span {
     /// What is left of x after elimination: 0 exactly for numbers in the span.
     fn rest(&self, mut x: u32) -> u32 {
         while x != 0 {
-            let number = self.leading[x.ilog2() as usize];
+            let number = self.leading[highest(x)];
             if number == 0 {
                 break;
             }
@@ -40,7 +41,7 @@ impl Span {
     /// Puts in a number from outside the span.
     fn put(&mut self, x: u32) {
         let rest = self.rest(x);
-        self.leading[rest.ilog2() as usize] = rest;
+        self.leading[highest(rest)] = rest;
     }
 }
 
@@ -52,7 +53,7 @@ fn basis(n: usize, candidates: &[(u32, u64)]) -> Vec<(u32, u64)> {
     for _ in 0..n {
         let mut best: Option<(u32, u64)> = None;
         for &(t, r) in candidates {
-            if best.is_none_or(|(_, greatest)| r > greatest) && span.rest(t) != 0 {
+            if best.map_or(true, |(_, greatest)| r > greatest) && span.rest(t) != 0 {
                 best = Some((t, r));
             }
         }
@@ -149,7 +150,7 @@ pub fn table_method(
 
 /// How many pairs of points x, x XOR t have equal words; t is not 0.
 fn equal_pairs(words: &[u32], t: u32) -> u64 {
-    let half = 1 << t.ilog2();
+    let half = 1 << highest(t);
     let low = t as usize - half;
     let mut count = 0;
     for block in words.chunks_exact(2 * half) {
@@ -290,7 +291,7 @@ fn transformed(rows: &[Row], columns: &[u32]) -> Result<Vec<Row>, Refusal> {
     for position in 0..columns.len() {
         let bit = 1 << position;
         if reached[position] & bit == 0 {
-            let partner = reached[position].ilog2() as usize;
+            let partner = highest(reached[position]);
             let exchange = |x: &mut u32| {
                 let differ = (*x >> position ^ *x >> partner) & 1;
                 *x ^= differ << position | differ << partner;

@@ -136,7 +136,7 @@ pub fn rows(random: &mut Random, n: usize, k: usize, count: usize) -> Vec<Row> {
 /// Disjoint rows with hidden XORs: a list of at most `count` rows carried
 /// through steps of its own, as long as it stays within `count`.
 pub fn hidden_rows(random: &mut Random, n: usize, k: usize, count: usize) -> Vec<Row> {
-    let start = random.between(1, count.div_ceil(2));
+    let start = random.between(1, (count + 1) / 2);
     let mut rows = rows(random, n, k, start);
     let mut positions: Vec<usize> = (0..n).collect();
     random.shuffle(&mut positions);

@@ -171,7 +171,7 @@ impl Step {
         let partner = if number >> position & 1 == 1 {
             position
         } else {
-            number.ilog2() as usize
+            matrix::highest(number)
         };
         let exchanged = exchange(number, position, partner);
         Step {

@@ -1,6 +1,11 @@
 //! The basis and the matrix (01, The basis and the matrix). T is given by its
 //! columns, sigma by its rows, lowest index first.
 
+/// The position of the highest one-bit of a number that is not 0.
+pub(crate) fn highest(number: u32) -> usize {
+    31 - number.leading_zeros() as usize
+}
+
 /// The candidates before any is chosen: the numbers from 1 to 2^n - 1 with 1
 /// to w one-bits, smallest first.
 pub fn candidates(n: usize, w: usize) -> impl Iterator<Item = u32> {
@@ -19,7 +24,7 @@ pub fn basis(n: usize, candidates: &[(u32, u64)]) -> Vec<u32> {
     for _ in 0..n {
         let mut best: Option<(u32, u64)> = None;
         for &(t, r) in candidates {
-            if !is_sum[t as usize] && best.is_none_or(|(_, greatest)| r > greatest) {
+            if !is_sum[t as usize] && best.map_or(true, |(_, greatest)| r > greatest) {
                 best = Some((t, r));
             }
         }

@@ -32,8 +32,10 @@ abbrev μ-loop2 : tie.MeasureT-loop2
 abbrev Inv-loop : tie.InvT-loop
 Inv-loop n masks values words cube-masks₀ cube-values₀ cube-weights₀ p count₀ i₀ cube-masks cube-values cube-weights count i =
     (i ≤ p)
-    × (length cube-masks ≡ length cube-masks₀) × (length cube-values ≡ length cube-values₀) × (length cube-weights ≡ length cube-weights₀)
-    × CubesAt (cubesTo n (rowsOf masks values words) i i) cube-masks₀ cube-values₀ cube-weights₀ cube-masks cube-values cube-weights count
+    × (length cube-masks ≡ length cube-masks₀) × (length cube-values ≡ length cube-values₀)
+    × (length cube-weights ≡ length cube-weights₀)
+    × CubesAt (cubesTo n (rowsOf masks values words) i i)
+    cube-masks₀ cube-values₀ cube-weights₀ cube-masks cube-values cube-weights count
 
 abbrev μ-loop : tie.MeasureT-loop
 μ-loop n masks values words cube-masks₀ cube-values₀ cube-weights₀ p count₀ i₀ cube-masks cube-values cube-weights count i =
@@ -47,7 +49,8 @@ fits c =
     let l = s .pre .0 .1 in
     omega (
       arith,
-      cubes-fit (a .n) (now (a .masks)) (now (a .values)) (now (a .words)) (l .values-too) (l .words-too) (c .before .before .before .loop .i) (c .before .loop2 .j)
+      cubes-fit (a .n) (now (a .masks)) (now (a .values)) (now (a .words)) (l .values-too) (l .words-too)
+          (c .before .before .before .loop .i) (c .before .loop2 .j)
           (omega arith) (omega arith) (l .few),
     )
 
@@ -58,7 +61,8 @@ loop-holds c =
       search needs,
       search needs,
       search needs,
-      rw (cubes-none (a .n) (rowsOf (now (a .masks)) (now (a .values)) (now (a .words)))) (cubes-at-none (now (a .cube-masks)) (now (a .cube-values)) (now (a .cube-weights))),
+      rw (cubes-none (a .n) (rowsOf (now (a .masks)) (now (a .values)) (now (a .words))))
+          (cubes-at-none (now (a .cube-masks)) (now (a .cube-values)) (now (a .cube-weights))),
     )
 
 loop2-holds : tie.Need-loop2-holds Inv-loop2 μ-loop2 Inv-loop μ-loop
@@ -92,11 +96,15 @@ put-cube-requires c κs =
     let a = s .args in
     let l = s .pre .0 .1 in
     let small = fits (c .before .before .before .before .before .before .before) in
-    let below = mask-fixed (a .n) (now (a .masks)) (now (a .values)) (now (a .words)) (l .values-too) (l .words-too) (s .pre .1 .0) in
-    ((search needs, search needs, search needs, search needs), ((below _ (omega arith), below _ (omega arith)), (omega arith, omega arith, omega arith)))
+    let below = mask-fixed (a .n) (now (a .masks)) (now (a .values)) (now (a .words)) (l .values-too) (l .words-too)
+    (s .pre .1 .0) in (
+      (search needs, search needs, search needs, search needs),
+      ((below _ (omega arith), below _ (omega arith)), (omega arith, omega arith, omega arith)),
+    )
 
 add-count : tie.Need-add-count Inv-loop2 μ-loop2 Inv-loop μ-loop
-add-count c = omega (arith, fits (c .before .before .before .before .before .before .before .before .before .before .before .before .before .before))
+add-count c =
+    omega (arith, fits (c .before .before .before .before .before .before .before .before .before .before .before .before .before .before))
 
 add-j : tie.Need-add-j Inv-loop2 μ-loop2 Inv-loop μ-loop
 add-j c = search needs
@@ -112,8 +120,10 @@ loop2-again c =
     let i = c .before .before .before .before .before .before .before .loop .i in
     let o = c .before .before .before .before .before .loop2 in
     let small = fits (c .before .before .before .before) in
-    let put = cubes-put (a .n) (now (a .masks)) (now (a .values)) (now (a .words)) (l .values-too) (l .words-too) i (o .j) (omega arith) (omega arith) in
-    let pass = cubes-pass (a .n) (now (a .masks)) (now (a .values)) (now (a .words)) (l .values-too) (l .words-too) i (o .j) (omega arith) (omega arith) in (
+    let put = cubes-put (a .n) (now (a .masks)) (now (a .values)) (now (a .words)) (l .values-too) (l .words-too) i (o .j)
+    (omega arith) (omega arith) in
+    let pass = cubes-pass (a .n) (now (a .masks)) (now (a .values)) (now (a .words)) (l .values-too) (l .words-too) i (o .j)
+    (omega arith) (omega arith) in (
       search needs,
       search needs,
       search needs,
@@ -143,7 +153,8 @@ loop-again c =
     let l = s .pre .0 .1 in
     let i = c .before .before .before .loop .i in
     let o = c .before .before .before .loop in
-    let d = row-done (a .n) (now (a .masks)) (now (a .values)) (now (a .words)) (l .values-too) (l .words-too) i (c .before .loop2 .j) (omega arith) in (
+    let d = row-done (a .n) (now (a .masks)) (now (a .values)) (now (a .words)) (l .values-too) (l .words-too) i
+    (c .before .loop2 .j) (omega arith) in (
       search needs,
       omega arith,
       omega arith,
@@ -165,7 +176,8 @@ returns c =
     let s = c .before .before .before .before .before .before .before .before in
     let a = s .args in
     let l = s .pre .0 .1 in
-    let d = rows-done (a .n) (now (a .masks)) (now (a .values)) (now (a .words)) (l .values-too) (l .words-too) (c .before .loop .i) (omega arith) in
+    let d = rows-done (a .n) (now (a .masks)) (now (a .values)) (now (a .words)) (l .values-too) (l .words-too)
+    (c .before .loop .i) (omega arith) in
     rw d (c .before .loop .inv .4)
 
 pub put-cubes-spec : {M : Type 1} → statement M

@@ -46,7 +46,8 @@ add-sum c =
     let m = now (s .args .cube-masks) in
     let v = now (s .args .cube-values) in
     let w = now (s .args .cube-weights) in
-    omega (arith, added-step m v w (s .args .count) (s .args .t) q (omega arith), hit-taken m v w (s .args .t) q (c .before .if1 .taken))
+    let t = s .args .t in
+    omega (arith, added-step m v w (s .args .count) t q (omega arith), hit-taken m v w t q (c .before .if1 .taken))
 
 add-q : tie.Need-add-q Inv-loop μ-loop
 add-q c = search needs

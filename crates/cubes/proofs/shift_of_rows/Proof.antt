@@ -39,7 +39,8 @@ shift-by-cubes-requires c κs =
     let k = p .kept .1 .1 .1 .1 in
     let few = cubes-few (a .n) (now (a .masks)) (now (a .values)) (now (a .words)) _ _ _ _ _ _ _ (s .pre .0 .2) (p .ensures) in (
       (omega (arith, k .0), omega (arith, k .1 .0), omega (arith, k .1 .1 .0)),
-      cubes-small (a .n) (rowsOf (now (a .masks)) (now (a .values)) (now (a .words))) (s .pre .1) _ _ _ _ _ _ _ (p .ensures) (a .t) (s .pre .0 .1) (s .pre .0 .0),
+      cubes-small (a .n) (rowsOf (now (a .masks)) (now (a .values)) (now (a .words))) (s .pre .1) _ _ _ _ _ _ _ (p .ensures)
+          (a .t) (s .pre .0 .1) (s .pre .0 .0),
     )
 
 returns : tie.Need-returns
@@ -47,7 +48,8 @@ returns c =
     let s = c .before .before .before .before .before .before .before .before .before .before .before .before .before .before in
     let a = s .args in
     c .shift-by-cubes .ensures
-    ∙ cubes-shift (a .n) (rowsOf (now (a .masks)) (now (a .values)) (now (a .words))) (s .pre .1) _ _ _ _ _ _ _ (c .before .before .before .before .before .before .before .put-cubes .ensures) (a .t) (s .pre .0 .1)
+    ∙ cubes-shift (a .n) (rowsOf (now (a .masks)) (now (a .values)) (now (a .words))) (s .pre .1) _ _ _ _ _ _ _
+    (c .before .before .before .before .before .before .before .put-cubes .ensures) (a .t) (s .pre .0 .1)
 
 pub shift-of-rows-spec : {M : Type 1} → statement M
 shift-of-rows-spec =

@@ -53,7 +53,8 @@ loop-again : tie.Need-loop-again Inv-loop μ-loop
 loop-again c =
     let a = c .before .before .before .before .before .before .before .before .args in
     let f = limited (a .w) (addedBy (now (a .cube-masks)) (now (a .cube-values)) (now (a .cube-weights)) (a .count)) in
-    (search needs, search needs, search needs, over-more _ f _ _ _ (c .before .before .loop .inv .3) (c .limited-shift .ensures) (omega arith))
+    let i = c .before .before .loop .inv .3 in
+    (search needs, search needs, search needs, over-more _ f _ _ _ i (c .limited-shift .ensures) (omega arith))
 
 same-length : tie.Need-same-length Inv-loop μ-loop
 same-length c = search needs

@@ -44,7 +44,8 @@ shifts-by-cubes-requires c κs =
       (omega (arith, k .0), omega (arith, k .1 .0), omega (arith, k .1 .1 .0)),
       (
         (s .pre .0 .0, s .pre .0 .1, s .pre .0 .2),
-        λ t h. cubes-small (a .n) (rowsOf (now (a .masks)) (now (a .values)) (now (a .words))) (s .pre .1) _ _ _ _ _ _ _ (p .ensures) t h (s .pre .0 .0),
+        λ t h. cubes-small (a .n) (rowsOf (now (a .masks)) (now (a .values)) (now (a .words))) (s .pre .1) _ _ _ _ _ _ _
+            (p .ensures) t h (s .pre .0 .0),
       ),
     )
 
@@ -57,7 +58,8 @@ returns c =
     let a = s .args in
     c .before .before .shifts-by-cubes .ensures
     ∙ ap (λ (l : List ℕ). over l (now (a .out)))
-    (cubes-shifts (a .n) (rowsOf (now (a .masks)) (now (a .values)) (now (a .words))) (s .pre .1) _ _ _ _ _ _ _ (c .before .before .before .before .before .before .before .before .before .before .put-cubes .ensures) (a .w))
+    (cubes-shifts (a .n) (rowsOf (now (a .masks)) (now (a .values)) (now (a .words))) (s .pre .1) _ _ _ _ _ _ _
+    (c .before .before .before .before .before .before .before .before .before .before .put-cubes .ensures) (a .w))
 
 pub shifts-of-rows-spec : {M : Type 1} → statement M
 shifts-of-rows-spec =

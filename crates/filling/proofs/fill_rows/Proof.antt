@@ -1,5 +1,5 @@
--- `filling::fill_rows` meets its contract. The loop's invariant: the first x entries hold their words, and the rest what they held. The
--- measure is what is left. Assumes nothing.
+-- `filling::fill_rows` meets its contract. The loop's invariant: the first x entries hold their words, and the rest what they
+-- held. The measure is what is left. Assumes nothing.
 use mathlib.Core.Path.{_≡_}
 use Prim.Native.Nat.{_≤_, _-_, _^_}
 use native.Mathlib.Omega.{arith}
@@ -53,7 +53,8 @@ loop-again : tie.Need-loop-again Inv-loop μ-loop
 loop-again c =
     let a = c .before .before .before .before .before .before .before .before .args in
     let f = ofRows (rowsOf (now (a .masks)) (now (a .values)) (now (a .words))) in
-    (search needs, search needs, search needs, over-more _ f _ _ _ (c .before .before .loop .inv .3) (c .word-over .ensures) (omega arith))
+    let i = c .before .before .loop .inv .3 in
+    (search needs, search needs, search needs, over-more _ f _ _ _ i (c .word-over .ensures) (omega arith))
 
 same-length : tie.Need-same-length Inv-loop μ-loop
 same-length c = search needs

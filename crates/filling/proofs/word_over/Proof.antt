@@ -1,5 +1,5 @@
--- `filling::word_over` meets its contract. The loop's invariant: no row before i lies over x. The measure is the number of rows left.
--- Assumes nothing.
+-- `filling::word_over` meets its contract. The loop's invariant: no row before i lies over x. The measure is the number of rows
+-- left. Assumes nothing.
 use Prim.Native.Nat.{_≤_, _-_}
 use native.Mathlib.Omega.{arith}
 use borrow.Author.Count.{below-more}
@@ -49,7 +49,9 @@ returns : tie.Need-returns Inv-loop μ-loop
 returns c =
     let s = c .before .before .before .before .before .before in
     let a = s .args in
-    word-found 512 (now (a .masks)) (now (a .values)) (now (a .words)) (s .pre .0) (a .x) (c .before .before .before .before .before .loop .i) (omega arith) (c .before .before .before .before .before .loop .inv .1) (c .before .if1 .taken)
+    word-found 512 (now (a .masks)) (now (a .values)) (now (a .words)) (s .pre .0) (a .x)
+    (c .before .before .before .before .before .loop .i) (omega arith) (c .before .before .before .before .before .loop .inv .1)
+    (c .before .if1 .taken)
 
 add-i : tie.Need-add-i Inv-loop μ-loop
 add-i c = search needs
@@ -64,7 +66,8 @@ returns-2 : tie.Need-returns-2 Inv-loop μ-loop
 returns-2 c =
     let s = c .before .before in
     let a = s .args in
-    word-missing 512 (now (a .masks)) (now (a .values)) (now (a .words)) (s .pre .0) (a .x) (c .before .loop .i) (omega arith) (c .before .loop .inv .1)
+    word-missing 512 (now (a .masks)) (now (a .values)) (now (a .words)) (s .pre .0) (a .x) (c .before .loop .i) (omega arith)
+    (c .before .loop .inv .1)
 
 pub word-over-spec : {M : Type 1} → statement M
 word-over-spec =

@@ -1,4 +1,5 @@
--- `lists::row_value` meets its contract. On 0 every check passed, so that the rows are disjoint, and the value is R. Assumes nothing.
+-- `lists::row_value` meets its contract. On 0 every check passed, so that the rows are disjoint, and the value is R. Assumes
+-- nothing.
 use native.Mathlib.Omega.{arith}
 use borrow.Author.Tests.{eq-eqb, ne-eqb}
 use denote.Ref.{now}
@@ -19,13 +20,15 @@ returns c = rw (← (c .before .before .row-value-verdict .ensures), ne-eqb _ _ 
 cast-shift-of-rows : tie.Need-cast-shift-of-rows
 cast-shift-of-rows c =
     let a = c .before .before .before .before .before .before .args in
-    let w = value-checked (a .n) (a .k) (a .t) (now (a .masks)) (now (a .values)) (now (a .words)) _ (c .before .before .row-value-verdict .ensures) (c .if1 .left) in
+    let w = value-checked (a .n) (a .k) (a .t) (now (a .masks)) (now (a .values)) (now (a .words)) _
+    (c .before .before .row-value-verdict .ensures) (c .if1 .left) in
     omega (arith, w .1, pow-mono (w .0 .size .1))
 
 shift-of-rows-requires : tie.Need-shift-of-rows-requires
 shift-of-rows-requires c κs =
     let a = c .before .before .before .before .before .before .args in
-    let w = value-checked (a .n) (a .k) (a .t) (now (a .masks)) (now (a .values)) (now (a .words)) _ (c .before .before .row-value-verdict .ensures) (c .if1 .left) in
+    let w = value-checked (a .n) (a .k) (a .t) (now (a .masks)) (now (a .values)) (now (a .words)) _
+    (c .before .before .row-value-verdict .ensures) (c .if1 .left) in
     ((w .0 .size .1, w .1, w .0 .listed), w .0 .disjoint)
 
 cast-t11 : tie.Need-cast-t11

@@ -1,5 +1,6 @@
--- `row_checks::first_pair` meets its contract. The outer loop's invariant: no row below i shares a point with a later one; the inner
--- loop's: row i shares none with the rows behind it and below j. The measures are the numbers of rows left. Assumes nothing.
+-- `row_checks::first_pair` meets its contract. The outer loop's invariant: no row below i shares a point with a later one; the
+-- inner loop's: row i shares none with the rows behind it and below j. The measures are the numbers of rows left. Assumes
+-- nothing.
 use Prim.Native.Nat.{_≤_, _<_, _-_}
 use mathlib.Core.Path.{_≡_, sym, _∙_, refl}
 use native.Mathlib.Omega.{arith}
@@ -95,7 +96,8 @@ returns c = λ n words f sound.
     let a = c .before .before .before .before .args in
     let o = c .before .search in
     let e : o .i ≡ length (now (a .masks)) = omega arith in
-    o .inv .2 ∙ pair-none n (now (a .masks)) (now (a .values)) words (c .before .before .before .before .pre) f sound (rw e at (o .inv .3))
+    o .inv .2 ∙ pair-none n (now (a .masks)) (now (a .values)) words (c .before .before .before .before .pre) f sound
+    (rw e at (o .inv .3))
 
 returns-2 : tie.Need-returns-2 Inv-loop μ-loop Inv-search μ-search
 returns-2 c = λ n words f sound.
@@ -103,7 +105,8 @@ returns-2 c = λ n words f sound.
     let a = s .args in
     let l = c .before .before .before .before .before .before .before .loop in
     let o = c .before .before .before .before .before .before .before .before .before .search in
-    pair-at n (now (a .masks)) (now (a .values)) words (s .pre) f sound (o .i) (l .j) (omega arith) (omega arith) (o .inv .3) (l .inv .4)
+    pair-at n (now (a .masks)) (now (a .values)) words (s .pre) f sound (o .i) (l .j) (omega arith) (omega arith) (o .inv .3)
+    (l .inv .4)
     (eqb-true _ _ (sym (c .before .meet .ensures) ∙ c .if1 .taken))
 
 pub first-pair-spec : {M : Type 1} → statement M

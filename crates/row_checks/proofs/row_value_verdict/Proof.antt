@@ -4,8 +4,8 @@ use mathlib.Core.Bool.{not}
 use mathlib.Core.List.{[], _∷_}
 use Prim.Native.Nat.{ℕ}
 use native.Mathlib.Omega.{arith}
-use lib.Dec.{ltb}
 use denote.Ref.{now}
+use lib.Dec.{ltb}
 use Rattle.block.specs.Refusals.{check, verdict}
 use Rattle.block.specs.Lists.{rowValueVerdict}
 use Rattle.checks.specs.Sizes.{sized}
@@ -21,8 +21,7 @@ sizes-requires c κs = search needs
 
 returns : tie.Need-returns
 unfolding rowValueVerdict
-returns c =
-    part-refuses _ _ _ (c .before .before .sizes .ensures) (c .if1 .taken)
+returns c = part-refuses _ _ _ (c .before .before .sizes .ensures) (c .if1 .taken)
 
 size-requires : tie.Need-size-requires
 size-requires c κs =
@@ -36,8 +35,13 @@ refuse-where-requires c κs = search needs
 returns-2 : tie.Need-returns-2
 unfolding rowValueVerdict
 returns-2 c =
-    part-refuses _ _ _ (c .before .before .refuse-where .ensures ∙ ap (λ (p : ℕ). verdict (check (not (ltb (c .before .before .before .before .before .before .before .before .before .before .args .t) p)) 3 0 0 ∷ [])) (c .before .before .before .size .ensures)) (c .if2 .taken)
-    ∙ part-passes _ _ _ (c .before .before .before .before .before .before .sizes .ensures) (refl, (refl, tt)) (c .before .before .before .before .if1 .left)
+    let size = c .before .before .before .before in
+    let a = size .before .before .before .before .before .before .args in
+    let e =
+    c .before .before .refuse-where .ensures
+    ∙ ap (λ (p : ℕ). verdict (check (not (ltb (a .t) p)) 3 0 0 ∷ [])) (c .before .before .before .size .ensures) in
+    part-refuses _ _ _ e (c .if2 .taken)
+    ∙ part-passes _ _ _ (size .before .before .sizes .ensures) (refl, (refl, tt)) (size .if1 .left)
 
 count-verdict-requires : tie.Need-count-verdict-requires
 count-verdict-requires c κs = search needs
@@ -45,24 +49,40 @@ count-verdict-requires c κs = search needs
 returns-3 : tie.Need-returns-3
 unfolding rowValueVerdict
 returns-3 c =
+    let point = c .before .before .before in
+    let size = point .before .before .before .before in
+    let a = size .before .before .before .before .before .before .args in
+    let e =
+    point .before .before .refuse-where .ensures
+    ∙ ap (λ (p : ℕ). verdict (check (not (ltb (a .t) p)) 3 0 0 ∷ [])) (point .before .before .before .size .ensures) in
     part-refuses _ _ _ (c .before .before .count-verdict .ensures) (c .if3 .taken)
-    ∙ part-passes _ _ _ (c .before .before .before .before .before .refuse-where .ensures ∙ ap (λ (p : ℕ). verdict (check (not (ltb (c .before .before .before .before .before .before .before .before .before .before .before .before .before .args .t) p)) 3 0 0 ∷ [])) (c .before .before .before .before .before .before .size .ensures)) (refl, tt) (c .before .before .before .if2 .left)
-    ∙ part-passes _ _ _ (c .before .before .before .before .before .before .before .before .before .sizes .ensures) (refl, (refl, tt)) (c .before .before .before .before .before .before .before .if1 .left)
+    ∙ part-passes _ _ _ e (refl, tt) (point .if2 .left)
+    ∙ part-passes _ _ _ (size .before .before .sizes .ensures) (refl, (refl, tt)) (size .if1 .left)
 
 rows-verdict-requires : tie.Need-rows-verdict-requires
 rows-verdict-requires c κs =
-    let s = c .before .before .before .before .before .before .before .before .before .before .before .before .before in
-    let w = sized 16 (s .args .n) (s .args .k) _ (c .before .before .before .before .before .before .before .before .before .sizes .ensures) (c .before .before .before .before .before .before .before .if1 .left) in
-    let l = listed 128 (now (s .args .masks)) (now (s .args .values)) (now (s .args .words)) _ (c .before .before .count-verdict .ensures) (c .if3 .left) in
+    let size = c .before .before .before .before .before .before .before in
+    let s = size .before .before .before .before .before .before in
+    let w = sized 16 (s .args .n) (s .args .k) _ (size .before .before .sizes .ensures) (size .if1 .left) in
+    let l =
+    listed 128 (now (s .args .masks)) (now (s .args .values)) (now (s .args .words)) _ (c .before .before .count-verdict .ensures)
+    (c .if3 .left) in
     ((omega arith, w .1 .1), listed-more 128 512 _ _ _ (omega arith) l)
 
 returns-4 : tie.Need-returns-4
 unfolding rowValueVerdict
 returns-4 c =
+    let count = c .before in
+    let point = count .before .before .before in
+    let size = point .before .before .before .before in
+    let a = size .before .before .before .before .before .before .args in
+    let e =
+    point .before .before .refuse-where .ensures
+    ∙ ap (λ (p : ℕ). verdict (check (not (ltb (a .t) p)) 3 0 0 ∷ [])) (point .before .before .before .size .ensures) in
     c .rows-verdict .ensures
-    ∙ part-passes _ _ _ (c .before .before .before .count-verdict .ensures) (refl, tt) (c .before .if3 .left)
-    ∙ part-passes _ _ _ (c .before .before .before .before .before .before .refuse-where .ensures ∙ ap (λ (p : ℕ). verdict (check (not (ltb (c .before .before .before .before .before .before .before .before .before .before .before .before .before .before .args .t) p)) 3 0 0 ∷ [])) (c .before .before .before .before .before .before .before .size .ensures)) (refl, tt) (c .before .before .before .before .if2 .left)
-    ∙ part-passes _ _ _ (c .before .before .before .before .before .before .before .before .before .before .sizes .ensures) (refl, (refl, tt)) (c .before .before .before .before .before .before .before .before .if1 .left)
+    ∙ part-passes _ _ _ (count .before .before .count-verdict .ensures) (refl, tt) (count .if3 .left)
+    ∙ part-passes _ _ _ e (refl, tt) (point .if2 .left)
+    ∙ part-passes _ _ _ (size .before .before .sizes .ensures) (refl, (refl, tt)) (size .if1 .left)
 
 pub row-value-verdict-spec : {M : Type 1} → statement M
 row-value-verdict-spec =

@@ -26,7 +26,8 @@ returns c =
     let l = s .pre .1 in
     let rs = rowsOf (now (s .args .masks)) (now (s .args .values)) (now (s .args .words)) in
     let p = rows-count (now (s .args .masks)) (now (s .args .values)) (now (s .args .words)) (l .values-too) (l .words-too) in
-    c .refuse .ensures ∙ bad-refuses (s .args .n) (s .args .k) rs _ (c .before .before .first-bad-row .ensures) (omega (arith, c .before .if1 .taken))
+    c .refuse .ensures ∙ bad-refuses (s .args .n) (s .args .k) rs _ (c .before .before .first-bad-row .ensures)
+    (omega (arith, c .before .if1 .taken))
 
 first-pair-requires : tie.Need-first-pair-requires
 first-pair-requires c κs = search needs
@@ -45,7 +46,8 @@ returns-2 c =
     let past : length rs ≤ c .before .before .before .first-bad-row .result = omega (arith, c .before .before .if1 .left) in
     let good = bad-none n (s .args .k) rs _ first past in
     c .refuse-pair .ensures
-    ∙ ap pairAnswer (c .before .first-pair .ensures n (now (s .args .words)) (l .words-too) (λ i h. good-sound n (s .args .k) _ (good i h)))
+    ∙ ap pairAnswer (c .before .first-pair .ensures n (now (s .args .words)) (l .words-too)
+    (λ i h. good-sound n (s .args .k) _ (good i h)))
     ∙ pair-check n rs ∙ bad-passes n (s .args .k) rs _ first past
 
 pub rows-verdict-spec : {M : Type 1} → statement M

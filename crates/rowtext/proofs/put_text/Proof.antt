@@ -1,7 +1,5 @@
 -- `rowtext::put_text` meets its contract: the headings, the rows and the last line, one after the other, are the text, and they fit by the
 -- laws on their lengths. Assumes nothing.
-use Prim.Native.Nat.{_*_, _+_, _≤_}
-use mathlib.Core.Path.{_≡_, sym}
 use native.Mathlib.Omega.{arith}
 use borrow.Author.Needs.{needs}
 use denote.Ref.{now}

@@ -1,107 +1,100 @@
--- `rowtext::write_checks` meets its contract: each return is the case of `writeVerdict` that the tests on the way lead to. Where rows are
--- looked at, n, k and their number are in range, and the slices have one length. Assumes nothing.
-use Prim.Native.Nat.{_≤_, _<_}
-use mathlib.Core.Path.{sym, _∙_}
+-- `rowtext::write_checks` meets its contract: its checks in their order, the sizes in one part. Where rows are looked at, n, k and
+-- their number are in range, and the slices have one length. Assumes nothing.
+use mathlib.Core.Path.{refl, sym, ap, _∙_}
 use native.Mathlib.Omega.{arith}
 use borrow.Author.Tests.{lt-ltb, le-ltb}
-use borrow.Author.Needs.{needs}
 use denote.Ref.{now}
-use lib.ListN.{length}
-use Rattle.block.specs.Refusals.{verdict}
-use Rattle.rowtext.specs.Checks.{last-check}
-use Rattle.listing.specs.Listing.{rows-count, equal-lengths}
-use Rattle.checks.specs.Sizes.{inside}
-use Rattle.block.specs.Text.{writeVerdict}
+use Rattle.block.specs.Refusals.{outside}
 use Rattle.block.specs.Words.{rowsOf}
+use Rattle.block.specs.Text.{writeVerdict}
+use Rattle.verdicts.specs.Verdicts.{verdict-hit, verdict-miss, part-refuses, part-passes}
+use Rattle.checks.specs.Sizes.{inside, sized}
+use Rattle.rowtext.specs.Checks.{bad-check}
+use Rattle.listing.specs.Listing.{rows-count, equal-lengths}
+use borrow.Author.Needs.{needs}
 use Rattle.rowtext.proofs.write_checks.Statement.{statement}
 use Rattle.rowtext.proofs.write_checks.Tie as tie
 
-is-outside-requires : tie.Need-is-outside-requires
-is-outside-requires c κs = search needs
-
-answer-of-requires : tie.Need-answer-of-requires
-answer-of-requires c κs = search needs
+sizes-requires : tie.Need-sizes-requires
+sizes-requires c κs = search needs
 
 returns : tie.Need-returns
-unfolding writeVerdict verdict
-returns c = rw (sym (c .before .before .is-outside .ensures) ∙ c .before .if1 .taken) (c .answer-of .ensures)
-
-is-outside-requires-2 : tie.Need-is-outside-requires-2
-is-outside-requires-2 c κs = search needs
-
-answer-of-requires-2 : tie.Need-answer-of-requires-2
-answer-of-requires-2 c κs = search needs
-
-returns-2 : tie.Need-returns-2
-unfolding writeVerdict verdict
-returns-2 c = rw (sym (c .before .before .before .before .is-outside .ensures) ∙ c .before .before .before .if1 .left, sym (c .before .before .is-outside2 .ensures) ∙ c .before .if2 .taken) (c .answer-of2 .ensures)
+unfolding writeVerdict
+returns c = part-refuses _ _ _ (c .before .before .sizes .ensures) (c .if1 .taken)
 
 row-count-requires : tie.Need-row-count-requires
 row-count-requires c κs = search needs
 
-is-outside-requires-3 : tie.Need-is-outside-requires-3
-is-outside-requires-3 c κs = search needs
+is-outside-requires : tie.Need-is-outside-requires
+is-outside-requires c κs = search needs
 
-answer-of-requires-3 : tie.Need-answer-of-requires-3
-answer-of-requires-3 c κs = search needs
+refuse-requires : tie.Need-refuse-requires
+refuse-requires c κs = search needs
+
+returns-2 : tie.Need-returns-2
+unfolding writeVerdict
+returns-2 c =
+    let o = c .before .before in
+    let size = o .before .before in
+    let out = ap (outside 1 128) (sym (o .before .row-count .ensures)) ∙ sym (o .is-outside .ensures) ∙ c .before .if2 .taken in
+    c .refuse .ensures ∙ sym (verdict-hit _ _ out)
+    ∙ part-passes _ _ _ (size .before .before .sizes .ensures) (refl, (refl, tt)) (size .if1 .left)
+
+refuse-requires-2 : tie.Need-refuse-requires-2
+refuse-requires-2 c κs = search needs
 
 returns-3 : tie.Need-returns-3
-unfolding writeVerdict verdict
-returns-3 c = rw (sym (c .before .before .before .before .before .before .before .is-outside .ensures) ∙ c .before .before .before .before .before .before .if1 .left, sym (c .before .before .before .before .before .is-outside2 .ensures) ∙ c .before .before .before .before .if2 .left, sym (c .before .before .before .row-count .ensures), sym (c .before .before .is-outside3 .ensures) ∙ c .before .if3 .taken) (c .answer-of3 .ensures)
-
-answer-of-requires-4 : tie.Need-answer-of-requires-4
-answer-of-requires-4 c κs = search needs
-
-returns-4 : tie.Need-returns-4
-unfolding writeVerdict verdict
-returns-4 c = rw (sym (c .before .before .before .before .before .before .before .before .is-outside .ensures) ∙ c .before .before .before .before .before .before .before .if1 .left, sym (c .before .before .before .before .before .before .is-outside2 .ensures) ∙ c .before .before .before .before .before .if2 .left, sym (c .before .before .before .before .row-count .ensures), sym (c .before .before .before .is-outside3 .ensures) ∙ c .before .before .if3 .left, lt-ltb _ _ (c .before .if4 .taken)) (c .answer-of4 .ensures)
+unfolding writeVerdict
+returns-3 c =
+    let count = c .before .before in
+    let o = count .before in
+    let size = o .before .before in
+    let out = ap (outside 1 128) (sym (o .before .row-count .ensures)) ∙ sym (o .is-outside .ensures) ∙ count .if2 .left in
+    c .refuse2 .ensures ∙ sym (verdict-miss _ _ out ∙ verdict-hit _ _ (lt-ltb _ _ (c .before .if3 .taken)))
+    ∙ part-passes _ _ _ (size .before .before .sizes .ensures) (refl, (refl, tt)) (size .if1 .left)
 
 first-bad-row-requires : tie.Need-first-bad-row-requires
 first-bad-row-requires c κs =
-    let a = c .before .before .before .before .before .before .before .before .before .before .before .args in
-    let n : (1 ≤ a .n) × (a .n ≤ 16) = inside 1 16 (a .n) (sym (c .before .before .before .before .before .before .before .is-outside .ensures) ∙ c .before .before .before .before .before .before .if1 .left) in
-    let k : (1 ≤ a .k) × (a .k ≤ 15) = inside 1 15 (a .k) (sym (c .before .before .before .before .before .is-outside2 .ensures) ∙ c .before .before .before .before .if2 .left) in
-    let p = inside 1 128 (c .before .before .before .row-count .result) (sym (c .before .before .is-outside3 .ensures) ∙ c .before .if3 .left) in
-    let e = equal-lengths (now (a .masks)) (now (a .values)) (now (a .words)) (omega (arith, c .before .before .before .row-count .ensures)) in
+    let o = c .before .before in
+    let size = o .before .before in
+    let s = size .before .before .before .before .before .before in
+    let a = s .args in
+    let w = sized 16 (a .n) (a .k) _ (size .before .before .sizes .ensures) (size .if1 .left) in
+    let p = inside 1 128 (o .before .row-count .result) (sym (o .is-outside .ensures) ∙ c .before .if2 .left) in
+    let e = equal-lengths (now (a .masks)) (now (a .values)) (now (a .words)) (omega (arith, o .before .row-count .ensures)) in
     let l = rows-count (now (a .masks)) (now (a .values)) (now (a .words)) (e .0) (e .1) in
-    ((omega arith, omega arith, omega (arith, c .before .before .before .row-count .ensures)), e)
+    ((w .0 .1, w .1 .1, omega (arith, o .before .row-count .ensures)), e)
 
-answer-of-requires-5 : tie.Need-answer-of-requires-5
-answer-of-requires-5 c κs = search needs
+refuse-where-requires : tie.Need-refuse-where-requires
+refuse-where-requires c κs = search needs
 
-returns-5 : tie.Need-returns-5
-returns-5 c =
-    let a = c .before .before .before .before .before .before .before .before .before .before .before .before .before .before .args in
-    rw (last-check (a .n) (a .k) (rowsOf (now (a .masks)) (now (a .values)) (now (a .words))) (a .room) (c .before .before .before .before .before .before .row-count .result) (c .before .before .first-bad-row .result) (sym (c .before .before .before .before .before .before .before .before .before .before .is-outside .ensures) ∙ c .before .before .before .before .before .before .before .before .before .if1 .left) (sym (c .before .before .before .before .before .before .before .before .is-outside2 .ensures) ∙ c .before .before .before .before .before .before .before .if2 .left) (sym (c .before .before .before .before .before .is-outside3 .ensures) ∙ c .before .before .before .before .if3 .left) (c .before .before .before .if4 .left) (c .before .before .before .before .before .before .row-count .ensures) (c .before .before .first-bad-row .ensures), lt-ltb _ _ (c .before .if5 .taken))
-    (c .answer-of5 .ensures)
-
-answer-of-requires-6 : tie.Need-answer-of-requires-6
-answer-of-requires-6 c κs = search needs
-
-returns-6 : tie.Need-returns-6
-returns-6 c =
-    let a = c .before .before .before .before .before .before .before .before .before .before .before .before .before .before .args in
-    rw (last-check (a .n) (a .k) (rowsOf (now (a .masks)) (now (a .values)) (now (a .words))) (a .room) (c .before .before .before .before .before .before .row-count .result) (c .before .before .first-bad-row .result) (sym (c .before .before .before .before .before .before .before .before .before .before .is-outside .ensures) ∙ c .before .before .before .before .before .before .before .before .before .if1 .left) (sym (c .before .before .before .before .before .before .before .before .is-outside2 .ensures) ∙ c .before .before .before .before .before .before .before .if2 .left) (sym (c .before .before .before .before .before .is-outside3 .ensures) ∙ c .before .before .before .before .if3 .left) (c .before .before .before .if4 .left) (c .before .before .before .before .before .before .row-count .ensures) (c .before .before .first-bad-row .ensures), le-ltb _ _ (c .before .if5 .left))
-    (c .answer-of6 .ensures)
+returns-4 : tie.Need-returns-4
+unfolding writeVerdict
+returns-4 c =
+    let room = c .before .before in
+    let count = room .before in
+    let o = count .before in
+    let size = o .before .before in
+    let a = size .before .before .before .before .before .before .args in
+    let p = o .before .row-count .ensures in
+    let out = ap (outside 1 128) (sym p) ∙ sym (o .is-outside .ensures) ∙ count .if2 .left in
+    c .refuse-where .ensures
+    ∙ bad-check (a .n) (a .k) (rowsOf (now (a .masks)) (now (a .values)) (now (a .words))) _ _ p (c .before .first-bad-row .ensures)
+    ∙ sym (verdict-miss _ _ out ∙ verdict-miss _ _ (le-ltb _ _ (room .if3 .left)))
+    ∙ part-passes _ _ _ (size .before .before .sizes .ensures) (refl, (refl, tt)) (size .if1 .left)
 
 pub write-checks-spec : {M : Type 1} → statement M
 write-checks-spec =
     tie.close
     (tie.spec
-    is-outside-requires
-    answer-of-requires
+    sizes-requires
     returns
-    is-outside-requires-2
-    answer-of-requires-2
-    returns-2
     row-count-requires
-    is-outside-requires-3
-    answer-of-requires-3
+    is-outside-requires
+    refuse-requires
+    returns-2
+    refuse-requires-2
     returns-3
-    answer-of-requires-4
-    returns-4
     first-bad-row-requires
-    answer-of-requires-5
-    returns-5
-    answer-of-requires-6
-    returns-6)
+    refuse-where-requires
+    returns-4)

@@ -19,7 +19,7 @@ slice-aggregate-shifts-of c = search needs
 shifts-of-requires : tie.Need-shifts-of-requires
 shifts-of-requires c κs =
     let s = c .before .before .before .before .before in
-    (s .pre .0, s .pre .1, pow-mono (s .pre .1))
+    (s .pre .0, s .pre .1, pow-mono (s .pre .1), s .pre .7)
 
 slice-aggregate-choose-basis : tie.Need-slice-aggregate-choose-basis
 slice-aggregate-choose-basis c = search needs

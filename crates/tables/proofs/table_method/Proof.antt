@@ -1,14 +1,18 @@
 -- `tables::table_method` meets its contract: the verdict, and on 0 the work. Assumes nothing.
 use mathlib.Core.Path.{_≡_, sym, ap, ap₂, _∙_}
 use Prim.Native.Nat.{ℕ}
+use native.Mathlib.Omega.{arith}
 use lib.ListN.{length}
 use denote.Ref.{now}
+use Rattle.block.specs.Limits.{outputs}
 use Rattle.block.specs.Words.{ofTable}
 use Rattle.block.specs.Measure.{measure}
 use Rattle.block.specs.Basis.{basisOf, sigmaOf, smallerOf}
 use Rattle.block.specs.Tables.{tableMethod, withMeasures, smallerTable}
 use Rattle.block.specs.declared.Answer.{Answer}
-use Rattle.table_checks.specs.Passed.{method-passed}
+use Rattle.checks.specs.Sizes.{inside}
+use Rattle.shifts.specs.Blocks.{good-unmarked}
+use Rattle.table_checks.specs.Passed.{method-passed, method-sizes, method-entries}
 use Rattle.verdicts.specs.Verdicts.{measures-refused, measures-answered, kept, given}
 use borrow.Author.Needs.{needs}
 use Rattle.tables.proofs.table_method.Statement.{statement}
@@ -39,8 +43,20 @@ returns c =
 linearize-requires : tie.Need-linearize-requires
 linearize-requires c κs =
     let a = c .before .before .before .before .before .before .before .before .before .before .args in
-    let p = method-passed (a .n) (a .k) (a .w) (now (a .table)) (length (now (a .basis))) (length (now (a .sigma))) (length (now (a .smaller))) _ (c .before .before .before .before .before .table-method-verdict .ensures) (c .before .before .before .if1 .left) in
-    (p .entries, p .inputs, p .least, p .most, p .columns, p .rows, p .smaller)
+    let e = c .before .before .before .before .before .table-method-verdict .ensures in
+    let l = c .before .before .before .if1 .left in
+    let p = method-passed (a .n) (a .k) (a .w) (now (a .table)) (length (now (a .basis))) (length (now (a .sigma))) (length (now (a .smaller))) _ e l in
+    let sizes = method-sizes (a .n) (a .k) (a .w) (now (a .table)) (length (now (a .basis))) (length (now (a .sigma))) (length (now (a .smaller))) _ e l in
+    let good = method-entries (a .n) (a .k) (a .w) (now (a .table)) (length (now (a .basis))) (length (now (a .sigma))) (length (now (a .smaller))) _ e l in (
+      p .entries,
+      p .inputs,
+      p .least,
+      p .most,
+      p .columns,
+      p .rows,
+      p .smaller,
+      λ i h. good-unmarked (a .k) _ (inside 1 outputs (a .k) (sizes .1) .1) (good i (omega (arith, p .entries))),
+    )
 
 same-length : tie.Need-same-length
 same-length c = search needs

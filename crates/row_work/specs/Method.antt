@@ -1,0 +1,111 @@
+-- The row method for any arguments: what comes back and what is left, in the verdict's own terms. `short` says that the lent room is too
+-- short; the row method and the sheet differ only in that. Assumes nothing.
+use mathlib.Core.Path.{_≡_, refl, sym, ap, _∙_}
+use mathlib.Core.Bool.{Bool, true, false, cond}
+use mathlib.Core.List.{List, [], _∷_, _++_, map}
+use Prim.Native.Nat.{ℕ, suc, _≤_, _<_}
+use native.Mathlib.Decide.{decLt}
+use native.Mathlib.Omega.{arith}
+use borrow.Author.Tests.{lt-ltb, le-ltb}
+use lib.Dec.{ltb}
+use lib.ListN.{length}
+use Rattle.block.specs.Words.{ofRows}
+use Rattle.block.specs.Measure.{measure}
+use Rattle.block.specs.Basis.{basisOf, sigmaOf, smallerOf}
+use Rattle.block.specs.Refusals.{check, answer, verdict, stored}
+use Rattle.block.specs.Lists.{passing, methodChecks, withRows, smallerList}
+use Rattle.block.specs.declared.Row.{Row}
+use Rattle.block.specs.declared.Answer.{Answer}
+use Rattle.block.specs.declared.RowMethodAnswer.{RowMethodAnswer}
+use Rattle.row_checks.specs.Checked.{methodChecked, method-checks, method-numbered}
+use Rattle.verdicts.specs.Verdicts.{verdict-hit, verdict-miss, verdict-none, part-refuses, part-passes, rows-refused, rows-answered, kept, given}
+use Rattle.row_work.specs.Work.{Kept, Made, RowsWorked}
+use Rattle.row_work.specs.declared.RowWork.{RowWork}
+
+-- the answer, and T, sigma and the smaller rows in lent storage, by the verdict
+pub record MethodDone (n k w : ℕ) (rs : List Row) (short : Bool) (t s m v d t′ s′ m′ v′ d′ : List ℕ) (r : RowMethodAnswer) : Type 0 where
+  pub answers :
+      r ≡ withRows (verdict (methodChecks n k w rs short)) (measure (ofRows rs) n) (measure (smallerOf (ofRows rs) n w) n) (length (smallerList n w rs))
+  pub basis : t′ ≡ stored (verdict (methodChecks n k w rs short)) (basisOf (ofRows rs) n w) t
+  pub sigma : s′ ≡ stored (verdict (methodChecks n k w rs short)) (sigmaOf (ofRows rs) n w) s
+  pub masks : m′ ≡ stored (verdict (methodChecks n k w rs short)) (map (λ (r : Row). r .mask) (smallerList n w rs)) m
+  pub values : v′ ≡ stored (verdict (methodChecks n k w rs short)) (map (λ (r : Row). r .values) (smallerList n w rs)) v
+  pub words : d′ ≡ stored (verdict (methodChecks n k w rs short)) (map (λ (r : Row). r .word) (smallerList n w rs)) d
+
+module _ (n k w : ℕ) (rs : List Row) (short : Bool) (t s m v d : List ℕ) (c : Answer) (e : c ≡ verdict (methodChecked n k w rs short)) where
+  -- a refusal by a verdict u that is the whole verdict
+  refusal : (u : Answer) (t′ s′ m′ v′ d′ : List ℕ) → u ≡ verdict (methodChecks n k w rs short) → (u .number ≡ 0 → ⊥) → Kept t s m v d t′ s′ m′ v′ d′
+      → MethodDone n k w rs short t s m v d t′ s′ m′ v′ d′
+      (record { number = u .number; a = u .a; b = u .b; before = 0; after = 0; count = 0 })
+  refusal u t′ s′ m′ v′ d′ q h l =
+      record {
+        answers =
+            rows-refused u (measure (ofRows rs) n) (measure (smallerOf (ofRows rs) n w) n) (length (smallerList n w rs)) h
+            ∙ ap
+            (λ (u : Answer). withRows u (measure (ofRows rs) n) (measure (smallerOf (ofRows rs) n w) n) (length (smallerList n w rs)))
+            q;
+        basis = l .basis ∙ kept u _ (basisOf (ofRows rs) n w) t q h;
+        sigma = l .sigma ∙ kept u _ (sigmaOf (ofRows rs) n w) s q h;
+        masks = l .masks ∙ kept u _ (map (λ (r : Row). r .mask) (smallerList n w rs)) m q h;
+        values = l .values ∙ kept u _ (map (λ (r : Row). r .values) (smallerList n w rs)) v q h;
+        words = l .words ∙ kept u _ (map (λ (r : Row). r .word) (smallerList n w rs)) d q h;
+      }
+
+  -- one of the checks from 1 to 7 refuses
+  pub method-refused : (c .number ≡ 0 → ⊥)
+      → MethodDone n k w rs short t s m v d t s m v d
+      (record { number = c .number; a = c .a; b = c .b; before = 0; after = 0; count = 0 })
+  method-refused h =
+      refusal c t s m v d (part-refuses c (methodChecked n k w rs short) _ e h ∙ ap verdict (sym (method-checks n k w rs short))) h
+      (record { basis = refl; sigma = refl; masks = refl; values = refl; words = refl })
+
+  module _ (z : c .number ≡ 0) (t′ s′ m′ v′ d′ : List ℕ) (r : RowWork) (g : RowsWorked n w rs t s m v d t′ s′ m′ v′ d′ r) where
+    -- the verdict is that of 9
+    last : verdict (check (ltb (passing n w rs) n) 9 (suc (passing n w rs)) 0 ∷ []) ≡ verdict (methodChecks n k w rs short)
+    last =
+        part-passes c (methodChecked n k w rs short) _ e (method-numbered n k w rs short) z
+        ∙ ap verdict (sym (method-checks n k w rs short))
+
+    -- 9
+    pub method-passed : (r .step ≡ 0 → ⊥)
+        → MethodDone n k w rs short t s m v d t′ s′ m′ v′ d′ (record { number = 9; a = r .step; b = 0; before = 0; after = 0; count = 0 })
+    method-passed h =
+        refusal (answer 9 (r .step) 0) t′ s′ m′ v′ d′
+        (go (ltb (passing n w rs) n) refl) (λ q. omega arith) (g .kept h)
+      where
+        go : (b : Bool) → ltb (passing n w rs) n ≡ b → answer 9 (r .step) 0 ≡ verdict (methodChecks n k w rs short)
+        go true q =
+            ap (λ (x : ℕ). answer 9 x 0) (g .stopped ∙ ap (λ (b : Bool). cond b (suc (passing n w rs)) 0) q)
+            ∙ sym (verdict-hit (check (ltb (passing n w rs) n) 9 (suc (passing n w rs)) 0) [] q) ∙ last
+        go false q = absurd (h (g .stopped ∙ ap (λ (b : Bool). cond b (suc (passing n w rs)) 0) q))
+
+    -- 0
+    pub method-made : r .step ≡ 0
+        → MethodDone n k w rs short t s m v d t′ s′ m′ v′ d′
+        (record { number = 0; a = 0; b = 0; before = r .before; after = r .after; count = r .count })
+    method-made h =
+        let q : answer 0 0 0 ≡ verdict (methodChecks n k w rs short) = go (ltb (passing n w rs) n) refl in
+        let b = g .made h in
+        record {
+          answers =
+              made-answer (b .earlier) (b .later) (b .counted)
+              ∙ ap
+              (λ (u : Answer). withRows u (measure (ofRows rs) n) (measure (smallerOf (ofRows rs) n w) n) (length (smallerList n w rs)))
+              q;
+          basis = b .basis ∙ given (answer 0 0 0) _ (basisOf (ofRows rs) n w) t q refl;
+          sigma = b .sigma ∙ given (answer 0 0 0) _ (sigmaOf (ofRows rs) n w) s q refl;
+          masks = b .list .masks ∙ given (answer 0 0 0) _ (map (λ (r : Row). r .mask) (smallerList n w rs)) m q refl;
+          values = b .list .values ∙ given (answer 0 0 0) _ (map (λ (r : Row). r .values) (smallerList n w rs)) v q refl;
+          words = b .list .words ∙ given (answer 0 0 0) _ (map (λ (r : Row). r .word) (smallerList n w rs)) d q refl;
+        }
+      where
+        go : (b : Bool) → ltb (passing n w rs) n ≡ b → answer 0 0 0 ≡ verdict (methodChecks n k w rs short)
+        go true q = absurd (one-more (passing n w rs) (sym (ap (λ (b : Bool). cond b (suc (passing n w rs)) 0) q) ∙ sym (g .stopped) ∙ h))
+          where
+            one-more : (x : ℕ) → suc x ≡ 0 → ⊥
+            one-more x e = omega arith
+        go false q = sym (verdict-miss (check (ltb (passing n w rs) n) 9 (suc (passing n w rs)) 0) [] q ∙ verdict-none) ∙ last
+
+        made-answer : {x y c : ℕ} → r .before ≡ x → r .after ≡ y → r .count ≡ c
+            → record { number = 0; a = 0; b = 0; before = r .before; after = r .after; count = r .count } ≡ withRows (answer 0 0 0) x y c
+        made-answer p q l = rw (p, q, l)
