@@ -2,9 +2,9 @@
 -- of its first 513 rows. So each operation answers alike for the list and for its first 513 rows; the law is one, `cut-same`, and then
 -- it is said of each operation. Assumes nothing.
 use mathlib.Core.Path.{_≡_, refl, sym, ap, _∙_}
-use mathlib.Core.Bool.{Bool, true, false, not}
+use mathlib.Core.Bool.{Bool, true, false, not, _||_}
 use mathlib.Core.List.{List, [], _∷_, _++_}
-use Prim.Native.Nat.{ℕ, _^_, _≤_, _<_}
+use Prim.Native.Nat.{ℕ, suc, _^_, _≤_, _<_}
 use native.Mathlib.Decide.{decLe}
 use native.Mathlib.Omega.{arith}
 use borrow.Author.Tests.{lt-ltb, le-ltb}
@@ -13,10 +13,11 @@ use lib.ListN.{length, take, length-take}
 use lib.Seq.{take-all}
 use Rattle.block.specs.Limits.{listInputs, tableInputs, givenRows, smallerRows, textRoom}
 use Rattle.block.specs.Words.{ofRows}
-use Rattle.block.specs.Measure.{shift}
-use Rattle.block.specs.Refusals.{Check, check, verdict, answered, stored, sizeChecks}
+use Rattle.block.specs.Measure.{shift, measure}
+use Rattle.block.specs.Basis.{smallerOf}
+use Rattle.block.specs.Refusals.{Check, check, verdict, answered, carried, stored, outside, sizeChecks}
 use Rattle.block.specs.Tables.{withValue}
-use Rattle.block.specs.Lists.{countCheck, badRowCheck, shareCheck, rowValueVerdict, rowValue, fillVerdict, filled}
+use Rattle.block.specs.Lists.{countCheck, badRowCheck, shareCheck, rowValueVerdict, rowValue, passing, methodChecks, rowMethodVerdict, rowMethod, smallerList, fillVerdict, filled}
 use Rattle.block.specs.Text.{withBytes, writeVerdict, writeText, textOf}
 use Rattle.block.specs.declared.Row.{Row}
 use Rattle.block.specs.declared.Answer.{Answer}
@@ -109,3 +110,35 @@ module _ (n k room : ℕ) where
   pub written-cut : (out : List ℕ) (rs : List Row)
       → stored (writeVerdict n k (take 513 rs) room) (textOf n k (take 513 rs)) out ≡ stored (writeVerdict n k rs room) (textOf n k rs) out
   written-cut out = write-alike (λ v l. stored v (textOf n k l) out) (λ v l m h. rw h)
+
+-- ---- the row method, and the sheet; `short` says that the lent room is too short
+
+module _ (n k w : ℕ) (short : Bool) where
+  method-alike : {X : Type 0} (F : Answer → List Row → X) → ((v : Answer) (l m : List Row) → answered v ≡ false → F v l ≡ F v m)
+      → (rs : List Row) → F (verdict (methodChecks n k w (take 513 rs) short)) (take 513 rs) ≡ F (verdict (methodChecks n k w rs short)) rs
+  unfolding methodChecks
+  method-alike =
+      cut-same (sizeChecks listInputs n k (check (outside 1 n w) 3 0 0 ∷ [])) givenRows
+      (λ l. check short 5 0 0 ∷ badRowCheck n k l ∷ shareCheck n l ∷ check (ltb (passing n w l) n) 9 (suc (passing n w l)) 0 ∷ [])
+      (refl, (refl, (refl, tt))) (omega arith)
+
+module _ (n k w a b c : ℕ) where
+  pub method-cut : (rs : List Row) → rowMethod n k w (take 513 rs) a b c ≡ rowMethod n k w rs a b c
+  unfolding rowMethod rowMethodVerdict
+  method-cut =
+      method-alike n k w (ltb a n || (ltb b n || ltb c smallerRows)) (λ v l.
+      record {
+        number = v .number;
+        a = v .a;
+        b = v .b;
+        before = carried v (measure (ofRows l) n);
+        after = carried v (measure (smallerOf (ofRows l) n w) n);
+        count = carried v (length (smallerList n w l));
+      }) (λ v l m h. rw h)
+
+  -- S is a result of the method, by the rows
+  pub method-stored-cut : {X : Type 0} (S : List Row → List X) (before : List X) (rs : List Row)
+      → stored (rowMethodVerdict n k w (take 513 rs) a b c) (S (take 513 rs)) before ≡ stored (rowMethodVerdict n k w rs a b c) (S rs) before
+  unfolding rowMethodVerdict
+  method-stored-cut S before =
+      method-alike n k w (ltb a n || (ltb b n || ltb c smallerRows)) (λ v l. stored v (S l) before) (λ v l m h. rw h)

@@ -4,3 +4,4 @@ pub mod Flat
 pub mod Cut
 pub mod Yielded
 pub mod Reading
+pub mod Method
