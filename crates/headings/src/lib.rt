@@ -1,108 +1,13 @@
-// The headings of row text, read by place: ".i n", ".o k", ".p rows", each ended by LF, and then their ranges. All functions here are
-// inner: the operation is `read_text` of the crate reading.
+// The three headings of row text: ".i n", ".o k", ".p rows", each ended by LF, and then their ranges. All functions here are inner: the
+// operation is `read_text` of the crate reading.
 use block::Headings;
 use block::Kind;
 use block::Refusal;
 use lines::Number;
 use lines::Opening;
 ghost use mathlib.Core.Path.{_≡_};
-ghost use Prim.Native.Nat.{_+_, _≤_, _<_};
-ghost use Rattle.slices.specs.Places.{at};
-ghost use Rattle.lines.specs.ByPlace.{numberOf, numberAt, widthOf, leadOf, headAt, refusal, rangedOf, openWithin, openingOf};
-
-// The byte at a place, or 0 past the end: no byte of the form is 0.
-pub fn byte(s: &[u8], from: usize) -> usize
-    ensures { λ r. ⌜ r ≡ at (now (s .entry)) from ⌝ }
-    ensures { λ r. ⌜ r < 256 ⌝ }
-{
-    if from < s.len() { s[from] as usize } else { 0 }
-}
-
-// The number that four bytes begin with, ended by LF: 1 to 3 digits without leading zeros.
-pub fn number_of(a: usize, b: usize, c: usize, d: usize) -> Number
-    requires { ⌜ (a < 256) × (b < 256) × (c < 256) ⌝ }
-    ensures { λ r. ⌜ r ≡ numberOf a b c d ⌝ }
-    ensures { λ r. ⌜ widthOf r ≤ 4 ⌝ }
-{
-    if a < 48 {
-        return Number::Formless;
-    }
-    if 57 < a {
-        return Number::Formless;
-    }
-    if b == 10 {
-        return Number::Value(a - 48, 2);
-    }
-    if a == 48 {
-        return Number::Formless;
-    }
-    if b < 48 {
-        return Number::Formless;
-    }
-    if 57 < b {
-        return Number::Formless;
-    }
-    if c == 10 {
-        return Number::Value((a - 48) * 10 + (b - 48), 3);
-    }
-    if c < 48 {
-        return Number::Formless;
-    }
-    if 57 < c {
-        return Number::Formless;
-    }
-    if d == 10 {
-        return Number::Value((a - 48) * 100 + (b - 48) * 10 + (c - 48), 4);
-    }
-    Number::Formless
-}
-
-// The number from a place on.
-pub fn number_at(s: &[u8], from: usize) -> Number
-    requires { ⌜ from < 65536 ⌝ }
-    ensures { λ r. ⌜ r ≡ numberAt (now (s .entry)) from ⌝ }
-    ensures { λ r. ⌜ widthOf r ≤ 4 ⌝ }
-{
-    let a = byte(s, from);
-    let b = byte(s, from + 1);
-    let c = byte(s, from + 2);
-    let d = byte(s, from + 3);
-    number_of(a, b, c, d)
-}
-
-// A line whose first three bytes are a, b and c, before a number.
-pub fn lead(a: usize, b: usize, c: usize, letter: usize, v: Number) -> Number
-    requires { ⌜ widthOf v ≤ 4 ⌝ }
-    ensures { λ r. ⌜ r ≡ leadOf a b c letter v ⌝ }
-    ensures { λ r. ⌜ widthOf r ≤ 7 ⌝ }
-{
-    if a != 46 {
-        return Number::Formless;
-    }
-    if b != letter {
-        return Number::Formless;
-    }
-    if c != 32 {
-        return Number::Formless;
-    }
-    match v {
-        Number::Value(x, w) => Number::Value(x, w + 3),
-        Number::Formless => Number::Formless,
-    }
-}
-
-// The heading from a place on.
-pub fn head_at(s: &[u8], from: usize, letter: usize) -> Number
-    requires { ⌜ from < 65000 ⌝ }
-    ensures { λ r. ⌜ r ≡ headAt (now (s .entry)) from letter ⌝ }
-    ensures { λ r. ⌜ widthOf r ≤ 7 ⌝ }
-{
-    let a = byte(s, from);
-    let b = byte(s, from + 1);
-    let c = byte(s, from + 2);
-    let v = number_at(s, from + 3);
-    lead(a, b, c, letter, v)
-}
+ghost use Prim.Native.Nat.{_≤_};
+ghost use Rattle.lines.specs.ByPlace.{refusal, countedOf, rangedOf, openWithin, openingOf};
 
 // A refusal before any row.
 pub fn stop(kind: Kind, a: usize) -> Opening
@@ -111,7 +16,25 @@ pub fn stop(kind: Kind, a: usize) -> Opening
     Opening::Stopped(Refusal { kind, a, b: 0 })
 }
 
-// The ranges of n, k and the number of rows, and the room, in their order.
+// The range of the number of rows, and the room.
+pub fn counted(n: usize, k: usize, p: usize, from: usize, room: usize) -> Opening
+    requires { ⌜ (n ≤ 16) × (k ≤ 15) ⌝ }
+    ensures { λ r. ⌜ r ≡ countedOf n k p from room ⌝ }
+    ensures { λ r. ⌜ openWithin r room ⌝ }
+{
+    if p < 1 {
+        return stop(Kind::Count, 0);
+    }
+    if 128 < p {
+        return stop(Kind::Count, 0);
+    }
+    if room < p {
+        return stop(Kind::Room, 0);
+    }
+    Opening::Open(Headings { n, k, count: p }, from)
+}
+
+// The ranges of n and k, and then of the number of rows and the room.
 pub fn ranged(n: usize, k: usize, p: usize, from: usize, room: usize) -> Opening
     ensures { λ r. ⌜ r ≡ rangedOf n k p from room ⌝ }
     ensures { λ r. ⌜ openWithin r room ⌝ }
@@ -128,16 +51,7 @@ pub fn ranged(n: usize, k: usize, p: usize, from: usize, room: usize) -> Opening
     if 15 < k {
         return stop(Kind::Outputs, 0);
     }
-    if p < 1 {
-        return stop(Kind::Count, 0);
-    }
-    if 128 < p {
-        return stop(Kind::Count, 0);
-    }
-    if room < p {
-        return stop(Kind::Room, 0);
-    }
-    Opening::Open(Headings { n, k, count: p }, from)
+    counted(n, k, p, from, room)
 }
 
 // The three headings: their form first, then their ranges.
@@ -145,13 +59,13 @@ pub fn read_headings(s: &[u8], room: usize) -> Opening
     ensures { λ r. ⌜ r ≡ openingOf (now (s .entry)) room ⌝ }
     ensures { λ r. ⌜ openWithin r room ⌝ }
 {
-    let Number::Value(n, u) = head_at(s, 0, 105) else {
+    let Number::Value(n, u) = headlines::head_at(s, 0, 105) else {
         return stop(Kind::Form, 1);
     };
-    let Number::Value(k, v) = head_at(s, u, 111) else {
+    let Number::Value(k, v) = headlines::head_at(s, u, 111) else {
         return stop(Kind::Form, 2);
     };
-    let Number::Value(p, w) = head_at(s, u + v, 112) else {
+    let Number::Value(p, w) = headlines::head_at(s, u + v, 112) else {
         return stop(Kind::Form, 3);
     };
     ranged(n, k, p, u + v + w, room)

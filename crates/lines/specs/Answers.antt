@@ -1,12 +1,11 @@
 -- The reader's answer and the lent lists after it are those of the meaning: `numbers-read` and `after-read`. Between them stands how
 -- a text can come out (`Outcome`): stopped at its headings, or open. Assumes nothing.
-use mathlib.Core.Path.{_≡_, refl, sym, ap, ap₂, _∙_}
-use mathlib.Core.Bool.{Bool, true, false, not, cond, _&&_, _||_}
-use mathlib.Core.List.{List, [], _∷_, _++_, map}
+use mathlib.Core.Path.{_≡_, refl, sym, ap, _∙_}
+use mathlib.Core.Bool.{Bool, true, false, not, cond, _||_}
+use mathlib.Core.List.{List, map}
 use mathlib.Core.Logic.{_⊎_, inl, inr}
-use Prim.Native.Nat.{ℕ, zero, suc, _+_, _-_, _*_, _≤_, _<_}
-use native.Mathlib.Decide.{decLt, ℕ-discrete}
-use native.Mathlib.Nat.{add-zero, zero-add}
+use Prim.Native.Nat.{ℕ, zero, suc, _+_, _<_}
+use native.Mathlib.Decide.{ℕ-discrete}
 use native.Mathlib.Omega.{arith}
 use borrow.Author.Tests.{lt-ltb, le-ltb, eq-eqb, ne-eqb, eqb-true, not-false}
 use lib.Dec.{eqb, ltb}
@@ -18,19 +17,13 @@ use Rattle.block.specs.Refusals.{answer, verdict, carried, stored}
 use Rattle.block.specs.Text.{lineAt, headForm, rowForm, due, headNumber, rowOn, faulty, readVerdict, readText, rowsIn, kindNumber, numbers}
 use Rattle.block.specs.declared.Row.{Row}
 use Rattle.block.specs.declared.Answer.{Answer}
-use Rattle.block.specs.declared.ReadAnswer.{ReadAnswer}
-use Rattle.block.specs.declared.Headings.{Headings}
 use Rattle.block.specs.declared.Refusal.{Refusal}
 use Rattle.block.specs.declared.Kind.{Kind}
 use Rattle.block.specs.declared.Kind.the-variants.{Inputs, Outputs, Count, Room, Form}
-use Rattle.block.specs.declared.Reading.{Reading}
 use Rattle.block.specs.declared.Reading.the-variants.{Accepted, Refused}
-use Rattle.lines.specs.declared.Number.{Number}
 use Rattle.lines.specs.declared.Number.the-variants.{Value, Formless}
-use Rattle.lines.specs.declared.Line.the-variants.{Sound, Broken}
-use Rattle.lines.specs.declared.Opening.{Opening}
 use Rattle.lines.specs.declared.Opening.the-variants.{Open, Stopped}
-use Rattle.lines.specs.ByPlace.{headAt, refusal, headings, rangedOf, onValue, openingOf, rowOr, lineOf, fieldOf, faultOf, filledOf, closedOf, readingOf, afterOf}
+use Rattle.lines.specs.ByPlace.{headAt, refusal, headings, countedOf, rangedOf, onValue, openingOf, rowOr, lineOf, fieldOf, faultOf, filledOf, closedOf, readingOf, afterOf}
 use Rattle.lines.specs.Front.{start, line-front, line-add}
 use Rattle.lines.specs.Whole.{head-of, line-of, fault-of, fault-le, lacks, row-due}
 
@@ -169,7 +162,7 @@ module _ (text : List ℕ) (room : ℕ) where
 
   in-range : openingOf text room ≡ rangedOf n k p (start text 3) room → readVerdict text room ≡ ranges → faulty text (5 + p) ≡ 3 + fault
       → Stop ⊎ Opened
-  unfolding rangedOf
+  unfolding rangedOf countedOf
   in-range o v f = go (ltb n 1) (ltb 16 n) (ltb k 1) (ltb 15 k) (ltb p 1) (ltb 128 p) (ltb room p) refl refl refl refl refl refl refl
     where
       go : (a b c d e g h : Bool) → ltb n 1 ≡ a → ltb 16 n ≡ b → ltb k 1 ≡ c → ltb 15 k ≡ d → ltb p 1 ≡ e → ltb 128 p ≡ g → ltb room p ≡ h

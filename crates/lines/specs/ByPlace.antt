@@ -67,17 +67,22 @@ refusal kind a = record { kind = kind; a = a; b = 0 }
 abbrev pub headings : ℕ → ℕ → ℕ → Headings
 headings n k p = record { n = n; k = k; count = p }
 
--- the ranges of n, k and p, and the room, in their order
+-- the range of p, and the room
+unfoldable pub countedOf : ℕ → ℕ → ℕ → ℕ → ℕ → Opening
+countedOf n k p from room =
+    cond (ltb p 1) (Stopped (refusal Count 0))
+    (cond (ltb 128 p) (Stopped (refusal Count 0))
+    (cond (ltb room p) (Stopped (refusal Room 0))
+    (Open (headings n k p) from)))
+
+-- the ranges of n and k before it
 unfoldable pub rangedOf : ℕ → ℕ → ℕ → ℕ → ℕ → Opening
 rangedOf n k p from room =
     cond (ltb n 1) (Stopped (refusal Inputs 0))
     (cond (ltb 16 n) (Stopped (refusal Inputs 0))
     (cond (ltb k 1) (Stopped (refusal Outputs 0))
     (cond (ltb 15 k) (Stopped (refusal Outputs 0))
-    (cond (ltb p 1) (Stopped (refusal Count 0))
-    (cond (ltb 128 p) (Stopped (refusal Count 0))
-    (cond (ltb room p) (Stopped (refusal Room 0))
-    (Open (headings n k p) from)))))))
+    (countedOf n k p from room))))
 
 -- what open headings promise
 abbrev pub openWithin : Opening → ℕ → Type 0
@@ -185,11 +190,11 @@ afterOf (Open h from) s f l =
 
 -- ---- the fields of rows
 
-abbrev pub maskIn : Row → ℕ
-maskIn r = r .mask
+abbrev pub maskPart : Row → ℕ
+maskPart r = r .mask
 
-abbrev pub valuesIn : Row → ℕ
-valuesIn r = r .values
+abbrev pub valuesPart : Row → ℕ
+valuesPart r = r .values
 
-abbrev pub wordIn : Row → ℕ
-wordIn r = r .word
+abbrev pub wordPart : Row → ℕ
+wordPart r = r .word

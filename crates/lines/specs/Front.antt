@@ -1,15 +1,15 @@
 -- The lines of a text by its first line: `front` cuts it off, and every line is the front of what follows those before it. A list
 -- that stands in a text, and a line that does is its front. Assumes nothing.
 use mathlib.Core.Path.{_≡_, refl, sym, ap, _∙_}
-use mathlib.Core.Bool.{Bool, true, false, not, cond, _&&_}
+use mathlib.Core.Bool.{Bool, true, false, not, cond}
 use mathlib.Core.List.{List, [], _∷_, _++_}
-use Prim.Native.Nat.{ℕ, zero, suc, _+_, _-_, _≤_, _<_}
+use Prim.Native.Nat.{ℕ, zero, suc, _+_, _≤_, _<_}
 use native.Mathlib.Nat.{zero-add}
 use native.Mathlib.Omega.{arith}
-use borrow.Author.Tests.{eq-eqb, ne-eqb, eqb-true, not-true}
+use borrow.Author.Tests.{eq-eqb, eqb-true, not-true}
 use lib.Dec.{eqb}
-use lib.ListN.{length, getD, take, drop, length-append, List·getD-append, List·getD-eq-default, drop-of-length-le}
-use lib.Seq.{drop-drop, drop-nil, getD-append-add, getD-append-seam, getD-drop}
+use lib.ListN.{length, getD, drop, length-append}
+use lib.Seq.{drop-drop, getD-append-seam}
 use Rattle.slices.specs.Places.{at}
 use Rattle.block.specs.Text.{lines, onto, lineAt, every}
 use Rattle.lines.specs.Tests.{both}
@@ -74,13 +74,6 @@ line-front s i = ap (lineAt s) (omega arith) ∙ line-add s i 0 ∙ line-first (
 -- t stands in s from a place on
 abbrev pub Stands : List ℕ → ℕ → List ℕ → Type 0
 Stands s from t = (i : ℕ) → i < length t → at s (from + i) ≡ at t i
-
-pub stands-left : (s : List ℕ) (from : ℕ) (a b : List ℕ) → Stands s from (a ++ b) → Stands s from a
-stands-left s from a b h i k = h i (omega (arith, length-append a b)) ∙ List·getD-append a b 0 i k
-
-pub stands-right : (s : List ℕ) (from : ℕ) (a b : List ℕ) → Stands s from (a ++ b) → Stands s (from + length a) b
-stands-right s from a b h i k =
-    ap (at s) (omega arith) ∙ h (length a + i) (omega (arith, length-append a b)) ∙ getD-append-add a b i 0
 
 -- the front stands at the text's start
 pub front-stands : (s : List ℕ) → Stands s 0 (front s)

@@ -3,11 +3,11 @@
 use mathlib.Core.Path.{_≡_, refl, sym, ap, ap₂, _∙_}
 use mathlib.Core.Bool.{Bool, true, false, cond, _&&_}
 use mathlib.Core.List.{List, [], _∷_, _++_}
-use Prim.Native.Nat.{ℕ, zero, suc, _+_, _-_, _*_, _/_, _%_, _≤_, _<_, min}
+use Prim.Native.Nat.{ℕ, zero, suc, _+_, _-_, _*_, _/_, _%_, _<_}
 use native.Mathlib.Decide.{decLt}
-use native.Mathlib.Nat.{add-zero, zero-add}
+use native.Mathlib.Nat.{add-zero}
 use native.Mathlib.Omega.{arith}
-use borrow.Author.Tests.{lt-ltb, le-ltb, eq-eqb, ne-eqb, ltb-false, eqb-true, eqb-false}
+use borrow.Author.Tests.{le-ltb, eq-eqb, ne-eqb, ltb-false, eqb-true, eqb-false}
 use lib.Dec.{eqb, ltb}
 use lib.ListN.{length, getD, take, drop, length-append, length-take, length-drop, take-append-drop, List·getD-append}
 use lib.Seq.{take-suc, take-all, take-at, getD-drop, getD-append-seam}
@@ -16,8 +16,8 @@ use Rattle.block.specs.Text.{decimal, headLine, every, equal, numeral, numberPa
 use Rattle.lines.specs.declared.Number.{Number}
 use Rattle.lines.specs.declared.Number.the-variants.{Value, Formless}
 use Rattle.lines.specs.ByPlace.{numberOf, numberAt, widened, leadOf, headAt}
-use Rattle.lines.specs.Tests.{both, not-both, equal-true, equal-same, every-append}
-use Rattle.lines.specs.Front.{front, Stands, front-stands, stands-left, stands-right, stands-front, noLF}
+use Rattle.lines.specs.Tests.{both, not-both, equal-true, equal-same}
+use Rattle.lines.specs.Front.{front, Stands, front-stands, stands-front, noLF}
 use Rattle.lines.specs.Numerals.{valueOf, one-digit, two-digits, three-digits, numeral-written, written-numeral, numeral-noLF, numeral-length}
 
 -- ---- the form of a heading is what is written

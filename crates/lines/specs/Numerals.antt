@@ -1,17 +1,17 @@
 -- Numbers of 1 to 3 digits, as they are written and as the form of a heading has them: the two are the same bytes.
 -- Assumes nothing.
-use mathlib.Core.Path.{_≡_, refl, sym, ap, ap₂, _∙_}
-use mathlib.Core.Bool.{Bool, true, false, not, _&&_, _||_}
-use mathlib.Core.List.{List, [], _∷_, _++_}
-use Prim.Native.Nat.{ℕ, suc, _+_, _-_, _*_, _/_, _%_, _≤_, _<_}
+use mathlib.Core.Path.{_≡_, sym, ap, ap₂, _∙_}
+use mathlib.Core.Bool.{Bool, true, not, _&&_, _||_}
+use mathlib.Core.List.{List, [], _∷_}
+use Prim.Native.Nat.{ℕ, _+_, _-_, _/_, _%_, _≤_, _<_}
 use native.Mathlib.Decide.{decLt}
 use native.Mathlib.Omega.{arith}
-use borrow.Author.Tests.{lt-ltb, le-ltb, le-leb, lt-leb, leb-true, eqb-false, ne-eqb, not-true}
-use lib.Dec.{eqb, leb, ltb}
+use borrow.Author.Tests.{lt-ltb, le-ltb, le-leb, leb-true, eqb-false, ne-eqb, not-true}
+use lib.Dec.{eqb, leb}
 use lib.ListN.{length}
 use Rattle.slices.specs.Places.{at}
 use Rattle.block.specs.Text.{digits, decimal, every, numeral, spelled}
-use Rattle.lines.specs.Tests.{both, not-both, every-at, every-all}
+use Rattle.lines.specs.Tests.{both, every-at, every-all}
 use Rattle.lines.specs.Front.{noLF}
 
 -- the number that digits spell

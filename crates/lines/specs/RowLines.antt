@@ -7,21 +7,19 @@ use Prim.Native.Nat.{ℕ, zero, suc, _+_, _-_, _*_, _≤_, _<_}
 use native.Mathlib.Decide.{decLt, decLe}
 use native.Mathlib.Nat.{add-zero, zero-add}
 use native.Mathlib.Omega.{arith}
-use borrow.Author.Tests.{lt-ltb, le-ltb, eq-eqb, ne-eqb, eqb-true, eqb-false}
+use borrow.Author.Tests.{ne-eqb, eqb-true, eqb-false}
 use lib.Dec.{eqb}
-use lib.ListN.{length, getD, take, drop, length-append, length-drop, take-append-drop, List·getD-append, List·getD-eq-default}
+use lib.ListN.{length, take, drop, length-append, length-drop, List·getD-append, List·getD-eq-default}
 use lib.Seq.{take-suc, length-take-le, take-append-le, drop-append-le, getD-drop, getD-take, getD-at, drop-drop}
 use Rattle.sums.specs.Sums.{one}
 use Rattle.slices.specs.Places.{at}
 use Rattle.block.specs.Words.{row}
 use Rattle.block.specs.Text.{every, spelled, rowForm, rowOn}
-use Rattle.block.specs.declared.Row.{Row}
 use Rattle.lines.specs.declared.Spelling.{Spelling}
 use Rattle.lines.specs.declared.Spelling.the-variants.{Good, Bad}
-use Rattle.lines.specs.declared.Line.{Line}
 use Rattle.lines.specs.declared.Line.the-variants.{Sound, Broken}
 use Rattle.lines.specs.ByPlace.{stepOf, spelledAt, bothOf, joinedOf, rowFrom}
-use Rattle.lines.specs.Tests.{both, not-both, every-at, every-all}
+use Rattle.lines.specs.Tests.{both, every-at, every-all}
 use Rattle.lines.specs.Front.{front, Stands, front-rest, front-le, stands-front, noLF}
 
 -- ---- symbols

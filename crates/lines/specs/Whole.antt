@@ -1,27 +1,25 @@
 -- The whole text: the reader's openings, its faulty line, its answer and the lent lists after it are what the meaning says of the
 -- lines. Assumes nothing.
 use mathlib.Core.Path.{_≡_, refl, sym, ap, ap₂, _∙_}
-use mathlib.Core.Bool.{Bool, true, false, not, cond, _&&_, _||_}
-use mathlib.Core.List.{List, [], _∷_, _++_, map}
+use mathlib.Core.Bool.{Bool, true, false, not, cond, _&&_}
+use mathlib.Core.List.{List, [], _∷_, _++_}
 use Prim.Native.Nat.{ℕ, zero, suc, _+_, _-_, _*_, _≤_, _<_}
 use native.Mathlib.Decide.{decLt, ℕ-discrete}
 use native.Mathlib.Nat.{add-zero, zero-add}
 use native.Mathlib.Numerals.{add-one}
 use native.Mathlib.Omega.{arith}
-use borrow.Author.Tests.{lt-ltb, le-ltb, eq-eqb, ne-eqb, eqb-true, eqb-false, ltb-true, ltb-false, not-true, not-false}
+use borrow.Author.Tests.{lt-ltb, le-ltb, eq-eqb, ne-eqb, eqb-true, not-false}
 use lib.Dec.{eqb, ltb}
 use lib.ListN.{length, drop, length-drop, List·getD-eq-default}
-use lib.Seq.{drop-drop, getD-drop}
-use Rattle.slices.specs.Places.{at, tab, first, over}
-use Rattle.slices.specs.Least.{first-is, first-le, first-below, first-passes, first-cong}
-use Rattle.block.specs.Text.{lineAt, headForm, rowForm, due, equal, every, endLine, numberPart, headNumber, rowOn, faulty}
-use Rattle.lines.specs.declared.Number.{Number}
+use lib.Seq.{getD-drop}
+use Rattle.slices.specs.Places.{at, first}
+use Rattle.slices.specs.Least.{first-is, first-le, first-below, first-passes}
+use Rattle.block.specs.Text.{lineAt, headForm, rowForm, due, equal, every, endLine, headNumber, rowOn, faulty}
 use Rattle.lines.specs.declared.Number.the-variants.{Value, Formless}
-use Rattle.lines.specs.declared.Line.{Line}
 use Rattle.lines.specs.declared.Line.the-variants.{Sound, Broken}
-use Rattle.lines.specs.ByPlace.{headAt, rowFrom, isBroken, rowOr, lineOf, brokenLine, endOf, faultOf}
-use Rattle.lines.specs.Tests.{both, not-both, equal-true, equal-same}
-use Rattle.lines.specs.Front.{front, start, line-front, line-add, Stands, front-stands, stands-front, front-rest, noLF}
+use Rattle.lines.specs.ByPlace.{headAt, isBroken, lineOf, brokenLine, endOf, faultOf}
+use Rattle.lines.specs.Tests.{not-both, equal-true, equal-same}
+use Rattle.lines.specs.Front.{front, start, line-front, Stands, front-stands, stands-front, noLF}
 use Rattle.lines.specs.HeadLines.{head-line, head-from}
 use Rattle.lines.specs.RowLines.{row-line, row-at-place, row-length}
 

@@ -2,10 +2,9 @@
 // the place after what it put; the one contract `Put` says so, and its law `then` joins two puts into one. All functions here are
 // inner: the operations that write text call them.
 ghost use mathlib.Core.Path.{_≡_};
-ghost use mathlib.Core.List.{List, [], _∷_};
+ghost use mathlib.Core.List.{[], _∷_};
 ghost use Prim.Native.Nat.{_+_, _*_, _≤_, _<_};
 ghost use lib.ListN.{length};
-ghost use Rattle.slices.specs.Places.{at, tab};
 ghost use Rattle.block.specs.Words.{row};
 ghost use Rattle.block.specs.Text.{decimal, symbols, bits, rowLine, rowLines};
 ghost use Rattle.listing.specs.Listing.{rowsFrom};

@@ -1,4 +1,4 @@
--- The room of three lent lists; a text from a cursor on, wherever the cursor stands. Assumes nothing.
+-- A text from a cursor on, wherever the cursor stands. Assumes nothing.
 use mathlib.Core.Path.{_≡_, sym, ap, _∙_}
 use mathlib.Core.List.{List}
 use Prim.Native.Nat.{ℕ, _-_, _≤_, min}
@@ -6,10 +6,6 @@ use native.Mathlib.Decide.{decLe}
 use native.Mathlib.Omega.{arith}
 use lib.ListN.{length, take, drop, drop-of-length-le, length-drop}
 use lib.Seq.{take-all}
-
--- the shortest of three lists: the room that they lend
-abbrev pub shortest : List ℕ → List ℕ → List ℕ → ℕ
-shortest masks values words = min (length masks) (min (length values) (length words))
 
 -- the part from the lesser of the cursor and the length to the end
 pub part-from : (s : List ℕ) (from r : ℕ) → r ≡ min from (length s) → take (length s - r) (drop r s) ≡ drop from s

@@ -1,2 +1,3 @@
--- Reading row text: `Cursor` has the law of the text from the cursor on.
+-- Reading row text: `Storage` has what the contract cites beside block's definitions, `Cursor` the law of the text from the cursor on.
+pub mod Storage
 pub mod Cursor

@@ -6,13 +6,12 @@ use block::Reading;
 use block::Refusal;
 use lines::Opening;
 ghost use mathlib.Core.Path.{_≡_};
-ghost use mathlib.Core.List.{map};
 ghost use Prim.Native.Nat.{_+_, _≤_, min};
 ghost use lib.ListN.{length};
 ghost use Rattle.block.specs.Refusals.{stored};
-ghost use Rattle.block.specs.Text.{readVerdict, readText, rowsIn, numbers};
-ghost use Rattle.lines.specs.ByPlace.{maskIn, valuesIn, wordIn, openingOf, closedOf, readingOf, afterOf};
-ghost use Rattle.reading.specs.Cursor.{shortest};
+ghost use Rattle.block.specs.Text.{readVerdict, readText, numbers};
+ghost use Rattle.lines.specs.ByPlace.{maskPart, valuesPart, wordPart, openingOf, closedOf, readingOf, afterOf};
+ghost use Rattle.reading.specs.Storage.{shortest, masksIn, valuesIn, wordsIn};
 
 // The lesser of two numbers.
 fn least(a: usize, b: usize) -> usize
@@ -46,9 +45,9 @@ fn read_from(
 ) -> Reading
     requires { ⌜ (room ≤ length (now masks)) × (room ≤ length (now values)) × (room ≤ length (now words)) ⌝ }
     ensures { λ r. ⌜ r ≡ readingOf (now (text .entry)) (openingOf (now (text .entry)) room) ⌝ }
-    ensures { λ r. ⌜ now (masks .exit) ≡ afterOf (openingOf (now (text .entry)) room) (now (text .entry)) maskIn (now (masks .entry)) ⌝ }
-    ensures { λ r. ⌜ now (values .exit) ≡ afterOf (openingOf (now (text .entry)) room) (now (text .entry)) valuesIn (now (values .entry)) ⌝ }
-    ensures { λ r. ⌜ now (words .exit) ≡ afterOf (openingOf (now (text .entry)) room) (now (text .entry)) wordIn (now (words .entry)) ⌝ }
+    ensures { λ r. ⌜ now (masks .exit) ≡ afterOf (openingOf (now (text .entry)) room) (now (text .entry)) maskPart (now (masks .entry)) ⌝ }
+    ensures { λ r. ⌜ now (values .exit) ≡ afterOf (openingOf (now (text .entry)) room) (now (text .entry)) valuesPart (now (values .entry)) ⌝ }
+    ensures { λ r. ⌜ now (words .exit) ≡ afterOf (openingOf (now (text .entry)) room) (now (text .entry)) wordPart (now (words .entry)) ⌝ }
 {
     let opening = headings::read_headings(text, room);
     match opening {
@@ -64,9 +63,9 @@ fn read_from(
 // Reads the text. The room is the shortest of the three slices. Refuses with 10 for a heading, then 1, 2, 4 and 5, then 10 for the rest.
 pub fn read_text(text: &[u8], masks: &mut [u32], values: &mut [u32], words: &mut [u32]) -> Reading
     ensures answer { λ r. ⌜ numbers r ≡ readText (now (text .entry)) (shortest (now (masks .entry)) (now (values .entry)) (now (words .entry))) ⌝ }
-    ensures masks { λ r. ⌜ now (masks .exit) ≡ stored (readVerdict (now (text .entry)) (shortest (now (masks .entry)) (now (values .entry)) (now (words .entry)))) (map maskIn (rowsIn (now (text .entry)))) (now (masks .entry)) ⌝ }
-    ensures values { λ r. ⌜ now (values .exit) ≡ stored (readVerdict (now (text .entry)) (shortest (now (masks .entry)) (now (values .entry)) (now (words .entry)))) (map valuesIn (rowsIn (now (text .entry)))) (now (values .entry)) ⌝ }
-    ensures words { λ r. ⌜ now (words .exit) ≡ stored (readVerdict (now (text .entry)) (shortest (now (masks .entry)) (now (values .entry)) (now (words .entry)))) (map wordIn (rowsIn (now (text .entry)))) (now (words .entry)) ⌝ }
+    ensures masks { λ r. ⌜ now (masks .exit) ≡ stored (readVerdict (now (text .entry)) (shortest (now (masks .entry)) (now (values .entry)) (now (words .entry)))) (masksIn (now (text .entry))) (now (masks .entry)) ⌝ }
+    ensures values { λ r. ⌜ now (values .exit) ≡ stored (readVerdict (now (text .entry)) (shortest (now (masks .entry)) (now (values .entry)) (now (words .entry)))) (valuesIn (now (text .entry))) (now (values .entry)) ⌝ }
+    ensures words { λ r. ⌜ now (words .exit) ≡ stored (readVerdict (now (text .entry)) (shortest (now (masks .entry)) (now (values .entry)) (now (words .entry)))) (wordsIn (now (text .entry))) (now (words .entry)) ⌝ }
 {
     let room = least(masks.len(), least(values.len(), words.len()));
     read_from(text, room, masks, values, words)

@@ -3,9 +3,10 @@
 use block::Answer;
 ghost use mathlib.Core.Path.{_≡_};
 ghost use mathlib.Core.List.{[], _∷_};
-ghost use Prim.Native.Nat.{_≤_};
+ghost use mathlib.Core.Bool.{_||_};
+ghost use Prim.Native.Nat.{_≤_, min};
 ghost use lib.Bits.{bitAnd, bitXor};
-ghost use lib.Dec.{eqb};
+ghost use lib.Dec.{eqb, ltb};
 ghost use lib.ListN.{length};
 ghost use Rattle.block.specs.Words.{rowsOf};
 ghost use Rattle.block.specs.Refusals.{verdict};
@@ -166,4 +167,33 @@ pub fn method_checked(
         return lent;
     }
     rows_verdict(n, k, masks, values, words)
+}
+
+// The shortest of three lengths.
+pub fn least_room(a: usize, b: usize, c: usize) -> usize
+    ensures { λ r. ⌜ r ≡ min a (min b c) ⌝ }
+{
+    if b < c {
+        if a < b {
+            return a;
+        }
+        return b;
+    }
+    if a < c {
+        return a;
+    }
+    c
+}
+
+// Whether a lent room of the row method is too short: n numbers for each matrix, 512 rows.
+pub fn is_short(n: usize, room_t: usize, room_sigma: usize, room_rows: usize) -> bool
+    ensures { λ r. ⌜ r ≡ ltb «room_t» n || (ltb «room_sigma» n || ltb «room_rows» 512) ⌝ }
+{
+    if room_t < n {
+        return true;
+    }
+    if room_sigma < n {
+        return true;
+    }
+    room_rows < 512
 }

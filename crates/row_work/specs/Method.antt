@@ -1,22 +1,23 @@
 -- The row method for any arguments: what comes back and what is left, in the verdict's own terms. `short` says that the lent room is too
 -- short; the row method and the sheet differ only in that. Assumes nothing.
-use mathlib.Core.Path.{_≡_, refl, sym, ap, _∙_}
-use mathlib.Core.Bool.{Bool, true, false, cond}
+use mathlib.Core.Path.{_≡_, refl, sym, ap, _∙_, subst}
+use mathlib.Core.Bool.{Bool, true, false, cond, _||_}
 use mathlib.Core.List.{List, [], _∷_, _++_, map}
 use Prim.Native.Nat.{ℕ, suc, _≤_, _<_}
-use native.Mathlib.Decide.{decLt}
 use native.Mathlib.Omega.{arith}
-use borrow.Author.Tests.{lt-ltb, le-ltb}
+use borrow.Author.Tests.{ltb-false}
 use lib.Dec.{ltb}
 use lib.ListN.{length}
+use Rattle.block.specs.Limits.{smallerRows}
 use Rattle.block.specs.Words.{ofRows}
 use Rattle.block.specs.Measure.{measure}
 use Rattle.block.specs.Basis.{basisOf, sigmaOf, smallerOf}
 use Rattle.block.specs.Refusals.{check, answer, verdict, stored}
-use Rattle.block.specs.Lists.{passing, methodChecks, withRows, smallerList}
+use Rattle.block.specs.Lists.{passing, methodChecks, rowMethodVerdict, withRows, rowMethod, smallerList}
 use Rattle.block.specs.declared.Row.{Row}
 use Rattle.block.specs.declared.Answer.{Answer}
 use Rattle.block.specs.declared.RowMethodAnswer.{RowMethodAnswer}
+use Rattle.checks.specs.Sizes.{or-left, or-right}
 use Rattle.row_checks.specs.Checked.{methodChecked, method-checks, method-numbered}
 use Rattle.verdicts.specs.Verdicts.{verdict-hit, verdict-miss, verdict-none, part-refuses, part-passes, rows-refused, rows-answered, kept, given}
 use Rattle.row_work.specs.Work.{Kept, Made, RowsWorked}
@@ -109,3 +110,29 @@ module _ (n k w : ℕ) (rs : List Row) (short : Bool) (t s m v d : List ℕ) (c 
         made-answer : {x y c : ℕ} → r .before ≡ x → r .after ≡ y → r .count ≡ c
             → record { number = 0; a = 0; b = 0; before = r .before; after = r .after; count = r .count } ≡ withRows (answer 0 0 0) x y c
         made-answer p q l = rw (p, q, l)
+
+-- the same by the lengths of what was lent, as 01 has it
+pub method-by-rooms : (n k w : ℕ) (rs : List Row) (short : Bool) (roomT roomSigma roomRows : ℕ) (t s m v d t′ s′ m′ v′ d′ : List ℕ)
+    (r : RowMethodAnswer) → short ≡ ltb roomT n || (ltb roomSigma n || ltb roomRows smallerRows)
+    → MethodDone n k w rs short t s m v d t′ s′ m′ v′ d′ r
+    → (r ≡ rowMethod n k w rs roomT roomSigma roomRows)
+    × ((t′ ≡ stored (rowMethodVerdict n k w rs roomT roomSigma roomRows) (basisOf (ofRows rs) n w) t)
+    × ((s′ ≡ stored (rowMethodVerdict n k w rs roomT roomSigma roomRows) (sigmaOf (ofRows rs) n w) s)
+    × ((m′ ≡ stored (rowMethodVerdict n k w rs roomT roomSigma roomRows) (map (λ (r : Row). r .mask) (smallerList n w rs)) m)
+    × ((v′ ≡ stored (rowMethodVerdict n k w rs roomT roomSigma roomRows) (map (λ (r : Row). r .values) (smallerList n w rs)) v)
+    × (d′ ≡ stored (rowMethodVerdict n k w rs roomT roomSigma roomRows) (map (λ (r : Row). r .word) (smallerList n w rs)) d)))))
+unfolding rowMethod rowMethodVerdict
+method-by-rooms n k w rs short roomT roomSigma roomRows t s m v d t′ s′ m′ v′ d′ r e g =
+    let h : MethodDone n k w rs (ltb roomT n || (ltb roomSigma n || ltb roomRows smallerRows)) t s m v d t′ s′ m′ v′ d′ r =
+    subst (λ (b : Bool). MethodDone n k w rs b t s m v d t′ s′ m′ v′ d′ r) e g in
+    (h .answers, (h .basis, (h .sigma, (h .masks, (h .values, h .words)))))
+
+-- where no room is short there are n numbers for each matrix and 512 rows
+pub rooms : (n roomT roomSigma roomRows : ℕ) → ltb roomT n || (ltb roomSigma n || ltb roomRows smallerRows) ≡ false
+    → (n ≤ roomT) × (n ≤ roomSigma) × (smallerRows ≤ roomRows)
+rooms n roomT roomSigma roomRows h =
+    let rest = or-right (ltb roomT n) (ltb roomSigma n || ltb roomRows smallerRows) h in (
+      ltb-false roomT n (or-left (ltb roomT n) (ltb roomSigma n || ltb roomRows smallerRows) h),
+      ltb-false roomSigma n (or-left (ltb roomSigma n) (ltb roomRows smallerRows) rest),
+      ltb-false roomRows smallerRows (or-right (ltb roomSigma n) (ltb roomRows smallerRows) rest),
+    )

@@ -1,108 +1,10 @@
 // The lines of row text after the headings, read by place: the rows, the last line, and nothing more. Every line is looked at before
 // anything is stored. All functions here are inner: the operation is `read_text` of the crate reading.
-use block::Row;
-use lines::Line;
-use lines::Spelling;
 ghost use mathlib.Core.Path.{_≡_};
-ghost use Prim.Native.Nat.{_+_, _*_, _≤_, _<_};
-ghost use lib.ListN.{length, drop};
+ghost use Prim.Native.Nat.{_≤_};
+ghost use lib.ListN.{length};
 ghost use Rattle.slices.specs.Places.{tab, first, over};
-ghost use Rattle.lines.specs.ByPlace.{maskOf, valuesOf, stepOf, spelledAt, joinedOf, rowFrom, isBroken, rowOr, brokenLine, fieldOf, endOf, faultOf, filledOf, maskIn, valuesIn, wordIn};
-
-// One symbol more, as the lowest input; `free` is the byte of a free one.
-pub fn step(st: Spelling, b: usize, free: usize) -> Spelling
-    requires { ⌜ (maskOf st < 65536) × (valuesOf st < 65536) ⌝ }
-    ensures { λ r. ⌜ r ≡ stepOf st b free ⌝ }
-{
-    match st {
-        Spelling::Bad => Spelling::Bad,
-        Spelling::Good(m, v) => {
-            if b == 48 {
-                return Spelling::Good(m * 2 + 1, v * 2);
-            }
-            if b == 49 {
-                return Spelling::Good(m * 2 + 1, v * 2 + 1);
-            }
-            if b == free {
-                return Spelling::Good(m * 2, v * 2);
-            }
-            Spelling::Bad
-        }
-    }
-}
-
-// The symbols from a place on.
-pub fn spelling(s: &[u8], from: usize, count: usize, free: usize) -> Spelling
-    requires { ⌜ (from < 65536) × (count ≤ 16) ⌝ }
-    ensures { λ r. ⌜ r ≡ spelledAt (now (s .entry)) from free count ⌝ }
-{
-    let mut st = Spelling::Good(0, 0);
-    let mut i = 0;
-    while i < count {
-        st = step(st, headings::byte(s, from + i), free);
-        i += 1;
-    }
-    st
-}
-
-// A row's parts: its inputs, the byte after them, its outputs, the byte after them.
-pub fn joined(inputs: Spelling, gap: usize, outputs: Spelling, end: usize) -> Line
-    ensures { λ r. ⌜ r ≡ joinedOf inputs gap outputs end ⌝ }
-{
-    if gap != 32 {
-        return Line::Broken;
-    }
-    if end != 10 {
-        return Line::Broken;
-    }
-    match inputs {
-        Spelling::Bad => Line::Broken,
-        Spelling::Good(m, v) => match outputs {
-            Spelling::Bad => Line::Broken,
-            Spelling::Good(_, w) => Line::Sound(Row {
-                mask: m,
-                values: v,
-                word: w,
-            }),
-        },
-    }
-}
-
-// The row from a place on.
-pub fn read_row(s: &[u8], from: usize, n: usize, k: usize) -> Line
-    requires { ⌜ (from < 65000) × (n ≤ 16) × (k ≤ 15) ⌝ }
-    ensures { λ r. ⌜ r ≡ rowFrom (now (s .entry)) n k from ⌝ }
-{
-    let inputs = spelling(s, from, n, 45);
-    let gap = headings::byte(s, from + n);
-    let outputs = spelling(s, from + n + 1, k, 48);
-    let end = headings::byte(s, from + n + 1 + k);
-    joined(inputs, gap, outputs, end)
-}
-
-// Whether a line is broken.
-pub fn is_broken(l: Line) -> bool
-    ensures { λ r. ⌜ r ≡ isBroken l ⌝ }
-{
-    match l {
-        Line::Broken => true,
-        Line::Sound(_) => false,
-    }
-}
-
-// The row of a line, one of zeros for a broken line.
-pub fn row_or(l: Line) -> Row
-    ensures { λ r. ⌜ r ≡ rowOr l ⌝ }
-{
-    match l {
-        Line::Broken => Row {
-            mask: 0,
-            values: 0,
-            word: 0,
-        },
-        Line::Sound(r) => r,
-    }
-}
+ghost use Rattle.lines.specs.ByPlace.{brokenLine, fieldOf, endOf, faultOf, filledOf, maskPart, valuesPart, wordPart};
 
 // The first row that is broken, or p.
 pub fn first_broken(s: &[u8], n: usize, k: usize, p: usize) -> usize
@@ -113,7 +15,7 @@ pub fn first_broken(s: &[u8], n: usize, k: usize, p: usize) -> usize
     let mut from = 0;
     let mut i = 0;
     while i < p {
-        if is_broken(read_row(s, from, n, k)) {
+        if spellings::is_broken(spellings::read_row(s, from, n, k)) {
             return i;
         }
         from += w;
@@ -134,15 +36,15 @@ pub fn fill(
 )
     requires { ⌜ (n ≤ 16) × (k ≤ 15) × (p ≤ 512) ⌝ }
     requires { ⌜ (p ≤ length (now masks)) × (p ≤ length (now values)) × (p ≤ length (now words)) ⌝ }
-    ensures { λ _. ⌜ now (masks .exit) ≡ over (tab p (fieldOf maskIn (now (s .entry)) n k)) (now (masks .entry)) ⌝ }
-    ensures { λ _. ⌜ now (values .exit) ≡ over (tab p (fieldOf valuesIn (now (s .entry)) n k)) (now (values .entry)) ⌝ }
-    ensures { λ _. ⌜ now (words .exit) ≡ over (tab p (fieldOf wordIn (now (s .entry)) n k)) (now (words .entry)) ⌝ }
+    ensures { λ _. ⌜ now (masks .exit) ≡ over (tab p (fieldOf maskPart (now (s .entry)) n k)) (now (masks .entry)) ⌝ }
+    ensures { λ _. ⌜ now (values .exit) ≡ over (tab p (fieldOf valuesPart (now (s .entry)) n k)) (now (values .entry)) ⌝ }
+    ensures { λ _. ⌜ now (words .exit) ≡ over (tab p (fieldOf wordPart (now (s .entry)) n k)) (now (words .entry)) ⌝ }
 {
     let w = n + k + 2;
     let mut from = 0;
     let mut i = 0;
     while i < p {
-        let r = row_or(read_row(s, from, n, k));
+        let r = spellings::row_or(spellings::read_row(s, from, n, k));
         masks[i] = r.mask;
         values[i] = r.values;
         words[i] = r.word;
@@ -181,9 +83,9 @@ pub fn first_fault(s: &[u8], n: usize, k: usize, p: usize) -> usize
         return f;
     }
     let e = p * (n + k + 2);
-    let a = headings::byte(s, e);
-    let b = headings::byte(s, e + 1);
-    let c = headings::byte(s, e + 2);
+    let a = headlines::byte(s, e);
+    let b = headlines::byte(s, e + 1);
+    let c = headlines::byte(s, e + 2);
     end_of(a, b, c, s.len(), e + 3, p)
 }
 
@@ -200,9 +102,9 @@ pub fn read_rows(
     requires { ⌜ (n ≤ 16) × (k ≤ 15) × (p ≤ 512) ⌝ }
     requires { ⌜ (p ≤ length (now masks)) × (p ≤ length (now values)) × (p ≤ length (now words)) ⌝ }
     ensures { λ r. ⌜ r ≡ faultOf (now (s .entry)) n k p ⌝ }
-    ensures { λ r. ⌜ now (masks .exit) ≡ filledOf r p (fieldOf maskIn (now (s .entry)) n k) (now (masks .entry)) ⌝ }
-    ensures { λ r. ⌜ now (values .exit) ≡ filledOf r p (fieldOf valuesIn (now (s .entry)) n k) (now (values .entry)) ⌝ }
-    ensures { λ r. ⌜ now (words .exit) ≡ filledOf r p (fieldOf wordIn (now (s .entry)) n k) (now (words .entry)) ⌝ }
+    ensures { λ r. ⌜ now (masks .exit) ≡ filledOf r p (fieldOf maskPart (now (s .entry)) n k) (now (masks .entry)) ⌝ }
+    ensures { λ r. ⌜ now (values .exit) ≡ filledOf r p (fieldOf valuesPart (now (s .entry)) n k) (now (values .entry)) ⌝ }
+    ensures { λ r. ⌜ now (words .exit) ≡ filledOf r p (fieldOf wordPart (now (s .entry)) n k) (now (words .entry)) ⌝ }
 {
     let fault = first_fault(s, n, k, p);
     if fault != p + 2 {

@@ -3,33 +3,28 @@
 -- here: that what is written is accepted (`Again`). Assumes nothing.
 use mathlib.Core.Path.{_≡_, refl, sym, ap, ap₂, _∙_}
 use mathlib.Core.Bool.{Bool, true, false, not, cond}
-use mathlib.Core.List.{List, [], _∷_, _++_, append-assoc, append-nil}
-use Prim.Native.Nat.{ℕ, zero, suc, _+_, _-_, _≤_, _<_}
-use native.Mathlib.Decide.{decLt}
-use native.Mathlib.Nat.{zero-add}
+use mathlib.Core.List.{List, [], _++_, append-assoc, append-nil}
+use Prim.Native.Nat.{ℕ, suc, _+_, _≤_, _<_}
 use native.Mathlib.Numerals.{add-one}
 use native.Mathlib.Omega.{arith}
-use borrow.Author.Tests.{lt-ltb, le-ltb, eq-eqb, eqb-true, ltb-false, not-false}
-use lib.Dec.{eqb, ltb}
+use borrow.Author.Tests.{eq-eqb, ltb-false, not-false}
+use lib.Dec.{ltb}
 use lib.ListN.{length, drop}
-use Rattle.slices.specs.Places.{tab, first}
-use Rattle.slices.specs.Least.{first-is, first-le, first-below}
-use Rattle.slices.specs.Filled.{tab-cong, tab-list, length-tab, tab-at}
+use Rattle.slices.specs.Least.{first-below}
+use Rattle.slices.specs.Filled.{tab-cong, length-tab, tab-at}
 use Rattle.block.specs.Words.{row}
 use Rattle.block.specs.Refusals.{answer, verdict, carried, outside, badRow, rowAt}
-use Rattle.block.specs.Text.{headLine, rowLine, rowLines, endLine, textOf, equal, lineAt, numberPart, headForm, rowForm, rowOn, due, headNumber, faulty, readVerdict, readText, rowsIn}
+use Rattle.block.specs.Text.{headLine, rowLines, endLine, textOf, lineAt, rowForm, rowOn, due, headNumber, faulty, readVerdict, readText, rowsIn}
 use Rattle.block.specs.declared.Row.{Row}
-use Rattle.block.specs.declared.Answer.{Answer}
 use Rattle.block.specs.declared.ReadAnswer.{ReadAnswer}
 use Rattle.checks.specs.Sizes.{inside}
 use Rattle.rowtext.specs.Length.{text-le}
-use Rattle.lines.specs.Tests.{equal-true, equal-same}
-use Rattle.lines.specs.Front.{start, front, line-front, line-add}
-use Rattle.lines.specs.HeadLines.{form-written, written-form}
+use Rattle.lines.specs.Tests.{equal-true}
+use Rattle.lines.specs.Front.{start, line-front, line-add}
+use Rattle.lines.specs.HeadLines.{form-written}
 use Rattle.lines.specs.Whole.{row-due, end-due, past-due}
-use Rattle.lines.specs.Numerals.{valueOf}
-use Rattle.texts.specs.Rows.{form-row, row-form}
-use Rattle.texts.specs.Written.{line-0, line-1, line-2, line-row, line-end, line-past, line-apart, rows-apart, empty-front}
+use Rattle.texts.specs.Rows.{form-row}
+use Rattle.texts.specs.Written.{line-apart, rows-apart, empty-front}
 
 -- n, k and the number of rows are in range, and the room holds the rows
 pub record Within (n k p room : ℕ) : Type 0 where

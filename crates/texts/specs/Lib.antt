@@ -1,8 +1,10 @@
--- Row text: `Rows` has a row's line, written and read; `Written` the lines of a written text; `Accepted` and `Again` when a
--- text is accepted, and both round trips; `Refused` when line A is refused; `Prefix` that 8,192 bytes decide.
+-- Row text: `Rows` has a row's line, written and read; `Written` the lines of a written text, and the text that lines make up; `Accepted`
+-- and `Again` when a text is accepted, and both round trips; `Refused` when line A is refused; `Prefix` that 8,192 bytes decide; `Unique` that the
+-- reader's answer is known from its numbers.
 pub mod Rows
 pub mod Written
 pub mod Accepted
 pub mod Again
 pub mod Refused
 pub mod Prefix
+pub mod Unique

@@ -1,30 +1,31 @@
 -- What lies beyond the first 8,192 bytes of a text changes no answer (`first-bytes`): a line that is due is at most 33 bytes, so the
 -- first line that is not, or the end, shows itself before that. Assumes nothing.
-use mathlib.Core.Path.{_≡_, refl, sym, ap, ap₂, _∙_}
+use mathlib.Core.Path.{_≡_, refl, sym, ap, _∙_}
 use mathlib.Core.Bool.{Bool, true, false, not, cond}
 use mathlib.Core.List.{List, [], _∷_}
 use Prim.Native.Nat.{ℕ, zero, suc, _+_, _-_, _*_, _≤_, _<_}
 use native.Mathlib.Decide.{decLt, decLe}
 use native.Mathlib.Nat.{zero-add, suc-add}
 use native.Mathlib.Omega.{arith}
-use borrow.Author.Tests.{lt-ltb, le-ltb, not-false}
+use borrow.Author.Tests.{lt-ltb, not-false}
 use lib.Dec.{eqb, ltb}
 use lib.ListN.{length, take, drop}
 use lib.Seq.{take-all, take-nil, length-take-le}
 use Rattle.slices.specs.Places.{first}
 use Rattle.slices.specs.Least.{first-le, first-below, first-cong, first-same}
 use Rattle.block.specs.Refusals.{answer, verdict, carried, outside}
-use Rattle.block.specs.Text.{endLine, equal, lineAt, numberPart, headForm, due, headNumber, faulty, readVerdict, readText}
+use Rattle.block.specs.Text.{endLine, lineAt, numberPart, headForm, due, headNumber, faulty, readVerdict, readText}
 use Rattle.block.specs.declared.Answer.{Answer}
 use Rattle.block.specs.declared.ReadAnswer.{ReadAnswer}
 use Rattle.checks.specs.Sizes.{inside}
 use Rattle.rowtext.specs.Length.{heading-le}
-use Rattle.lines.specs.Tests.{not-both, equal-true}
+use Rattle.lines.specs.Tests.{equal-true}
 use Rattle.lines.specs.Front.{front, start, line-front}
 use Rattle.lines.specs.HeadLines.{form-written}
 use Rattle.lines.specs.Numerals.{valueOf}
 use Rattle.lines.specs.RowLines.{row-length}
 use Rattle.lines.specs.Whole.{row-due, end-due, past-due}
+use Rattle.texts.specs.Accepted.{accepted-le}
 
 -- ---- the lines of a text that is cut off
 
@@ -242,3 +243,10 @@ module _ (text : List ℕ) (room : ℕ) where
           (first (5 + p) (λ i. not (due n k p i (lineAt cutText i)))) (line-kept n k p))
           ∙ renamed cutText (faulty text 3) (faulty cutText 3) n (headNumber cutText 0) k (headNumber cutText 1) p (headNumber cutText 2) heads-kept
           (sym (numbers-kept f 0 (omega arith))) (sym (numbers-kept f 1 (omega arith))) (sym (numbers-kept f 2 (omega arith)))
+
+-- a text whose first 8,192 bytes are accepted ends within them
+pub accepted-whole : (text : List ℕ) (room : ℕ) → readVerdict (take 8192 text) room .number ≡ 0 → take 8192 text ≡ text
+unfolding readText
+accepted-whole text room e =
+    let z : readVerdict text room .number ≡ 0 = ap (λ (a : ReadAnswer). a .number) (first-bytes text room) ∙ e in
+    take-all 8192 text (omega (arith, accepted-le text room z))

@@ -1,11 +1,11 @@
 -- When a text is refused with 10 at line A: exactly when line A is not of the form due there and every earlier line is, and the line is
--- looked at: a heading always, another line where n, k, the number of rows and the room are in range (`ten-when`, `ten-only`). Lines
+-- looked at: a heading always, another line where n, k, the number of rows and the room are in range (`ten-exactly`). Lines
 -- are counted from 0 here and A from 1. Assumes nothing.
 use mathlib.Core.Path.{_≡_, refl, sym, ap, _∙_}
 use mathlib.Core.Bool.{Bool, true, false, not, cond}
 use mathlib.Core.List.{List}
-use mathlib.Core.Logic.{_⊎_, inl, inr}
-use Prim.Native.Nat.{ℕ, suc, _+_, _≤_, _<_}
+use mathlib.Core.Logic.{_⊎_, _↔_, inl, inr}
+use Prim.Native.Nat.{ℕ, suc, _+_, _<_}
 use native.Mathlib.Decide.{decLt}
 use native.Mathlib.Omega.{arith}
 use borrow.Author.Tests.{lt-ltb, le-ltb, ltb-true, ltb-false, not-true, not-false}
@@ -95,3 +95,13 @@ ten-only text room e =
           inr (record { inputs = inside 1 16 n s; outputs = inside 1 15 k t; count = inside 1 128 p u; enough = ltb-false room p v }, l),
         )
     go false false false false false false r s t u v w e = absurd (omega arith)
+
+pub ten-exactly : (text : List ℕ) (room i : ℕ) → (readVerdict text room ≡ answer 10 (suc i) 0) ↔ (FirstFault text i × Looked text room i)
+ten-exactly text room i = (λ e. only e, λ (f, s). ten-when text room i f s)
+  where
+    only : readVerdict text room ≡ answer 10 (suc i) 0 → FirstFault text i × Looked text room i
+    only e =
+        let r = ten-only text room (ap (λ (a : Answer). a .number) e) in
+        let s = ap (λ (a : Answer). a .a) (sym (r .1) ∙ e) in
+        let q : r .0 ≡ i = omega arith in
+        (rw q at (r .2), rw q at (r .3))

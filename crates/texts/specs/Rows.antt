@@ -3,22 +3,21 @@
 use mathlib.Core.Path.{_≡_, refl, sym, ap, ap₂, _∙_}
 use mathlib.Core.Bool.{Bool, true, false, not, cond, _&&_, _||_}
 use mathlib.Core.List.{List, [], _∷_, _++_, append-assoc}
-use Prim.Native.Nat.{ℕ, zero, suc, _+_, _-_, _*_, _/_, _%_, _^_, _≤_, _<_, min}
+use Prim.Native.Nat.{ℕ, zero, suc, _+_, _*_, _%_, _^_, _≤_, _<_, min}
 use native.Mathlib.Decide.{decLt}
 use native.Mathlib.Nat.{mod-eq-of-lt, add-mul, mul-assoc}
 use native.Mathlib.Numerals.{add-one, one-add}
 use native.Mathlib.Omega.{arith}
-use borrow.Author.Tests.{lt-ltb, eq-eqb, ne-eqb, eqb-true, eqb-false, ltb-true, not-true, not-false}
+use borrow.Author.Tests.{lt-ltb, eq-eqb, eqb-true, ltb-true}
 use lib.Bits.{bitAnd, and-lt}
 use lib.Dec.{eqb, ltb}
-use lib.ListN.{length, take, drop, length-append, length-drop, take-append-drop, List·getD-append}
-use lib.Pow.{pow-pos, mod-pow-add}
+use lib.ListN.{length, take, drop, length-append, length-drop, take-append-drop}
+use lib.Pow.{mod-pow-add}
 use lib.Seq.{length-take-le, drop-cons, take-at, drop-at, getD-at, getD-drop, getD-append-add}
 use Rattle.bits.specs.Digits.{bit}
 use Rattle.bits.specs.Bit.{bit-lt, bit-ext, bit-and, bit-low, bit-high}
 use Rattle.sums.specs.Sums.{one}
 use Rattle.slices.specs.Places.{at}
-use Rattle.block.specs.Words.{row}
 use Rattle.block.specs.Refusals.{badRow}
 use Rattle.block.specs.Text.{symbols, bits, rowLine, every, spelled, rowForm, rowOn}
 use Rattle.block.specs.declared.Row.{Row}

@@ -1,25 +1,20 @@
 -- The lines of a text that was written, and the text that lines make up: `written-lines` and `made-up`. Assumes nothing.
 use mathlib.Core.Path.{_≡_, refl, sym, ap, ap₂, _∙_}
-use mathlib.Core.Bool.{Bool, true, false, not, cond}
+use mathlib.Core.Bool.{Bool, true, false, cond}
 use mathlib.Core.List.{List, [], _∷_, _++_, append-assoc, append-nil}
-use Prim.Native.Nat.{ℕ, zero, suc, _+_, _-_, _*_, _≤_, _<_}
+use Prim.Native.Nat.{ℕ, zero, suc, _+_, _<_}
 use native.Mathlib.Nat.{zero-add, add-zero, suc-add}
-use native.Mathlib.Numerals.{add-one}
 use native.Mathlib.Omega.{arith}
-use borrow.Author.Tests.{ne-eqb, eqb-true}
 use lib.Dec.{eqb}
-use lib.ListN.{length, drop, length-append, List·getD-append}
+use lib.ListN.{length, drop, List·getD-append}
 use lib.Seq.{drop-at, drop-drop}
 use Rattle.slices.specs.Places.{at, tab}
-use Rattle.slices.specs.Filled.{tab-suc, tab-zero}
 use Rattle.block.specs.Refusals.{badRow, rowAt}
 use Rattle.block.specs.Text.{decimal, symbols, bits, headLine, rowLine, rowLines, endLine, textOf, lines, lineAt, rowForm, rowOn}
 use Rattle.block.specs.declared.Row.{Row}
 use Rattle.puts.specs.Puts.{lines-append}
-use Rattle.lines.specs.Tests.{both, every-at, every-all, every-append}
-use Rattle.lines.specs.Front.{front, start, line-first, line-next, line-front, front-rest, Stands, stands-front, noLF}
+use Rattle.lines.specs.Front.{front, start, line-first, line-next, line-front, front-rest, stands-front, noLF}
 use Rattle.lines.specs.HeadLines.{heading-noLF}
-use Rattle.lines.specs.RowLines.{symbolTest, bitTest, symbol-noLF, bit-symbol}
 use Rattle.texts.specs.Rows.{form-row, row-noLF}
 
 -- ---- a line, cut off

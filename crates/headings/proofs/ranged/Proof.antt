@@ -1,5 +1,4 @@
 -- `headings::ranged` meets its contract: each return is the case of `rangedOf` that the tests on the way lead to. Assumes nothing.
-use native.Mathlib.Omega.{arith}
 use borrow.Author.Needs.{needs}
 use borrow.Author.Tests.{lt-ltb, le-ltb}
 use Rattle.lines.specs.ByPlace.{rangedOf}
@@ -34,30 +33,12 @@ returns-4 : tie.Need-returns-4
 unfolding rangedOf
 returns-4 c = (search (lt-ltb, le-ltb), rw (c .stop4 .ensures) tt)
 
-stop-requires-5 : tie.Need-stop-requires-5
-stop-requires-5 c κs = search needs
+counted-requires : tie.Need-counted-requires
+counted-requires c κs = search needs
 
 returns-5 : tie.Need-returns-5
 unfolding rangedOf
-returns-5 c = (search (lt-ltb, le-ltb), rw (c .stop5 .ensures) tt)
-
-stop-requires-6 : tie.Need-stop-requires-6
-stop-requires-6 c κs = search needs
-
-returns-6 : tie.Need-returns-6
-unfolding rangedOf
-returns-6 c = (search (lt-ltb, le-ltb), rw (c .stop6 .ensures) tt)
-
-stop-requires-7 : tie.Need-stop-requires-7
-stop-requires-7 c κs = search needs
-
-returns-7 : tie.Need-returns-7
-unfolding rangedOf
-returns-7 c = (search (lt-ltb, le-ltb), rw (c .stop7 .ensures) tt)
-
-returns-8 : tie.Need-returns-8
-unfolding rangedOf
-returns-8 c = (search (lt-ltb, le-ltb), omega arith)
+returns-5 c = (rw (le-ltb _ _ (c .before .before .before .before .if1 .left), le-ltb _ _ (c .before .before .before .if2 .left), le-ltb _ _ (c .before .before .if3 .left), le-ltb _ _ (c .before .if4 .left)) (c .counted .ensures .0), c .counted .ensures .1)
 
 pub ranged-spec : {M : Type 1} → statement M
 ranged-spec =
@@ -71,10 +52,5 @@ ranged-spec =
     returns-3
     stop-requires-4
     returns-4
-    stop-requires-5
-    returns-5
-    stop-requires-6
-    returns-6
-    stop-requires-7
-    returns-7
-    returns-8)
+    counted-requires
+    returns-5)

@@ -1,7 +1,7 @@
 -- `puts::places` meets its contract. The loop's invariant: the digits counted, but for one, and those of the rest are all digits, and
 -- the rest is below the power of ten that the digits not counted allow. The measure is the rest. Assumes nothing.
-use Prim.Native.Nat.{ℕ, suc, _+_, _-_, _^_, _≤_, _<_}
-use mathlib.Core.Path.{_≡_, refl, ap}
+use Prim.Native.Nat.{suc, _+_, _-_, _^_, _≤_, _<_}
+use mathlib.Core.Path.{_≡_}
 use native.Mathlib.Omega.{arith}
 use lib.ListN.{length}
 use Rattle.puts.specs.Digits.{places-turn, places-one}

@@ -1,13 +1,13 @@
 -- `puts::put_decimal` meets its contract. The loop's invariant: the digits that are left, stored in what is there, give what all
 -- digits, stored at entry, give. The measure is the number of digits left. Assumes nothing.
-use Prim.Native.Nat.{ℕ, _≤_, _-_, _%_}
+use Prim.Native.Nat.{_≤_}
 use mathlib.Core.Path.{_≡_, refl, sym, ap, _∙_}
 use native.Mathlib.Omega.{arith}
 use borrow.Author.Needs.{needs}
 use denote.Ref.{now}
 use lib.ListN.{length, length-set}
 use lib.Seq.{sets}
-use Rattle.puts.specs.Digits.{lastDigits, length-last, last-down, decimal-last}
+use Rattle.puts.specs.Digits.{lastDigits, last-down, decimal-last}
 use Rattle.puts.proofs.put_decimal.Tie as tie
 use Rattle.puts.proofs.put_decimal.Statement.{statement}
 

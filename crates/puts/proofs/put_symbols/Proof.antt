@@ -1,7 +1,7 @@
 -- `puts::put_symbols` meets its contract. The loop's invariant: the symbols that are left, stored in what is there, give what all
 -- symbols, stored at entry, give. The measure is the number of symbols left. Assumes nothing.
-use Prim.Native.Nat.{ℕ, _≤_, _-_}
-use mathlib.Core.Path.{_≡_, refl, sym, ap, _∙_}
+use Prim.Native.Nat.{_≤_}
+use mathlib.Core.Path.{_≡_, refl, sym, _∙_}
 use native.Mathlib.Omega.{arith}
 use borrow.Author.Needs.{needs}
 use lib.ListN.{length, length-set}

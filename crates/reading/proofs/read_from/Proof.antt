@@ -1,7 +1,6 @@
 -- `reading::read_from` meets its contract: what the headings give leads to the case of `readingOf` and `afterOf`, and the part of the text
 -- from the cursor on is the rest. Assumes nothing.
-use Prim.Native.Nat.{ℕ}
-use mathlib.Core.Path.{_≡_, refl, sym, ap, _∙_, subst}
+use mathlib.Core.Path.{refl, subst}
 use native.Mathlib.Omega.{arith}
 use borrow.Author.Needs.{needs}
 use denote.Ref.{now}

@@ -1,13 +1,13 @@
 -- `reading::read_text` meets its contract: the answer by place, and the slices after it, are the meaning's by the laws of the crate lines.
 -- Assumes nothing.
-use Prim.Native.Nat.{ℕ, min}
-use mathlib.Core.Path.{_≡_, refl, sym, ap, _∙_}
+use Prim.Native.Nat.{min}
+use mathlib.Core.Path.{_≡_, ap, _∙_}
 use native.Mathlib.Omega.{arith}
 use borrow.Author.Needs.{needs}
 use denote.Ref.{now}
 use lib.ListN.{length}
 use Rattle.block.specs.Text.{numbers}
-use Rattle.lines.specs.ByPlace.{maskIn, valuesIn, wordIn}
+use Rattle.lines.specs.ByPlace.{maskPart, valuesPart, wordPart}
 use Rattle.lines.specs.Answers.{numbers-read, after-read}
 use Rattle.reading.proofs.read_text.Statement.{statement}
 use Rattle.reading.proofs.read_text.Tie as tie
@@ -38,10 +38,10 @@ returns c =
     rw (← e) (
       ap numbers (r .0) ∙ numbers-read (now (a .text)) _,
       (
-        r .1 .0 ∙ after-read (now (a .text)) _ maskIn (now (a .masks)),
+        r .1 .0 ∙ after-read (now (a .text)) _ maskPart (now (a .masks)),
         (
-          r .1 .1 .0 ∙ after-read (now (a .text)) _ valuesIn (now (a .values)),
-          r .1 .1 .1 ∙ after-read (now (a .text)) _ wordIn (now (a .words)),
+          r .1 .1 .0 ∙ after-read (now (a .text)) _ valuesPart (now (a .values)),
+          r .1 .1 .1 ∙ after-read (now (a .text)) _ wordPart (now (a .words)),
         ),
       ),
     )

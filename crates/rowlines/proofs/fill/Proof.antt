@@ -1,6 +1,6 @@
 -- `rowlines::fill` meets its contract. The loop's invariant: the fields of the first i rows lie over each slice, and the next row starts
 -- at its place. The measure is the number of rows left. Assumes nothing.
-use Prim.Native.Nat.{ℕ, _+_, _*_, _-_, _≤_, _<_}
+use Prim.Native.Nat.{_+_, _*_, _-_, _≤_}
 use mathlib.Core.Path.{_≡_, refl, ap, _∙_}
 use native.Mathlib.Omega.{arith}
 use borrow.Author.Needs.{needs}
@@ -8,7 +8,7 @@ use denote.Ref.{now}
 use lib.ListN.{length, length-set}
 use Rattle.rowlines.specs.Bounds.{place-below}
 use Rattle.slices.specs.Filled.{over-none, over-more}
-use Rattle.lines.specs.ByPlace.{rowFrom, rowOr, lineOf, fieldOf, maskIn, valuesIn, wordIn}
+use Rattle.lines.specs.ByPlace.{rowFrom, rowOr, lineOf, fieldOf, maskPart, valuesPart, wordPart}
 use Rattle.slices.specs.Places.{tab, over}
 use Rattle.rowlines.proofs.fill.Statement.{statement}
 use Rattle.rowlines.proofs.fill.Tie as tie
@@ -16,9 +16,9 @@ use Rattle.rowlines.proofs.fill.Tie as tie
 abbrev Inv-loop : tie.InvT-loop
 Inv-loop s n k p masks₀ values₀ words₀ w from₀ i₀ masks values words from i =
     (i ≤ p) × (from ≡ i * (n + k + 2))
-    × (masks ≡ over (tab i (fieldOf maskIn s n k)) masks₀)
-    × (values ≡ over (tab i (fieldOf valuesIn s n k)) values₀)
-    × (words ≡ over (tab i (fieldOf wordIn s n k)) words₀)
+    × (masks ≡ over (tab i (fieldOf maskPart s n k)) masks₀)
+    × (values ≡ over (tab i (fieldOf valuesPart s n k)) values₀)
+    × (words ≡ over (tab i (fieldOf wordPart s n k)) words₀)
     × (length masks ≡ length masks₀) × (length values ≡ length values₀) × (length words ≡ length words₀)
 
 abbrev μ-loop : tie.MeasureT-loop
@@ -75,9 +75,9 @@ loop-again c =
     c .row-or .ensures ∙ ap rowOr (c .before .read-row .ensures ∙ ap (rowFrom (now (a .s)) (a .n) (a .k)) (l .inv .1)) in (
       omega arith,
       omega arith,
-      over-more (l .i) (fieldOf maskIn (now (a .s)) (a .n) (a .k)) (now (a .masks)) (l .masks) (c .row-or .result .mask) (l .inv .2) (ap maskIn e) (omega arith),
-      over-more (l .i) (fieldOf valuesIn (now (a .s)) (a .n) (a .k)) (now (a .values)) (l .values) (c .row-or .result .values) (l .inv .3) (ap valuesIn e) (omega arith),
-      over-more (l .i) (fieldOf wordIn (now (a .s)) (a .n) (a .k)) (now (a .words)) (l .words) (c .row-or .result .word) (l .inv .4) (ap wordIn e) (omega arith),
+      over-more (l .i) (fieldOf maskPart (now (a .s)) (a .n) (a .k)) (now (a .masks)) (l .masks) (c .row-or .result .mask) (l .inv .2) (ap maskPart e) (omega arith),
+      over-more (l .i) (fieldOf valuesPart (now (a .s)) (a .n) (a .k)) (now (a .values)) (l .values) (c .row-or .result .values) (l .inv .3) (ap valuesPart e) (omega arith),
+      over-more (l .i) (fieldOf wordPart (now (a .s)) (a .n) (a .k)) (now (a .words)) (l .words) (c .row-or .result .word) (l .inv .4) (ap wordPart e) (omega arith),
       simp length-set (l .inv .5),
       simp length-set (l .inv .6),
       simp length-set (l .inv .7),

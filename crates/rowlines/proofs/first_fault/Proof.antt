@@ -1,5 +1,4 @@
 -- `rowlines::first_fault` meets its contract: the first broken row, or what the last line and the text's end say. Assumes nothing.
-use Prim.Native.Nat.{ℕ}
 use native.Mathlib.Omega.{arith}
 use borrow.Author.Needs.{needs}
 use borrow.Author.Tests.{lt-ltb, le-ltb}

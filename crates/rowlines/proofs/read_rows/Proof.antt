@@ -1,5 +1,4 @@
 -- `rowlines::read_rows` meets its contract: a faulty line leaves the slices alone, and where there is none they are filled. Assumes nothing.
-use mathlib.Core.Path.{sym}
 use borrow.Author.Needs.{needs}
 use borrow.Author.Tests.{eq-eqb}
 use Rattle.rowlines.specs.Bounds.{filled-not}

@@ -2,8 +2,8 @@
 use borrow.Author.Needs.{needs}
 use Rattle.puts.specs.Puts.{then}
 use Rattle.block.specs.Text.{headLine}
-use Rattle.rowtext.proofs.put_heading.Statement.{statement}
 use Rattle.rowtext.proofs.put_heading.Tie as tie
+use Rattle.rowtext.proofs.put_heading.Statement.{statement}
 
 put-byte-requires : tie.Need-put-byte-requires
 put-byte-requires c κs = search needs

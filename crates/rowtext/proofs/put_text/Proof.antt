@@ -4,12 +4,12 @@ use native.Mathlib.Omega.{arith}
 use borrow.Author.Needs.{needs}
 use denote.Ref.{now}
 use lib.ListN.{length}
-use Rattle.puts.specs.Puts.{then}
-use Rattle.block.specs.Text.{textOf}
-use Rattle.listing.specs.Listing.{rows-of, rows-count}
 use Rattle.rowtext.specs.Length.{headings-le, rows-le}
-use Rattle.rowtext.proofs.put_text.Tie as tie
+use Rattle.listing.specs.Listing.{rows-of, rows-count}
+use Rattle.block.specs.Text.{textOf}
+use Rattle.puts.specs.Puts.{then}
 use Rattle.rowtext.proofs.put_text.Statement.{statement}
+use Rattle.rowtext.proofs.put_text.Tie as tie
 
 put-headings-requires : tie.Need-put-headings-requires
 put-headings-requires c κs = search needs

@@ -1,8 +1,8 @@
--- `headings::number_at` meets its contract: the four bytes, and what they begin with. Assumes nothing.
+-- `headlines::number_at` meets its contract: the four bytes, and what they begin with. Assumes nothing.
 use borrow.Author.Needs.{needs}
 use Rattle.lines.specs.ByPlace.{numberAt}
-use Rattle.headings.proofs.number_at.Statement.{statement}
-use Rattle.headings.proofs.number_at.Tie as tie
+use Rattle.headlines.proofs.number_at.Statement.{statement}
+use Rattle.headlines.proofs.number_at.Tie as tie
 
 byte-requires : tie.Need-byte-requires
 byte-requires c κs = search needs

@@ -1,9 +1,9 @@
--- `headings::number_of` meets its contract: each return is the case of `numberOf` that the tests on the way lead to. Assumes nothing.
+-- `headlines::number_of` meets its contract: each return is the case of `numberOf` that the tests on the way lead to. Assumes nothing.
 use borrow.Author.Needs.{needs}
 use borrow.Author.Tests.{lt-ltb, le-ltb, eq-eqb, ne-eqb}
 use Rattle.lines.specs.ByPlace.{numberOf}
-use Rattle.headings.proofs.number_of.Tie as tie
-use Rattle.headings.proofs.number_of.Statement.{statement}
+use Rattle.headlines.proofs.number_of.Tie as tie
+use Rattle.headlines.proofs.number_of.Statement.{statement}
 
 ruleset tests = (lt-ltb, le-ltb, eq-eqb, ne-eqb)
 

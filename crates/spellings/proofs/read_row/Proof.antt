@@ -1,8 +1,8 @@
--- `rowlines::read_row` meets its contract: its four parts, joined. Assumes nothing.
+-- `spellings::read_row` meets its contract: its four parts, joined. Assumes nothing.
 use borrow.Author.Needs.{needs}
 use Rattle.lines.specs.ByPlace.{rowFrom}
-use Rattle.rowlines.proofs.read_row.Statement.{statement}
-use Rattle.rowlines.proofs.read_row.Tie as tie
+use Rattle.spellings.proofs.read_row.Statement.{statement}
+use Rattle.spellings.proofs.read_row.Tie as tie
 
 spelling-requires : tie.Need-spelling-requires
 spelling-requires c κs = search needs

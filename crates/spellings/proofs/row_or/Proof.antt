@@ -1,9 +1,9 @@
--- `rowlines::row_or` meets its contract by the line's two cases. Assumes nothing.
+-- `spellings::row_or` meets its contract by the line's two cases. Assumes nothing.
 use mathlib.Core.Path.{ap, sym}
 use borrow.Author.Needs.{needs}
 use Rattle.lines.specs.ByPlace.{rowOr}
-use Rattle.rowlines.proofs.row_or.Statement.{statement}
-use Rattle.rowlines.proofs.row_or.Tie as tie
+use Rattle.spellings.proofs.row_or.Statement.{statement}
+use Rattle.spellings.proofs.row_or.Tie as tie
 
 enum-told : tie.Need-enum-told
 enum-told c = search needs

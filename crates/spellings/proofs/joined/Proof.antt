@@ -1,9 +1,9 @@
--- `rowlines::joined` meets its contract: each return is the case of `joinedOf` that the tests on the way lead to. Assumes nothing.
+-- `spellings::joined` meets its contract: each return is the case of `joinedOf` that the tests on the way lead to. Assumes nothing.
 use borrow.Author.Needs.{needs}
 use borrow.Author.Tests.{eq-eqb, ne-eqb}
 use Rattle.lines.specs.ByPlace.{joinedOf}
-use Rattle.rowlines.proofs.joined.Statement.{statement}
-use Rattle.rowlines.proofs.joined.Tie as tie
+use Rattle.spellings.proofs.joined.Statement.{statement}
+use Rattle.spellings.proofs.joined.Tie as tie
 
 ruleset tests = (eq-eqb, ne-eqb)
 

@@ -1,11 +1,11 @@
--- `rowlines::step` meets its contract: each return is the case of `stepOf` that the tests on the way lead to. Assumes nothing.
+-- `spellings::step` meets its contract: each return is the case of `stepOf` that the tests on the way lead to. Assumes nothing.
 use mathlib.Core.Path.{ap}
 use native.Mathlib.Omega.{arith}
 use borrow.Author.Needs.{needs}
 use borrow.Author.Tests.{eq-eqb, ne-eqb}
 use Rattle.lines.specs.ByPlace.{stepOf, maskOf, valuesOf}
-use Rattle.rowlines.proofs.step.Statement.{statement}
-use Rattle.rowlines.proofs.step.Tie as tie
+use Rattle.spellings.proofs.step.Statement.{statement}
+use Rattle.spellings.proofs.step.Tie as tie
 
 ruleset tests = (eq-eqb, ne-eqb)
 

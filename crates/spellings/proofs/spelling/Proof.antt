@@ -1,4 +1,4 @@
--- `rowlines::spelling` meets its contract. The loop's invariant: what is spelled is what the first i symbols spell. The measure is the
+-- `spellings::spelling` meets its contract. The loop's invariant: what is spelled is what the first i symbols spell. The measure is the
 -- number of symbols left. Assumes nothing.
 use Prim.Native.Nat.{_≤_, _-_}
 use mathlib.Core.Path.{_≡_, refl}
@@ -6,10 +6,10 @@ use native.Mathlib.Numerals.{add-one}
 use native.Mathlib.Omega.{arith}
 use borrow.Author.Needs.{needs}
 use denote.Ref.{now}
-use Rattle.rowlines.specs.Bounds.{spelled-below}
+use Rattle.spellings.specs.Bounds.{spelled-below}
 use Rattle.lines.specs.ByPlace.{spelledAt}
-use Rattle.rowlines.proofs.spelling.Statement.{statement}
-use Rattle.rowlines.proofs.spelling.Tie as tie
+use Rattle.spellings.proofs.spelling.Statement.{statement}
+use Rattle.spellings.proofs.spelling.Tie as tie
 
 abbrev Inv-loop : tie.InvT-loop
 Inv-loop s from count free st₀ i₀ st i = (i ≤ count) × (st ≡ spelledAt s from free i)

@@ -1,0 +1,2 @@
+-- What symbols spell: `Bounds` has how large it can be.
+pub mod Bounds
