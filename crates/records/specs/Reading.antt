@@ -19,9 +19,8 @@ use Rattle.block.specs.declared.ReadAnswer.{ReadAnswer}
 use Rattle.block.specs.declared.Reading.{Reading}
 use Rattle.verdicts.specs.Verdicts.{answered-clear}
 use Rattle.checks.specs.Sizes.{inside}
-use Rattle.lines.specs.ByPlace.{maskIn, valuesIn, wordIn}
 use Rattle.records.specs.declared.FlatRows.{FlatRows}
-use Rattle.records.specs.Flat.{Sized}
+use Rattle.records.specs.Flat.{Sized, maskOf, valuesOf, wordOf}
 use Rattle.records.specs.Cut.{past}
 use Rattle.records.specs.Yielded.{Yielded, yields}
 
@@ -105,17 +104,17 @@ count-of text room = ap (λ (p : ℕ). carried (readVerdict text room) p) (sym (
 
 pub read-yields : (text : List ℕ) (m room : ℕ) (f : FlatRows) (r : Reading) (count : ℕ) (masks values words : List ℕ)
     → Sized f → m ≤ 513 → room ≡ m → numbers r ≡ readText text room → count ≡ numbers r .count
-    → masks ≡ stored (readVerdict text room) (map maskIn (rowsIn text)) (take m (f .masks))
-    → values ≡ stored (readVerdict text room) (map valuesIn (rowsIn text)) (take m (f .values))
-    → words ≡ stored (readVerdict text room) (map wordIn (rowsIn text)) (take m (f .words))
+    → masks ≡ stored (readVerdict text room) (map maskOf (rowsIn text)) (take m (f .masks))
+    → values ≡ stored (readVerdict text room) (map valuesOf (rowsIn text)) (take m (f .values))
+    → words ≡ stored (readVerdict text room) (map wordOf (rowsIn text)) (take m (f .words))
     → (numbers r ≡ readText text m)
     × Yielded (readVerdict text m) (rowsIn text) m (record { masks = masks ++ drop m (f .masks); values = values ++ drop m (f .values); words = words ++ drop m (f .words) }) count
 read-yields text m room f r count masks values words z h same e c e₁ e₂ e₃ = (
   told,
   yields (readVerdict text m) (rowsIn text) m count f masks values words z h (c ∙ ap (λ (x : ReadAnswer). x .count) told ∙ count-of text m)
-      (room-enough text m) (e₁ ∙ ap (λ (q : ℕ). stored (readVerdict text q) (map maskIn (rowsIn text)) (take m (f .masks))) same)
-      (e₂ ∙ ap (λ (q : ℕ). stored (readVerdict text q) (map valuesIn (rowsIn text)) (take m (f .values))) same)
-      (e₃ ∙ ap (λ (q : ℕ). stored (readVerdict text q) (map wordIn (rowsIn text)) (take m (f .words))) same),
+      (room-enough text m) (e₁ ∙ ap (λ (q : ℕ). stored (readVerdict text q) (map maskOf (rowsIn text)) (take m (f .masks))) same)
+      (e₂ ∙ ap (λ (q : ℕ). stored (readVerdict text q) (map valuesOf (rowsIn text)) (take m (f .values))) same)
+      (e₃ ∙ ap (λ (q : ℕ). stored (readVerdict text q) (map wordOf (rowsIn text)) (take m (f .words))) same),
 )
   where
     told : numbers r ≡ readText text m

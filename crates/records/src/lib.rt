@@ -1,5 +1,5 @@
 // The operations on lists of rows for a caller that lends the rows as records, one record a row (01, Words and numbers): a single shift
-// value, filling a table, and row text, written and read. Each takes any numbers and any slices, and answers or refuses as 01 says; its
+// value, the row method, filling a table, and row text, written and read. Each takes any numbers and any slices, and answers or refuses as 01 says; its
 // promise speaks of the records themselves. This crate holds the public operations with records, and beside them what they share: the
 // records are copied out once into three arrays, or copied in from them, and a function on the arrays lends these as flat slices to the
 // operation of the same name. A list of 513 rows is too long for every operation, so that no more rows are copied out.
@@ -8,13 +8,16 @@ use block::Kind;
 use block::ReadAnswer;
 use block::Reading;
 use block::Row;
+use block::RowMethodAnswer;
 use block::TextAnswer;
 use block::ValueAnswer;
 ghost use mathlib.Core.Path.{_≡_};
 ghost use Prim.Native.Nat.{_≤_, min};
 ghost use lib.ListN.{length};
+ghost use Rattle.block.specs.Words.{ofRows};
+ghost use Rattle.block.specs.Basis.{basisOf, sigmaOf};
 ghost use Rattle.block.specs.Refusals.{stored};
-ghost use Rattle.block.specs.Lists.{rowValue, fillVerdict, filled};
+ghost use Rattle.block.specs.Lists.{rowValue, rowMethodVerdict, rowMethod, smallerList, fillVerdict, filled};
 ghost use Rattle.block.specs.Text.{textOf, writeVerdict, writeText, readVerdict, readText, rowsIn, kindNumber, numbers};
 ghost use Rattle.records.specs.Flat.{Gathered, Scattered, Sized, listed};
 ghost use Rattle.records.specs.Yielded.{Yielded};
@@ -108,6 +111,109 @@ pub extern "C" fn row_value(n: usize, k: usize, t: usize, rows: &[Row]) -> Value
     let m = fits(rows.len());
     let flat = gather(rows, m);
     value_of(n, k, t, flat, m)
+}
+
+// ---- the row method
+
+// What the method gives: the smaller rows, their number, and the answer.
+struct SmallerRows {
+    flat: FlatRows,
+    count: usize,
+    answer: RowMethodAnswer,
+}
+
+// The smaller rows are stored in the first `room` places of the arrays.
+fn method_into(
+    n: usize,
+    k: usize,
+    w: usize,
+    flat: FlatRows,
+    m: usize,
+    smaller: FlatRows,
+    room: usize,
+    basis: &mut [u32],
+    sigma: &mut [u32],
+) -> SmallerRows
+    requires { ⌜ Sized flat × (m ≤ 513) × Sized smaller × (room ≤ 513) ⌝ }
+    ensures answer { λ r. ⌜ r .answer ≡ rowMethod n k w (listed flat m) (length (now (basis .entry))) (length (now (sigma .entry))) room ⌝ }
+    ensures basis { λ _. ⌜ now (basis .exit) ≡ stored (rowMethodVerdict n k w (listed flat m) (length (now (basis .entry))) (length (now (sigma .entry))) room) (basisOf (ofRows (listed flat m)) n w) (now (basis .entry)) ⌝ }
+    ensures sigma { λ _. ⌜ now (sigma .exit) ≡ stored (rowMethodVerdict n k w (listed flat m) (length (now (basis .entry))) (length (now (sigma .entry))) room) (sigmaOf (ofRows (listed flat m)) n w) (now (sigma .entry)) ⌝ }
+    ensures rows { λ r. ⌜ Yielded (rowMethodVerdict n k w (listed flat m) (length (now (basis .entry))) (length (now (sigma .entry))) room) (smallerList n w (listed flat m)) room (r .flat) (r .count) ⌝ }
+{
+    let masks = flat.masks;
+    let values = flat.values;
+    let words = flat.words;
+    let mut new_masks = smaller.masks;
+    let mut new_values = smaller.values;
+    let mut new_words = smaller.words;
+    let answer = lists::row_method(
+        n,
+        k,
+        w,
+        &masks[..m],
+        &values[..m],
+        &words[..m],
+        basis,
+        sigma,
+        &mut new_masks[..room],
+        &mut new_values[..room],
+        &mut new_words[..room],
+    );
+    let made = FlatRows {
+        masks: new_masks,
+        values: new_values,
+        words: new_words,
+    };
+    SmallerRows {
+        flat: made,
+        count: answer.count,
+        answer,
+    }
+}
+
+fn method_of(
+    n: usize,
+    k: usize,
+    w: usize,
+    flat: FlatRows,
+    m: usize,
+    room: usize,
+    basis: &mut [u32],
+    sigma: &mut [u32],
+) -> SmallerRows
+    requires { ⌜ Sized flat × (m ≤ 513) ⌝ }
+    ensures answer { λ r. ⌜ r .answer ≡ rowMethod n k w (listed flat m) (length (now (basis .entry))) (length (now (sigma .entry))) room ⌝ }
+    ensures basis { λ _. ⌜ now (basis .exit) ≡ stored (rowMethodVerdict n k w (listed flat m) (length (now (basis .entry))) (length (now (sigma .entry))) room) (basisOf (ofRows (listed flat m)) n w) (now (basis .entry)) ⌝ }
+    ensures sigma { λ _. ⌜ now (sigma .exit) ≡ stored (rowMethodVerdict n k w (listed flat m) (length (now (basis .entry))) (length (now (sigma .entry))) room) (sigmaOf (ofRows (listed flat m)) n w) (now (sigma .entry)) ⌝ }
+    ensures rows { λ r. ⌜ Yielded (rowMethodVerdict n k w (listed flat m) (length (now (basis .entry))) (length (now (sigma .entry))) room) (smallerList n w (listed flat m)) room (r .flat) (r .count) ⌝ }
+{
+    let places = fits(room);
+    let smaller = blank();
+    method_into(n, k, w, flat, m, smaller, places, basis, sigma)
+}
+
+// T, sigma, the smaller rows and both measures of a list, with weight limit w: the smaller rows are the first records of `smaller`, and
+// the others hold what they held. Refuses with 1, 2, 3 (w), 4, 5 (n numbers for each matrix, 512 rows), 6, 7 and 9.
+#[no_mangle]
+pub extern "C" fn row_method(
+    n: usize,
+    k: usize,
+    w: usize,
+    rows: &[Row],
+    basis: &mut [u32],
+    sigma: &mut [u32],
+    smaller: &mut [Row],
+) -> RowMethodAnswer
+    ensures answer { λ r. ⌜ r ≡ rowMethod n k w (now (rows .entry)) (length (now (basis .entry))) (length (now (sigma .entry))) (length (now (smaller .entry))) ⌝ }
+    ensures basis { λ _. ⌜ now (basis .exit) ≡ stored (rowMethodVerdict n k w (now (rows .entry)) (length (now (basis .entry))) (length (now (sigma .entry))) (length (now (smaller .entry)))) (basisOf (ofRows (now (rows .entry))) n w) (now (basis .entry)) ⌝ }
+    ensures sigma { λ _. ⌜ now (sigma .exit) ≡ stored (rowMethodVerdict n k w (now (rows .entry)) (length (now (basis .entry))) (length (now (sigma .entry))) (length (now (smaller .entry)))) (sigmaOf (ofRows (now (rows .entry))) n w) (now (sigma .entry)) ⌝ }
+    ensures smaller { λ _. ⌜ now (smaller .exit) ≡ stored (rowMethodVerdict n k w (now (rows .entry)) (length (now (basis .entry))) (length (now (sigma .entry))) (length (now (smaller .entry)))) (smallerList n w (now (rows .entry))) (now (smaller .entry)) ⌝ }
+{
+    let m = fits(rows.len());
+    let flat = gather(rows, m);
+    let done = method_of(n, k, w, flat, m, smaller.len(), basis, sigma);
+    scatter(done.flat, done.count, smaller);
+    done.answer
 }
 
 // ---- filling a table

@@ -4,7 +4,7 @@ use native.Mathlib.Omega.{arith}
 use borrow.Author.Needs.{needs}
 use denote.Ref.{now}
 use lib.ListN.{take}
-use Rattle.reading.specs.Cursor.{shortest}
+use Rattle.reading.specs.Storage.{shortest}
 use Rattle.records.specs.Flat.{lent}
 use Rattle.records.specs.Reading.{read-yields}
 use Rattle.records.proofs.read_into.Statement.{statement}
