@@ -1,0 +1,144 @@
+-- No operation looks beyond row 512: a list of more than 512 rows is refused by its number of rows, if not before, and so is the list
+-- of its first 513 rows. So each operation answers alike for the list and for its first 513 rows; the law is one, `cut-same`, and then
+-- it is said of each operation. Assumes nothing.
+use mathlib.Core.Path.{_≡_, refl, sym, ap, _∙_}
+use mathlib.Core.Bool.{Bool, true, false, not, _||_}
+use mathlib.Core.List.{List, [], _∷_, _++_}
+use Prim.Native.Nat.{ℕ, suc, _^_, _≤_, _<_}
+use native.Mathlib.Decide.{decLe}
+use native.Mathlib.Omega.{arith}
+use borrow.Author.Tests.{lt-ltb, le-ltb}
+use lib.Dec.{eqb, ltb}
+use lib.ListN.{length, take, length-take}
+use lib.Seq.{take-all}
+use Rattle.block.specs.Limits.{listInputs, tableInputs, givenRows, smallerRows, textRoom}
+use Rattle.block.specs.Words.{ofRows}
+use Rattle.block.specs.Measure.{shift, measure}
+use Rattle.block.specs.Basis.{smallerOf}
+use Rattle.block.specs.Refusals.{Check, check, verdict, answered, carried, stored, outside, sizeChecks}
+use Rattle.block.specs.Tables.{withValue}
+use Rattle.block.specs.Lists.{countCheck, badRowCheck, shareCheck, rowValueVerdict, rowValue, passing, methodChecks, rowMethodVerdict, rowMethod, smallerList, fillVerdict, filled}
+use Rattle.block.specs.Text.{withBytes, writeVerdict, writeText, textOf}
+use Rattle.block.specs.declared.Row.{Row}
+use Rattle.block.specs.declared.Answer.{Answer}
+use Rattle.verdicts.specs.Verdicts.{verdict-hit, verdict-miss, Numbered}
+
+-- what stands after a check that holds does not count
+pub past : (pre : List Check) (c : Check) (ds es : List Check) → c .holds ≡ true → verdict (pre ++ (c ∷ ds)) ≡ verdict (pre ++ (c ∷ es))
+past [] c ds es h = verdict-hit c ds h ∙ sym (verdict-hit c es h)
+past (p ∷ pre) c ds es h = go (past pre c ds es h) (p .holds) refl
+  where
+    go : verdict (pre ++ (c ∷ ds)) ≡ verdict (pre ++ (c ∷ es)) → (b : Bool) → p .holds ≡ b
+        → verdict (p ∷ (pre ++ (c ∷ ds))) ≡ verdict (p ∷ (pre ++ (c ∷ es)))
+    go ih true e = verdict-hit p (pre ++ (c ∷ ds)) e ∙ sym (verdict-hit p (pre ++ (c ∷ es)) e)
+    go ih false e = verdict-miss p (pre ++ (c ∷ ds)) e ∙ ih ∙ sym (verdict-miss p (pre ++ (c ∷ es)) e)
+
+-- with such a check there is a refusal
+refused : (pre : List Check) (c : Check) (ds : List Check) → Numbered pre → eqb (c .number) 0 ≡ false → c .holds ≡ true
+    → answered (verdict (pre ++ (c ∷ ds))) ≡ false
+refused [] c ds nn n h = ap answered (verdict-hit c ds h) ∙ n
+refused (p ∷ pre) c ds nn n h = go (refused pre c ds (nn .1) n h) (p .holds) refl
+  where
+    go : answered (verdict (pre ++ (c ∷ ds))) ≡ false → (b : Bool) → p .holds ≡ b
+        → answered (verdict (p ∷ (pre ++ (c ∷ ds)))) ≡ false
+    go ih true e = ap answered (verdict-hit p (pre ++ (c ∷ ds)) e) ∙ nn .0
+    go ih false e = ap answered (verdict-miss p (pre ++ (c ∷ ds)) e) ∙ ih
+
+too-many : (most : ℕ) (rs : List Row) → most < length rs → countCheck most rs ≡ check true 4 0 0
+too-many most rs h = rw (lt-ltb most (length rs) h, le-ltb (length rs) 1 (omega arith))
+
+-- an operation whose verdict comes of the checks `pre`, the number of rows, and checks `rest` of the rows; F is its answer, or what lent
+-- storage holds at the end, by the verdict and the rows, which do not count with a refusal
+module _ (pre : List Check) (most : ℕ) (rest : List Row → List Check) (numbered : Numbered pre) (few : most ≤ 512) where
+  abbrev pub verdictOf : List Row → Answer
+  verdictOf rs = verdict (pre ++ (countCheck most rs ∷ rest rs))
+
+  many : (rs : List Row) → most < length rs → verdictOf rs ≡ verdict (pre ++ (check true 4 0 0 ∷ []))
+  many rs h = ap (λ (c : Check). verdict (pre ++ (c ∷ rest rs))) (too-many most rs h) ∙ past pre (check true 4 0 0) (rest rs) [] refl
+
+  pub cut-same : {X : Type 0} (F : Answer → List Row → X) → ((v : Answer) (l m : List Row) → answered v ≡ false → F v l ≡ F v m)
+      → (rs : List Row) → F (verdictOf (take 513 rs)) (take 513 rs) ≡ F (verdictOf rs) rs
+  cut-same F alike rs = go (decLe (length rs) 513)
+    where
+      go : Dec (length rs ≤ 513) → F (verdictOf (take 513 rs)) (take 513 rs) ≡ F (verdictOf rs) rs
+      go (yes h) = ap (λ (l : List Row). F (verdictOf l) l) (take-all 513 rs h)
+      go (no h) =
+          let v : Answer = verdict (pre ++ (check true 4 0 0 ∷ [])) in
+          ap (λ (u : Answer). F u (take 513 rs)) (many (take 513 rs) (omega (arith, length-take 513 rs)))
+          ∙ alike v (take 513 rs) rs (refused pre (check true 4 0 0) [] numbered refl refl)
+          ∙ sym (ap (λ (u : Answer). F u rs) (many rs (omega arith)))
+
+-- ---- a single shift value
+
+pub value-cut : (n k t : ℕ) (rs : List Row) → rowValue n k t (take 513 rs) ≡ rowValue n k t rs
+unfolding rowValue rowValueVerdict
+value-cut n k t =
+    cut-same (sizeChecks listInputs n k (check (not (ltb t (2 ^ n))) 3 0 0 ∷ [])) givenRows (λ l. badRowCheck n k l ∷ shareCheck n l ∷ [])
+    (refl, (refl, (refl, tt))) (omega arith) (λ v l. withValue v (shift (ofRows l) n t)) (λ v l m h. rw h)
+
+-- ---- filling a table
+
+module _ (n k room : ℕ) where
+  fill-alike : {X : Type 0} (F : Answer → List Row → X) → ((v : Answer) (l m : List Row) → answered v ≡ false → F v l ≡ F v m)
+      → (rs : List Row) → F (fillVerdict n k (take 513 rs) room) (take 513 rs) ≡ F (fillVerdict n k rs room) rs
+  unfolding fillVerdict
+  fill-alike =
+      cut-same (sizeChecks tableInputs n k []) smallerRows (λ l. check (ltb room (2 ^ n)) 5 0 0 ∷ badRowCheck n k l ∷ shareCheck n l ∷ [])
+      (refl, (refl, tt)) (omega arith)
+
+  pub fill-cut : (rs : List Row) → fillVerdict n k (take 513 rs) room ≡ fillVerdict n k rs room
+  fill-cut = fill-alike (λ v l. v) (λ v l m h. refl)
+
+  pub filled-cut : (table : List ℕ) (rs : List Row)
+      → stored (fillVerdict n k (take 513 rs) room) (filled n (take 513 rs)) table ≡ stored (fillVerdict n k rs room) (filled n rs) table
+  filled-cut table = fill-alike (λ v l. stored v (filled n l) table) (λ v l m h. rw h)
+
+-- ---- writing row text
+
+module _ (n k room : ℕ) where
+  write-alike : {X : Type 0} (F : Answer → List Row → X) → ((v : Answer) (l m : List Row) → answered v ≡ false → F v l ≡ F v m)
+      → (rs : List Row) → F (writeVerdict n k (take 513 rs) room) (take 513 rs) ≡ F (writeVerdict n k rs room) rs
+  unfolding writeVerdict
+  write-alike =
+      cut-same (sizeChecks listInputs n k []) givenRows (λ l. check (ltb room textRoom) 5 0 0 ∷ badRowCheck n k l ∷ []) (refl, (refl, tt))
+      (omega arith)
+
+  pub write-cut : (rs : List Row) → writeText n k (take 513 rs) room ≡ writeText n k rs room
+  unfolding writeText
+  write-cut = write-alike (λ v l. withBytes v (textOf n k l)) (λ v l m h. rw h)
+
+  pub written-cut : (out : List ℕ) (rs : List Row)
+      → stored (writeVerdict n k (take 513 rs) room) (textOf n k (take 513 rs)) out ≡ stored (writeVerdict n k rs room) (textOf n k rs) out
+  written-cut out = write-alike (λ v l. stored v (textOf n k l) out) (λ v l m h. rw h)
+
+-- ---- the row method, and the sheet; `short` says that the lent room is too short
+
+module _ (n k w : ℕ) (short : Bool) where
+  method-alike : {X : Type 0} (F : Answer → List Row → X) → ((v : Answer) (l m : List Row) → answered v ≡ false → F v l ≡ F v m)
+      → (rs : List Row) → F (verdict (methodChecks n k w (take 513 rs) short)) (take 513 rs) ≡ F (verdict (methodChecks n k w rs short)) rs
+  unfolding methodChecks
+  method-alike =
+      cut-same (sizeChecks listInputs n k (check (outside 1 n w) 3 0 0 ∷ [])) givenRows
+      (λ l. check short 5 0 0 ∷ badRowCheck n k l ∷ shareCheck n l ∷ check (ltb (passing n w l) n) 9 (suc (passing n w l)) 0 ∷ [])
+      (refl, (refl, (refl, tt))) (omega arith)
+
+module _ (n k w a b c : ℕ) where
+  pub method-cut : (rs : List Row) → rowMethod n k w (take 513 rs) a b c ≡ rowMethod n k w rs a b c
+  unfolding rowMethod rowMethodVerdict
+  method-cut =
+      method-alike n k w (ltb a n || (ltb b n || ltb c smallerRows)) (λ v l.
+      record {
+        number = v .number;
+        a = v .a;
+        b = v .b;
+        before = carried v (measure (ofRows l) n);
+        after = carried v (measure (smallerOf (ofRows l) n w) n);
+        count = carried v (length (smallerList n w l));
+      }) (λ v l m h. rw h)
+
+  -- S is a result of the method, by the rows
+  pub method-stored-cut : {X : Type 0} (S : List Row → List X) (before : List X) (rs : List Row)
+      → stored (rowMethodVerdict n k w (take 513 rs) a b c) (S (take 513 rs)) before ≡ stored (rowMethodVerdict n k w rs a b c) (S rs) before
+  unfolding rowMethodVerdict
+  method-stored-cut S before =
+      method-alike n k w (ltb a n || (ltb b n || ltb c smallerRows)) (λ v l. stored v (S l) before) (λ v l m h. rw h)
