@@ -15,6 +15,7 @@ ghost use Rattle.block.specs.Refusals.{stored};
 ghost use Rattle.block.specs.Tables.{tableValue, tableMethodVerdict, tableMethod, smallerTable, restoreVerdict, restored};
 ghost use Rattle.block.specs.Lists.{rowValue, rowMethodVerdict, rowMethod, smallerList, fillVerdict, filled};
 ghost use Rattle.block.specs.Text.{writeVerdict, writeText, textOf};
+ghost use Rattle.block.specs.Sheet.{sheet, sheetVerdict, sheetText};
 ghost use Rattle.block.specs.declared.Row.{Row};
 
 #[no_mangle]
@@ -134,4 +135,12 @@ pub extern "C" fn irwystl_write_text(
     ensures { λ _. ⌜ now (out .exit) ≡ stored (writeVerdict n k (rowsOf (now (masks .entry)) (now (values .entry)) (now (words .entry))) (length (now (out .entry)))) (textOf n k (rowsOf (now (masks .entry)) (now (values .entry)) (now (words .entry)))) (now (out .entry)) ⌝ }
 {
     writing::write_text(n, k, masks, values, words, out)
+}
+
+#[no_mangle]
+pub extern "C" fn irwystl_sheet(n: usize, k: usize, w: usize, masks: &[u32], values: &[u32], words: &[u32], out: &mut [u8]) -> TextAnswer
+    ensures { λ r. ⌜ r ≡ sheet n k w (rowsOf (now (masks .entry)) (now (values .entry)) (now (words .entry))) (length (now (out .entry))) ⌝ }
+    ensures { λ _. ⌜ now (out .exit) ≡ stored (sheetVerdict n k w (rowsOf (now (masks .entry)) (now (values .entry)) (now (words .entry))) (length (now (out .entry)))) (sheetText n k w (rowsOf (now (masks .entry)) (now (values .entry)) (now (words .entry)))) (now (out .entry)) ⌝ }
+{
+    sheets::sheet(n, k, w, masks, values, words, out)
 }
