@@ -11,7 +11,7 @@ use borrow.Author.Tests.{lt-ltb, le-ltb}
 use lib.Dec.{eqb, ltb}
 use lib.ListN.{length, take, length-take}
 use lib.Seq.{take-all}
-use Rattle.block.specs.Limits.{listInputs, tableInputs, givenRows, smallerRows, textRoom}
+use Rattle.block.specs.Limits.{listInputs, tableInputs, givenRows, smallerRows, textRoom, sheetRoom}
 use Rattle.block.specs.Words.{ofRows}
 use Rattle.block.specs.Measure.{shift, measure}
 use Rattle.block.specs.Basis.{smallerOf}
@@ -19,6 +19,7 @@ use Rattle.block.specs.Refusals.{Check, check, verdict, answered, carried, stor
 use Rattle.block.specs.Tables.{withValue}
 use Rattle.block.specs.Lists.{countCheck, badRowCheck, shareCheck, rowValueVerdict, rowValue, passing, methodChecks, rowMethodVerdict, rowMethod, smallerList, fillVerdict, filled}
 use Rattle.block.specs.Text.{withBytes, writeVerdict, writeText, textOf}
+use Rattle.block.specs.Sheet.{sheet, sheetVerdict, sheetText}
 use Rattle.block.specs.declared.Row.{Row}
 use Rattle.block.specs.declared.Answer.{Answer}
 use Rattle.verdicts.specs.Verdicts.{verdict-hit, verdict-miss, Numbered}
@@ -142,3 +143,14 @@ module _ (n k w a b c : ℕ) where
   unfolding rowMethodVerdict
   method-stored-cut S before =
       method-alike n k w (ltb a n || (ltb b n || ltb c smallerRows)) (λ v l. stored v (S l) before) (λ v l m h. rw h)
+
+module _ (n k w room : ℕ) where
+  pub sheet-cut : (rs : List Row) → sheet n k w (take 513 rs) room ≡ sheet n k w rs room
+  unfolding sheet sheetVerdict
+  sheet-cut = method-alike n k w (ltb room sheetRoom) (λ v l. withBytes v (sheetText n k w l)) (λ v l m h. rw h)
+
+  pub sheet-stored-cut : (out : List ℕ) (rs : List Row)
+      → stored (sheetVerdict n k w (take 513 rs) room) (sheetText n k w (take 513 rs)) out
+      ≡ stored (sheetVerdict n k w rs room) (sheetText n k w rs) out
+  unfolding sheetVerdict
+  sheet-stored-cut out = method-alike n k w (ltb room sheetRoom) (λ v l. stored v (sheetText n k w l) out) (λ v l m h. rw h)

@@ -1,5 +1,5 @@
 // The operations on lists of rows for a caller that lends the rows as records, one record a row (01, Words and numbers): a single shift
-// value, the row method, filling a table, and row text, written and read. Each takes any numbers and any slices, and answers or refuses as 01 says; its
+// value, the row method, filling a table, row text, written and read, and the sheet. Each takes any numbers and any slices, and answers or refuses as 01 says; its
 // promise speaks of the records themselves. This crate holds the public operations with records, and beside them what they share: the
 // records are copied out once into three arrays, or copied in from them, and a function on the arrays lends these as flat slices to the
 // operation of the same name. A list of 513 rows is too long for every operation, so that no more rows are copied out.
@@ -19,6 +19,7 @@ ghost use Rattle.block.specs.Basis.{basisOf, sigmaOf};
 ghost use Rattle.block.specs.Refusals.{stored};
 ghost use Rattle.block.specs.Lists.{rowValue, rowMethodVerdict, rowMethod, smallerList, fillVerdict, filled};
 ghost use Rattle.block.specs.Text.{textOf, writeVerdict, writeText, readVerdict, readText, rowsIn, kindNumber, numbers};
+ghost use Rattle.block.specs.Sheet.{sheet, sheetVerdict, sheetText};
 ghost use Rattle.records.specs.Flat.{Gathered, Scattered, Sized, listed};
 ghost use Rattle.records.specs.Yielded.{Yielded};
 
@@ -399,4 +400,28 @@ pub extern "C" fn read_numbers(text: &[u8], rows: &mut [Row]) -> ReadAnswer
     let read = read_numbers_of(text, rows.len());
     scatter(read.flat, read.count, rows);
     read.answer
+}
+
+// ---- the sheet
+
+fn sheet_of(n: usize, k: usize, w: usize, flat: FlatRows, m: usize, out: &mut [u8]) -> TextAnswer
+    requires { ⌜ Sized flat × (m ≤ 513) ⌝ }
+    ensures answer { λ r. ⌜ r ≡ sheet n k w (listed flat m) (length (now (out .entry))) ⌝ }
+    ensures text { λ _. ⌜ now (out .exit) ≡ stored (sheetVerdict n k w (listed flat m) (length (now (out .entry)))) (sheetText n k w (listed flat m)) (now (out .entry)) ⌝ }
+{
+    let masks = flat.masks;
+    let values = flat.values;
+    let words = flat.words;
+    sheets::sheet(n, k, w, &masks[..m], &values[..m], &words[..m], out)
+}
+
+// Writes the sheet of the rows with weight limit w to the front of out. Refuses with 1, 2, 3 (w), 4, 5 (17,518 bytes), 6, 7 and 9.
+#[no_mangle]
+pub extern "C" fn sheet(n: usize, k: usize, w: usize, rows: &[Row], out: &mut [u8]) -> TextAnswer
+    ensures answer { λ r. ⌜ r ≡ sheet n k w (now (rows .entry)) (length (now (out .entry))) ⌝ }
+    ensures text { λ _. ⌜ now (out .exit) ≡ stored (sheetVerdict n k w (now (rows .entry)) (length (now (out .entry)))) (sheetText n k w (now (rows .entry))) (now (out .entry)) ⌝ }
+{
+    let m = fits(rows.len());
+    let flat = gather(rows, m);
+    sheet_of(n, k, w, flat, m, out)
 }
