@@ -1,39 +1,39 @@
+-- `printlines::print_list` meets its contract: by the answer of the sheet, which the room is long enough for. Assumes nothing.
+use denote.Ref.{now}
+use Rattle.block.specs.Words.{rowsOf}
+use Rattle.printlines.specs.Printed.{list-refused, list-printed}
 use borrow.Author.Needs.{needs}
 use Rattle.printlines.proofs.print_list.Statement.{statement}
 use Rattle.printlines.proofs.print_list.Tie as tie
-use Rattle.printlines.proofs.print_list.Reads as reads
-use Rattle.printlines.proofs.print_list.Lts as lts
-use Rattle.printlines.proofs.put_refusal.Reads as put-refusal-reads
-use Rattle.printlines.proofs.weight_limit.Reads as weight-limit-reads
-use Rattle.sheets.proofs.sheet.Reads as sheet-reads
 
--- src/lib.rt:72:9
 weight-limit-requires : tie.Need-weight-limit-requires
 weight-limit-requires c κs = search needs
 
--- src/lib.rt:73:9
 sheet-requires : tie.Need-sheet-requires
 sheet-requires c κs = search needs
 
--- src/lib.rt:75:9
 put-refusal-requires : tie.Need-put-refusal-requires
 put-refusal-requires c κs = search needs
 
--- src/lib.rt:75:9
 same-length : tie.Need-same-length
 same-length c = search needs
 
--- src/lib.rt:75:9
 returns : tie.Need-returns
-returns c = ?
+returns c =
+    let a = c .before .before .before .before .before .before .before .before .before .before .before .before .before .before .before .args in
+    let s = c .before .before .before .before .before .before .before .before .sheet .ensures in
+    list-refused (a .n) (a .k) _ (rowsOf (now (a .masks)) (now (a .values)) (now (a .words))) (now (a .out)) _ _ (c .before .before .before .before .before .before .before .before .before .before .before .before .before .before .before .pre)
+    (c .before .before .before .before .before .before .before .before .before .before .weight-limit .ensures) (s .0) (s .1) _ _ (c .before .before .before .before .if1 .taken) (c .before .before .put-refusal .ensures .1) (c .before .before .put-refusal .ensures .0)
 
--- src/lib.rt:61:1
 same-length-2 : tie.Need-same-length-2
 same-length-2 c = search needs
 
--- src/lib.rt:61:1
 returns-2 : tie.Need-returns-2
-returns-2 c = ?
+returns-2 c =
+    let a = c .before .before .before .before .before .before .before .before .before .before .before .args in
+    let s = c .before .before .before .before .sheet .ensures in
+    list-printed (a .n) (a .k) _ (rowsOf (now (a .masks)) (now (a .values)) (now (a .words))) (now (a .out)) _ _ (c .before .before .before .before .before .before .before .before .before .before .before .pre)
+    (c .before .before .before .before .before .before .weight-limit .ensures) (s .0) (s .1) (c .if1 .left)
 
 pub print-list-spec : {M : Type 1} → statement M
 print-list-spec =
