@@ -12,7 +12,7 @@ use Rattle.slices.specs.Filled.{length-tab, tab-cong, tab-list}
 use Rattle.block.specs.Words.{row, rowsOf}
 use Rattle.block.specs.Refusals.{answer, stored}
 use Rattle.block.specs.Text.{readVerdict, readText, headNumber, rowsIn, kindNumber, numbers}
-use Rattle.block.specs.Sheet.{refusalLine, printedList, printed}
+use Rattle.block.specs.Sheet.{refusalLine, orRefused, printedList, printed}
 use Rattle.block.specs.declared.Row.{Row}
 use Rattle.block.specs.declared.Answer.{Answer}
 use Rattle.block.specs.declared.ReadAnswer.{ReadAnswer}
@@ -65,20 +65,21 @@ count-rows : (text : List ℕ) → length (rowsIn text) ≡ headNumber text 2
 unfolding rowsIn
 count-rows text = length-tab (headNumber text 2) _
 
-module _ (input : List ℕ) (reading : Reading) (answers : numbers reading ≡ readText (take 8192 input) 128) where
-  abbrev text : List ℕ
-  text = take 8192 input
-
+module _ (input text : List ℕ) (reading : Reading) (cut : text ≡ take 8192 input) (answers : numbers reading ≡ readText text 128) where
   abbrev u : Answer
   u = readVerdict text 128
 
+  by-text : printed input ≡ orRefused u (printedList (headNumber text 0) (headNumber text 1) (rowsIn text))
+  unfolding printed
+  by-text = rw cut
+
   -- the line of a refusal
   pub reader-refused : (f : Refusal) → reading ≡ Refused f → printed input ≡ refusalLine (answer (kindNumber (f .kind)) (f .a) (f .b))
-  unfolding printed readText
+  unfolding readText
   reader-refused f e =
       let q : numbers (Refused f) ≡ readText text 128 = ap numbers (sym e) ∙ answers in
       let said : answer (kindNumber (f .kind)) (f .a) (f .b) ≡ u = ap (λ (x : ReadAnswer). answer (x .number) (x .a) (x .b)) q in
-      or-line u _ (λ z. kind-some (f .kind) (ap (λ (v : Answer). v .number) said ∙ z)) ∙ ap refusalLine (sym said)
+      by-text ∙ or-line u _ (λ z. kind-some (f .kind) (ap (λ (v : Answer). v .number) said ∙ z)) ∙ ap refusalLine (sym said)
 
   module _ (h : Headings) (e : reading ≡ Accepted h) where
     same : numbers (Accepted h) ≡ readText text 128
@@ -114,9 +115,8 @@ module _ (input : List ℕ) (reading : Reading) (answers : numbers reading ≡ r
     pub reader-accepted : (m v d m′ v′ d′ : List ℕ) → m′ ≡ stored u (map (λ (r : Row). r .mask) (rowsIn text)) m
         → v′ ≡ stored u (map (λ (r : Row). r .values) (rowsIn text)) v → d′ ≡ stored u (map (λ (r : Row). r .word) (rowsIn text)) d
         → printed input ≡ printedList (h .n) (h .k) (rowsOf (take (h .count) m′) (take (h .count) v′) (take (h .count) d′))
-    unfolding printed
     reader-accepted m v d m′ v′ d′ a b c =
-        or-text u _ zero
+        by-text ∙ or-text u _ zero
         ∙ sym (rw (
           inputs,
           columns,
