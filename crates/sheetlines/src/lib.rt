@@ -85,6 +85,7 @@ pub fn put_front(out: &mut [u8], n: usize, k: usize, w: usize, before: usize, af
 pub fn put_columns(out: &mut [u8], at: usize, name: &[u8], n: usize, numbers: &[u32]) -> usize
     requires { ⌜ (n ≤ 16) × (length (now numbers) ≡ n) × (length (now name) ≡ 5) × (at + 299 ≤ length (now out)) ⌝ }
     ensures { λ r. ⌜ Put (now (out .entry)) at (section (now (name .entry)) n ++ matrixLines n (now (numbers .entry))) (now (out .exit)) r ⌝ }
+    ensures { λ r. ⌜ r ≤ at + 281 ⌝ }
 {
     let a = put_section(out, at, name, n);
     put_matrix(out, a, n, numbers)

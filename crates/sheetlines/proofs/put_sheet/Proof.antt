@@ -5,9 +5,8 @@ use native.Mathlib.Omega.{arith}
 use mathlib.Core.Path.{refl}
 use denote.Ref.{now}
 use Rattle.slices.specs.Filled.{length-tab}
-use Rattle.block.specs.Sheet.{basisName, sigmaName}
 use Rattle.sheetlines.specs.Lines.{sheet-parts}
-use Rattle.sheetlines.specs.Length.{front-le, columns-le}
+use Rattle.sheetlines.specs.Length.{front-le}
 use Rattle.listing.specs.Listing.{rowsFrom}
 use borrow.Author.Needs.{needs}
 use Rattle.sheetlines.proofs.put_sheet.Statement.{statement}
@@ -24,7 +23,7 @@ put-columns-requires c κs =
     let a = c .before .before .before .before .before .before .before .before .before .before .before .before .args in
     let e = c .before .before .before .before .before .before .before .before .before .before .before .before .pre in
     let h = front-le (a .n) (a .k) (a .w) (a .before) (a .after) (e .0 .0) (e .0 .1) (e .0 .2) (e .0 .3) (e .0 .4) in
-    (e .0 .0, e .1 .0 .0, refl, omega (arith, c .before .before .before .before .put-front .ensures .place, c .before .before .before .before .put-front .kept .0))
+    (e .0 .0, omega arith, refl, omega (arith, c .before .before .before .before .put-front .ensures .place, c .before .before .before .before .put-front .kept .0))
 
 slice-aggregate-put-columns-2 : tie.Need-slice-aggregate-put-columns-2
 slice-aggregate-put-columns-2 c = search needs
@@ -34,17 +33,14 @@ put-columns-requires-2 c κs =
     let a = c .before .before .before .before .before .before .before .before .before .before .before .before .before .before .before .before .before .args in
     let e = c .before .before .before .before .before .before .before .before .before .before .before .before .before .before .before .before .before .pre in
     let h = front-le (a .n) (a .k) (a .w) (a .before) (a .after) (e .0 .0) (e .0 .1) (e .0 .2) (e .0 .3) (e .0 .4) in
-    let f = columns-le basisName (a .n) (now (a .basis)) (e .0 .0) refl (e .1 .0 .0) in
-    (e .0 .0, e .1 .0 .1, refl, omega (arith, c .before .before .before .before .before .before .before .before .before .put-front .ensures .place, c .before .before .before .before .before .before .before .before .before .put-front .kept .0, c .before .before .before .before .put-columns .ensures .place, c .before .before .before .before .put-columns .kept .0))
+    (e .0 .0, omega arith, refl, omega (arith, c .before .before .before .before .before .before .before .before .before .put-front .ensures .place, c .before .before .before .before .before .before .before .before .before .put-front .kept .0, c .before .before .before .before .put-columns .ensures .1, c .before .before .before .before .put-columns .kept .0))
 
 put-table-requires : tie.Need-put-table-requires
 put-table-requires c κs =
     let a = c .before .before .before .before .before .before .before .before .before .before .before .before .before .before .before .before .before .before .before .before .before .args in
     let e = c .before .before .before .before .before .before .before .before .before .before .before .before .before .before .before .before .before .before .before .before .before .pre in
     let h = front-le (a .n) (a .k) (a .w) (a .before) (a .after) (e .0 .0) (e .0 .1) (e .0 .2) (e .0 .3) (e .0 .4) in
-    let f = columns-le basisName (a .n) (now (a .basis)) (e .0 .0) refl (e .1 .0 .0) in
-    let g = columns-le sigmaName (a .n) (now (a .sigma)) (e .0 .0) refl (e .1 .0 .1) in
-    ((e .0 .0, e .0 .1, e .1 .0 .2, omega (arith, c .before .before .before .before .before .before .before .before .before .before .before .before .before .put-front .ensures .place, c .before .before .before .before .before .before .before .before .before .before .before .before .before .put-front .kept .0, c .before .before .before .before .before .before .before .before .put-columns .ensures .place, c .before .before .before .before .before .before .before .before .put-columns .kept .0, c .before .before .before .put-columns2 .ensures .place, c .before .before .before .put-columns2 .kept .0)), e .1 .1)
+    ((e .0 .0, e .0 .1, e .1 .0 .2, omega (arith, c .before .before .before .before .before .before .before .before .before .before .before .before .before .put-front .ensures .place, c .before .before .before .before .before .before .before .before .before .before .before .before .before .put-front .kept .0, c .before .before .before .before .before .before .before .before .put-columns .ensures .1, c .before .before .before .before .before .before .before .before .put-columns .kept .0, c .before .before .before .put-columns2 .ensures .1, c .before .before .before .put-columns2 .kept .0)), e .1 .1)
 
 same-length : tie.Need-same-length
 same-length c = search needs
@@ -53,7 +49,7 @@ returns : tie.Need-returns
 returns c =
     let a = c .before .before .before .before .before .before .before .before .before .before .before .before .before .before .before .before .before .before .before .before .before .before .before .before .args in
     rw (sheet-parts (a .n) (a .k) (a .w) (a .before) (a .after) (now (a .basis)) (now (a .sigma)) (rowsFrom (a .count) (now (a .masks)) (now (a .values)) (now (a .words))), length-tab)
-    (then (then (then (c .before .before .before .before .before .before .before .before .before .before .before .before .before .before .before .before .put-front .ensures) (c .before .before .before .before .before .before .before .before .before .before .before .put-columns .ensures)) (c .before .before .before .before .before .before .put-columns2 .ensures)) (c .before .before .put-table .ensures))
+    (then (then (then (c .before .before .before .before .before .before .before .before .before .before .before .before .before .before .before .before .put-front .ensures) (c .before .before .before .before .before .before .before .before .before .before .before .put-columns .ensures .0)) (c .before .before .before .before .before .before .put-columns2 .ensures .0)) (c .before .before .put-table .ensures))
 
 pub put-sheet-spec : {M : Type 1} → statement M
 put-sheet-spec =
