@@ -63,11 +63,10 @@ pub record Decides (c : Check) (r : Reason) : Type 0 where
   pub only : (a b : ℕ) → r .due a b → (c .holds ≡ true) × (c .a ≡ a) × (c .b ≡ b)
 
 -- likewise check by check
-abbrev pub Decided : List Check → List Reason → Type 0
-Decided [] [] = Unit {0}
-Decided [] (r ∷ rs) = ⊥
-Decided (c ∷ cs) [] = ⊥
-Decided (c ∷ cs) (r ∷ rs) = Decides c r × Decided cs rs
+infixr 5 _also_
+pub data Decided : List Check → List Reason → Type 1 where
+  done : Decided [] []
+  _also_ : {c : Check} {r : Reason} {cs : List Check} {rs : List Reason} → Decides c r → Decided cs rs → Decided (c ∷ cs) (r ∷ rs)
 
 -- a check that does not hold
 missed : {c : Check} {r : Reason} → Decides c r → c .holds ≡ false → Never r
@@ -85,10 +84,8 @@ number-of e = ap (λ (a : Answer). a .number) e
 
 pub refused-only : (cs : List Check) (rs : List Reason) → Decided cs rs → (m a b : ℕ) → (m ≡ 0 → ⊥) → verdict cs ≡ answer m a b
     → (i : ℕ) × Earliest rs i m a b
-refused-only [] [] d m a b h e = absurd (h (sym (number-of e) ∙ number-of verdict-none))
-refused-only [] (r ∷ rs) d m a b h e = absurd d
-refused-only (c ∷ cs) [] d m a b h e = absurd d
-refused-only (c ∷ cs) (r ∷ rs) (d, ds) m a b h e = go (λ f. refused-only cs rs ds m a b h f) (c .holds) refl
+refused-only [] [] done m a b h e = absurd (h (sym (number-of e) ∙ number-of verdict-none))
+refused-only (c ∷ cs) (r ∷ rs) (d also ds) m a b h e = go (λ f. refused-only cs rs ds m a b h f) (c .holds) refl
   where
     here : answer (c .number) (c .a) (c .b) ≡ answer m a b → r .due (c .a) (c .b) → Earliest (r ∷ rs) 0 m a b
     here q w =
@@ -108,21 +105,17 @@ refused-only (c ∷ cs) (r ∷ rs) (d, ds) m a b h e = go (λ f. refused-only cs
     go ih false q = after (missed d q) (ih (sym (verdict-miss c cs q) ∙ e))
 
 pub refused-when : (cs : List Check) (rs : List Reason) → Decided cs rs → (i m a b : ℕ) → Earliest rs i m a b → verdict cs ≡ answer m a b
-refused-when [] [] d i m a b f = absurd (f .holds)
-refused-when [] (r ∷ rs) d i m a b f = absurd d
-refused-when (c ∷ cs) [] d i m a b f = absurd d
-refused-when (c ∷ cs) (r ∷ rs) (d, ds) zero m a b f =
+refused-when [] [] done i m a b f = absurd (f .holds)
+refused-when (c ∷ cs) (r ∷ rs) (d also ds) zero m a b f =
     let w = d .only a b (f .holds) in
     verdict-hit c cs (w .0) ∙ rw (d .same, f .number, w .1, w .2)
-refused-when (c ∷ cs) (r ∷ rs) (d, ds) (suc i) m a b f =
+refused-when (c ∷ cs) (r ∷ rs) (d also ds) (suc i) m a b f =
     verdict-miss c cs (passed c r d (f .earlier 0 (omega arith)))
     ∙ refused-when cs rs ds i m a b (record { number = f .number; holds = f .holds; earlier = λ j l. f .earlier (suc j) (omega arith) })
 
 pub answered-only : (cs : List Check) (rs : List Reason) → Decided cs rs → verdict cs .number ≡ 0 → (i : ℕ) → Never (reasonAt rs i)
-answered-only [] [] d e i = λ a b w. w
-answered-only [] (r ∷ rs) d e i = absurd d
-answered-only (c ∷ cs) [] d e i = absurd d
-answered-only (c ∷ cs) (r ∷ rs) (d, ds) e i = go (answered-only cs rs ds) (c .holds) refl i
+answered-only [] [] done e i = λ a b w. w
+answered-only (c ∷ cs) (r ∷ rs) (d also ds) e i = go (answered-only cs rs ds) (c .holds) refl i
   where
     go : (verdict cs .number ≡ 0 → (i : ℕ) → Never (reasonAt rs i)) → (p : Bool) → c .holds ≡ p → (i : ℕ) → Never (reasonAt (r ∷ rs) i)
     go ih true q i = absurd (d .refuses (sym (number-of (verdict-hit c cs q)) ∙ e))
@@ -130,10 +123,8 @@ answered-only (c ∷ cs) (r ∷ rs) (d, ds) e i = go (answered-only cs rs ds) (c
     go ih false q (suc i) = ih (sym (number-of (verdict-miss c cs q)) ∙ e) i
 
 pub answered-when : (cs : List Check) (rs : List Reason) → Decided cs rs → ((i : ℕ) → Never (reasonAt rs i)) → verdict cs ≡ answer 0 0 0
-answered-when [] [] d w = verdict-none
-answered-when [] (r ∷ rs) d w = absurd d
-answered-when (c ∷ cs) [] d w = absurd d
-answered-when (c ∷ cs) (r ∷ rs) (d, ds) w = verdict-miss c cs (passed c r d (w 0)) ∙ answered-when cs rs ds (λ i. w (suc i))
+answered-when [] [] done w = verdict-none
+answered-when (c ∷ cs) (r ∷ rs) (d also ds) w = verdict-miss c cs (passed c r d (w 0)) ∙ answered-when cs rs ds (λ i. w (suc i))
 
 pub exactly : (cs : List Check) (rs : List Reason) → Decided cs rs → Exactly rs (verdict cs)
 exactly cs rs d =

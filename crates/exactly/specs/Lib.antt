@@ -2,3 +2,4 @@
 -- conditions in its words, and that the checks decide them. `Tables`, `Lists` and `Texts`: each operation's lines of 01's table and the theorem.
 pub mod General
 pub mod Conditions
+pub mod Tables
