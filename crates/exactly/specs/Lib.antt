@@ -3,3 +3,4 @@
 pub mod General
 pub mod Conditions
 pub mod Tables
+pub mod Lists
