@@ -1,6 +1,7 @@
 // The operations for programs in C and Rust: each function calls the operation of the same name and promises what it promises. A slice
 // is passed as a pointer and then a length, and an answer comes back as a struct of numbers.
 use block::Answer;
+use block::ReadAnswer;
 use block::RowMethodAnswer;
 use block::TableMethodAnswer;
 use block::TextAnswer;
@@ -14,8 +15,10 @@ ghost use Rattle.block.specs.Basis.{basisOf, sigmaOf};
 ghost use Rattle.block.specs.Refusals.{stored};
 ghost use Rattle.block.specs.Tables.{tableValue, tableMethodVerdict, tableMethod, smallerTable, restoreVerdict, restored};
 ghost use Rattle.block.specs.Lists.{rowValue, rowMethodVerdict, rowMethod, smallerList, fillVerdict, filled};
-ghost use Rattle.block.specs.Text.{writeVerdict, writeText, textOf};
-ghost use Rattle.block.specs.Sheet.{sheet, sheetVerdict, sheetText};
+ghost use Rattle.block.specs.Text.{writeVerdict, writeText, textOf, readVerdict, readText};
+ghost use Rattle.reading.specs.Storage.{shortest, masksIn, valuesIn, wordsIn};
+ghost use Rattle.slices.specs.Places.{over};
+ghost use Rattle.block.specs.Sheet.{sheet, sheetVerdict, sheetText, printed};
 ghost use Rattle.block.specs.declared.Row.{Row};
 
 #[no_mangle]
@@ -138,9 +141,42 @@ pub extern "C" fn irwystl_write_text(
 }
 
 #[no_mangle]
-pub extern "C" fn irwystl_sheet(n: usize, k: usize, w: usize, masks: &[u32], values: &[u32], words: &[u32], out: &mut [u8]) -> TextAnswer
+pub extern "C" fn irwystl_sheet(
+    n: usize,
+    k: usize,
+    w: usize,
+    masks: &[u32],
+    values: &[u32],
+    words: &[u32],
+    out: &mut [u8],
+) -> TextAnswer
     ensures { λ r. ⌜ r ≡ sheet n k w (rowsOf (now (masks .entry)) (now (values .entry)) (now (words .entry))) (length (now (out .entry))) ⌝ }
     ensures { λ _. ⌜ now (out .exit) ≡ stored (sheetVerdict n k w (rowsOf (now (masks .entry)) (now (values .entry)) (now (words .entry))) (length (now (out .entry)))) (sheetText n k w (rowsOf (now (masks .entry)) (now (values .entry)) (now (words .entry)))) (now (out .entry)) ⌝ }
 {
     sheets::sheet(n, k, w, masks, values, words, out)
+}
+
+#[no_mangle]
+pub extern "C" fn irwystl_read_text(
+    text: &[u8],
+    masks: &mut [u32],
+    values: &mut [u32],
+    words: &mut [u32],
+) -> ReadAnswer
+    ensures { λ r. ⌜ r ≡ readText (now (text .entry)) (shortest (now (masks .entry)) (now (values .entry)) (now (words .entry))) ⌝ }
+    ensures { λ _. ⌜ now (masks .exit) ≡ stored (readVerdict (now (text .entry)) (shortest (now (masks .entry)) (now (values .entry)) (now (words .entry)))) (masksIn (now (text .entry))) (now (masks .entry)) ⌝ }
+    ensures { λ _. ⌜ now (values .exit) ≡ stored (readVerdict (now (text .entry)) (shortest (now (masks .entry)) (now (values .entry)) (now (words .entry)))) (valuesIn (now (text .entry))) (now (values .entry)) ⌝ }
+    ensures { λ _. ⌜ now (words .exit) ≡ stored (readVerdict (now (text .entry)) (shortest (now (masks .entry)) (now (values .entry)) (now (words .entry)))) (wordsIn (now (text .entry))) (now (words .entry)) ⌝ }
+{
+    let answer = reading::read_text(text, masks, values, words);
+    kinds::in_numbers(answer)
+}
+
+// What the program prints for a text, into room for every sheet. An array is passed as a pointer alone.
+#[no_mangle]
+pub extern "C" fn irwystl_print_text(input: &[u8], out: &mut [u8; 17518]) -> usize
+    ensures { λ _. ⌜ now (out .exit) ≡ over (printed (now (input .entry))) (now (out .entry)) ⌝ }
+    ensures { λ r. ⌜ r ≡ length (printed (now (input .entry))) ⌝ }
+{
+    printing::print_text(input, out)
 }

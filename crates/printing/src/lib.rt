@@ -20,7 +20,7 @@ pub fn print_text(input: &[u8], out: &mut [u8; 17518]) -> usize
     match reading {
         Reading::Refused(r) => {
             let kind = r.kind;
-            printlines::put_refusal(out, printlines::kind_number(kind), r.a, r.b)
+            printlines::put_refusal(out, kinds::kind_number(kind), r.a, r.b)
         }
         Reading::Accepted(h) => printlines::print_list(
             h.n,

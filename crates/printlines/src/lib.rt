@@ -1,12 +1,10 @@
 // What the program's printing is made of: the bytes it looks at, the weight limit, the line of a refusal, and what is printed for a list
 // of rows. All functions here are inner: the function that prints is `print_text` of the crate printing.
-use block::Kind;
 ghost use mathlib.Core.Path.{_≡_};
 ghost use Prim.Native.Nat.{_≤_, min};
 ghost use lib.ListN.{length, take};
 ghost use Rattle.block.specs.Words.{rowsOf};
 ghost use Rattle.block.specs.Refusals.{answer};
-ghost use Rattle.block.specs.Text.{kindNumber};
 ghost use Rattle.block.specs.Sheet.{refusalLine, printedList};
 ghost use Rattle.puts.specs.Puts.{Put};
 ghost use Rattle.printlines.specs.Printed.{Printed};
@@ -27,19 +25,6 @@ pub fn weight_limit(n: usize) -> usize
     ensures { λ r. ⌜ r ≡ min 3 n ⌝ }
 {
     if n < 3 { n } else { 3 }
-}
-
-// The number of a refusal of the reader.
-pub fn kind_number(kind: Kind) -> u32
-    ensures { λ r. ⌜ r ≡ kindNumber kind ⌝ }
-{
-    match kind {
-        Kind::Inputs => 1,
-        Kind::Outputs => 2,
-        Kind::Count => 4,
-        Kind::Room => 5,
-        Kind::Form => 10,
-    }
 }
 
 // Puts the line "refused N A B" at the front.

@@ -4,7 +4,6 @@
 // records are copied out once into three arrays, or copied in from them, and a function on the arrays lends these as flat slices to the
 // operation of the same name. A list of 513 rows is too long for every operation, so that no more rows are copied out.
 use block::Answer;
-use block::Kind;
 use block::ReadAnswer;
 use block::Reading;
 use block::Row;
@@ -18,7 +17,7 @@ ghost use Rattle.block.specs.Words.{ofRows};
 ghost use Rattle.block.specs.Basis.{basisOf, sigmaOf};
 ghost use Rattle.block.specs.Refusals.{stored};
 ghost use Rattle.block.specs.Lists.{rowValue, rowMethodVerdict, rowMethod, smallerList, fillVerdict, filled};
-ghost use Rattle.block.specs.Text.{textOf, writeVerdict, writeText, readVerdict, readText, rowsIn, kindNumber, numbers};
+ghost use Rattle.block.specs.Text.{textOf, writeVerdict, writeText, readVerdict, readText, rowsIn, numbers};
 ghost use Rattle.block.specs.Sheet.{sheet, sheetVerdict, sheetText};
 ghost use Rattle.records.specs.Flat.{Gathered, Scattered, Sized, listed};
 ghost use Rattle.records.specs.Yielded.{Yielded};
@@ -329,46 +328,6 @@ pub fn read_text(text: &[u8], rows: &mut [Row]) -> Reading
 
 // ---- reading row text, with an answer in numbers
 
-// The number of a refusal's kind.
-fn kind_number(kind: Kind) -> u32
-    ensures { λ r. ⌜ r ≡ kindNumber kind ⌝ }
-{
-    match kind {
-        Kind::Inputs => 1,
-        Kind::Outputs => 2,
-        Kind::Count => 4,
-        Kind::Room => 5,
-        Kind::Form => 10,
-    }
-}
-
-// The answer in numbers.
-fn in_numbers(answer: Reading) -> ReadAnswer
-    ensures { λ r. ⌜ r ≡ numbers answer ⌝ }
-{
-    match answer {
-        Reading::Accepted(h) => ReadAnswer {
-            number: 0,
-            a: 0,
-            b: 0,
-            n: h.n,
-            k: h.k,
-            count: h.count,
-        },
-        Reading::Refused(r) => {
-            let kind = r.kind;
-            ReadAnswer {
-                number: kind_number(kind),
-                a: r.a,
-                b: r.b,
-                n: 0,
-                k: 0,
-                count: 0,
-            }
-        }
-    }
-}
-
 // What is read: the rows, their number, and the answer in numbers.
 struct ReadNumbers {
     flat: FlatRows,
@@ -383,7 +342,7 @@ fn read_numbers_of(text: &[u8], room: usize) -> ReadNumbers
     let read = read_of(text, room);
     let flat = read.flat;
     let reading = read.answer;
-    let answer = in_numbers(reading);
+    let answer = kinds::in_numbers(reading);
     ReadNumbers {
         flat,
         count: read.count,

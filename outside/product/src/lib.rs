@@ -213,12 +213,7 @@ extern "C" {
         out: *mut u8,
         out_len: usize,
     ) -> Text;
-    fn irwystl_print_text(
-        input: *const u8,
-        input_len: usize,
-        out: *mut u8,
-        out_len: usize,
-    ) -> usize;
+    fn irwystl_print_text(input: *const u8, input_len: usize, out: *mut u8) -> usize;
 }
 
 /// Number and places, with results.
@@ -548,7 +543,7 @@ impl Operations for Product {
     fn program(input: &[u8]) -> Vec<u8> {
         let mut out = vec![0; SHEET_ROOM];
         let count =
-            unsafe { irwystl_print_text(input.as_ptr(), input.len(), out.as_mut_ptr(), out.len()) };
+            unsafe { irwystl_print_text(input.as_ptr(), input.len(), out.as_mut_ptr()) };
         out.truncate(count);
         out
     }

@@ -1,9 +1,9 @@
--- `records::in_numbers` meets its contract, by the two cases of an answer. Assumes nothing.
+-- `kinds::in_numbers` meets its contract, by the two cases of an answer. Assumes nothing.
 use mathlib.Core.Path.{sym, ap}
 use borrow.Author.Needs.{needs}
 use Rattle.block.specs.Text.{numbers}
-use Rattle.records.proofs.in_numbers.Statement.{statement}
-use Rattle.records.proofs.in_numbers.Tie as tie
+use Rattle.kinds.proofs.in_numbers.Statement.{statement}
+use Rattle.kinds.proofs.in_numbers.Tie as tie
 
 enum-known-answer : tie.Need-enum-known-answer
 enum-known-answer c = search needs
