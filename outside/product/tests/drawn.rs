@@ -1,16 +1,21 @@
 //! The product against the plain operations of `reference`: seeded calls, valid
 //! and damaged, every operation with rows in flat slices and as records, answers
-//! and everything lent compared; then the cases of `data/`. Lent storage is filled
-//! with a pattern, so that a stray write shows. Each call runs in a thread with
-//! 1 MiB of stack.
+//! and everything lent compared. Lent storage holds a drawn pattern before each
+//! call and is never cleared, so that a stray write shows. Each call of the
+//! product runs in a thread with 1 MiB of stack.
 
 use product::Product;
 use reference::inputs::Case;
 use reference::Plain;
-use std::thread;
+use std::{env, thread};
 
-/// Runs a test in a thread with 1 MiB of stack for the product's own frames: the
-/// plain operations, which may use more, run outside it.
+/// How many calls are drawn: IRWYSTL_DRAWS, or 4,000.
+fn draws() -> u64 {
+    let asked = env::var("IRWYSTL_DRAWS").ok();
+    asked.map_or(4_000, |draws| draws.parse().expect("a number of draws"))
+}
+
+/// The outcome of a call, in a thread with 1 MiB of stack.
 fn small_stack<R: Send + 'static>(work: impl FnOnce() -> R + Send + 'static) -> R {
     let thread = thread::Builder::new().stack_size(1 << 20).spawn(work);
     thread.expect("a thread").join().expect("no panic")
@@ -18,7 +23,7 @@ fn small_stack<R: Send + 'static>(work: impl FnOnce() -> R + Send + 'static) -> 
 
 #[test]
 fn drawn_calls() {
-    for seed in 0..4_000 {
+    for seed in 0..draws() {
         let mut due = Case::new(seed);
         let got = due.clone();
         let due_answer = due.run::<Plain>();
@@ -33,7 +38,7 @@ fn drawn_calls() {
 
 #[test]
 fn drawn_calls_with_records() {
-    for seed in 0..4_000 {
+    for seed in 0..draws() {
         let mut due = Case::new(seed);
         let got = due.clone();
         let due_answer = due.run_records::<Plain>();
