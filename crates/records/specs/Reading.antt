@@ -1,6 +1,6 @@
 -- Reading row text: the room counts only up to 128 places, for no more rows are read; on 0 there is room for the rows; and what
 -- `read_into` promises, from the promise of the operation on flat slices. Assumes nothing.
-use mathlib.Core.Path.{_≡_, refl, sym, ap, subst, _∙_}
+use mathlib.Core.Path.{_≡_, refl, sym, ap, _∙_}
 use mathlib.Core.Bool.{Bool, true, false}
 use mathlib.Core.List.{List, [], _∷_, _++_, map}
 use Prim.Native.Nat.{ℕ, suc, _+_, _≤_, _<_, min}
@@ -10,10 +10,9 @@ use borrow.Author.Tests.{lt-ltb, le-ltb, ltb-false}
 use lib.Dec.{ltb}
 use lib.ListN.{length, take, drop}
 use Rattle.slices.specs.Filled.{length-tab}
-use Rattle.block.specs.Limits.{listInputs, outputs, givenRows}
+use Rattle.block.specs.Limits.{listInputs, givenRows}
 use Rattle.block.specs.Refusals.{Check, check, verdict, answered, carried, stored, outside, sizeChecks}
 use Rattle.block.specs.Text.{headNumber, faulty, readVerdict, readText, rowsIn, rowOn, lineAt, numbers}
-use Rattle.block.specs.declared.Row.{Row}
 use Rattle.block.specs.declared.Answer.{Answer}
 use Rattle.block.specs.declared.ReadAnswer.{ReadAnswer}
 use Rattle.block.specs.declared.Reading.{Reading}
