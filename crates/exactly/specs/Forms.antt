@@ -1,7 +1,7 @@
 -- The form of a line (01, Row text) in its words: a heading, a row, and which is due at line a, counted from 1; the first line that is not
 -- of its form (10); and that the tests decide them. Assumes nothing.
 use mathlib.Core.Path.{_≡_, refl, sym, ap, ap₂, _∙_}
-use mathlib.Core.Bool.{Bool, true, false, not, cond, _&&_, _||_}
+use mathlib.Core.Bool.{Bool, true, not, _&&_}
 use mathlib.Core.List.{List, [], _∷_, _++_, append-assoc}
 use mathlib.Core.Logic.{_⊎_}
 use Prim.Native.Nat.{ℕ, zero, suc, _+_, _-_, _≤_, _<_}
@@ -9,18 +9,18 @@ use native.Mathlib.Decide.{decLt, ℕ-discrete}
 use native.Mathlib.Numerals.{add-one}
 use native.Mathlib.Omega.{arith}
 use borrow.Author.Tests.{le-leb, leb-true, lt-ltb, le-ltb, ltb-true, eq-eqb, ne-eqb, not-true, not-false}
-use lib.Dec.{eqb, ltb, leb}
+use lib.Dec.{ltb, leb}
 use lib.ListN.{length, take, drop, length-append, length-drop, take-append-drop}
 use lib.Seq.{length-take-le, drop-cons, take-at, drop-at, getD-at, getD-drop, getD-append-add}
 use Rattle.slices.specs.Places.{at, first}
 use Rattle.slices.specs.Least.{first-below}
 use Rattle.block.specs.Refusals.{check}
 use Rattle.block.specs.Text.{decimal, headLine, numeral, every, equal, headForm, rowForm, due, lineAt, headNumber, faulty, numberPart}
-use Rattle.lines.specs.Tests.{both, every-at, every-all, equal-true, equal-same}
+use Rattle.lines.specs.Tests.{every-at, every-all, equal-true, equal-same}
 use Rattle.lines.specs.Numerals.{valueOf, numeral-written, written-numeral}
 use Rattle.lines.specs.HeadLines.{last-apart, form-written, written-form}
-use Rattle.lines.specs.RowLines.{symbolTest, bitTest, row-length}
-use Rattle.exactly.specs.General.{Reason, reason, Decides}
+use Rattle.lines.specs.RowLines.{symbolTest, bitTest}
+use Rattle.exactly.specs.General.{reason, Decides}
 use Rattle.exactly.specs.Conditions.{Says, eq-says, ne-says, or-says, and-says, says-not, says-false, Least, first-least, least-first}
 
 le-says : (a b : ℕ) → Says (leb a b) (a ≤ b)

@@ -7,7 +7,7 @@ use native.Mathlib.Omega.{arith}
 use lib.ListN.{length}
 use Rattle.block.specs.Text.{writeVerdict, headNumber, readVerdict}
 use Rattle.block.specs.declared.Row.{Row}
-use Rattle.exactly.specs.General.{Reason, reason, plain, Decided, done, _also_, Exactly, exactly}
+use Rattle.exactly.specs.General.{Reason, reason, plain, done, _also_, Exactly, exactly}
 use Rattle.exactly.specs.Conditions.{lt-says, plain-decided, Outside, outside-says, bad-row-decided}
 use Rattle.exactly.specs.Forms.{FirstFaulty, faulty-decided}
 use Rattle.exactly.specs.Lists.{rowLine}
