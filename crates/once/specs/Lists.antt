@@ -12,7 +12,7 @@ use Rattle.block.specs.declared.Row.{Row}
 use Rattle.block.specs.declared.Answer.{Answer}
 use Rattle.block.specs.declared.ValueAnswer.{ValueAnswer}
 use Rattle.block.specs.declared.RowMethodAnswer.{RowMethodAnswer}
-use Rattle.once.specs.Tables.{one}
+use Rattle.once.specs.Law.{one}
 
 -- ---- `row_value`
 

@@ -17,7 +17,7 @@ use Rattle.block.specs.declared.TextAnswer.{TextAnswer}
 use Rattle.block.specs.declared.ReadAnswer.{ReadAnswer}
 use Rattle.block.specs.declared.Reading.{Reading}
 use Rattle.texts.specs.Unique.{numbers-one}
-use Rattle.once.specs.Tables.{one}
+use Rattle.once.specs.Law.{one}
 
 -- ---- `row_value`
 

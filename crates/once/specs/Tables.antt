@@ -1,5 +1,5 @@
 -- The promises of `tables`, and that each leaves one answer. A slice held s₀ and holds s₁ at the end. Assumes nothing.
-use mathlib.Core.Path.{_≡_, sym, _∙_}
+use mathlib.Core.Path.{_≡_}
 use mathlib.Core.List.{List}
 use Prim.Native.Nat.{ℕ}
 use lib.ListN.{length}
@@ -10,10 +10,7 @@ use Rattle.block.specs.Tables.{tableValue, tableMethodVerdict, tableMethod, sma
 use Rattle.block.specs.declared.Answer.{Answer}
 use Rattle.block.specs.declared.ValueAnswer.{ValueAnswer}
 use Rattle.block.specs.declared.TableMethodAnswer.{TableMethodAnswer}
-
--- two things that are equal to a third are equal
-pub one {ℓ} : {A : Type ℓ} {x y z : A} → x ≡ z → y ≡ z → x ≡ y
-one p q = p ∙ sym q
+use Rattle.once.specs.Law.{one}
 
 -- ---- `table_value`
 

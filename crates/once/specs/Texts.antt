@@ -11,7 +11,7 @@ use Rattle.block.specs.declared.TextAnswer.{TextAnswer}
 use Rattle.block.specs.declared.Reading.{Reading}
 use Rattle.reading.specs.Storage.{shortest, masksIn, valuesIn, wordsIn}
 use Rattle.texts.specs.Unique.{numbers-one}
-use Rattle.once.specs.Tables.{one}
+use Rattle.once.specs.Law.{one}
 
 -- ---- `write_text`
 
