@@ -2,16 +2,16 @@
 -- least malformed thing (6), the first pair of rows that share a point (7), the least dependent matrix row (8) and the first step that
 -- passes 512 rows (9). Not here: the form of a line (`Forms`). Assumes nothing.
 use mathlib.Core.Path.{_≡_, refl, sym, ap, ap₂, _∙_}
-use mathlib.Core.Bool.{Bool, true, false, not, cond, _&&_, _||_, false≢true}
+use mathlib.Core.Bool.{Bool, true, false, not, _&&_, _||_, false≢true}
 use mathlib.Core.List.{List}
 use mathlib.Core.Logic.{_⊎_, _↔_, inl, inr}
-use Prim.Native.Nat.{ℕ, zero, suc, _*_, _^_, _≤_, _<_, min}
+use Prim.Native.Nat.{ℕ, zero, suc, _^_, _≤_, _<_, min}
 use native.Mathlib.Decide.{decLt, ℕ-discrete}
 use native.Mathlib.Nat.{mul-zero, mul-one}
 use native.Mathlib.Numerals.{add-one}
 use native.Mathlib.Omega.{arith}
 use borrow.Author.Tests.{lt-ltb, le-ltb, ltb-true, ltb-false, eq-eqb, ne-eqb, eqb-true, eqb-false, not-true}
-use lib.Bits.{bitAnd, bitXor, xor-zero-r, xor-lt, xor-comm, and-le-r}
+use lib.Bits.{bitAnd, bitXor, xor-lt, xor-comm, and-le-r}
 use lib.Dec.{eqb, ltb}
 use lib.ListN.{length}
 use lib.Pow.{pow-pos}
@@ -20,14 +20,13 @@ use Rattle.bits.specs.Xor.{xor-cancel, xor-cancel-r}
 use Rattle.bits.specs.Bit.{bit-lt, bit-and, bit-none, bit-ext}
 use Rattle.slices.specs.Places.{at, first}
 use Rattle.slices.specs.Least.{first-is, first-below, first-passes, first-found}
-use Rattle.block.specs.Limits.{smallerRows}
 use Rattle.block.specs.Words.{none, under}
 use Rattle.block.specs.Basis.{span, columns}
-use Rattle.block.specs.Refusals.{Check, check, outside, some, badEntry, badNumber, badRow, malformed, rowAt, share, second, sharing, dependent}
+use Rattle.block.specs.Refusals.{check, outside, some, badEntry, badNumber, badRow, malformed, rowAt, share, second, sharing, dependent}
 use Rattle.block.specs.Lists.{badRowCheck, shareCheck, rowsAfter, passing}
 use Rattle.block.specs.declared.Row.{Row}
 use Rattle.matrix.specs.Linear.{columns-none, columns-more, columns-xor, columns-unit}
-use Rattle.exactly.specs.General.{Reason, reason, plain, Decides}
+use Rattle.exactly.specs.General.{reason, plain, Decides}
 
 -- ---- tests and what they say
 

@@ -7,9 +7,6 @@ use mathlib.Core.List.{List, [], _∷_}
 use mathlib.Core.Logic.{_↔_}
 use Prim.Native.Nat.{ℕ, zero, suc, _<_}
 use native.Mathlib.Omega.{arith}
-use borrow.Author.Tests.{eqb-false}
-use lib.Dec.{eqb}
-use lib.ListN.{length}
 use Rattle.block.specs.Refusals.{Check, check, answer, verdict}
 use Rattle.block.specs.declared.Answer.{Answer}
 use Rattle.verdicts.specs.Verdicts.{verdict-hit, verdict-miss, verdict-none}
@@ -133,3 +130,11 @@ exactly cs rs d =
       answered = (answered-only cs rs d, λ w. number-of (answered-when cs rs d w));
       unplaced = λ e. answered-when cs rs d (answered-only cs rs d e);
     }
+
+-- a number other than 0 is given exactly when one of its reasons is the earliest that holds
+pub number-exactly : {rs : List Reason} {v : Answer} → Exactly rs v → (m : ℕ) → (m ≡ 0 → ⊥)
+    → (v .number ≡ m) ↔ ((i : ℕ) × (a : ℕ) × (b : ℕ) × Earliest rs i m a b)
+number-exactly {rs} {v} x m h = (
+  λ e. let w = x .refused m (v .a) (v .b) h .0 (ap (λ (z : ℕ). answer z (v .a) (v .b)) e) in (w .0, v .a, v .b, w .1),
+  λ (i, a, b, f). number-of (x .refused m a b h .1 (i, f)),
+)

@@ -11,7 +11,7 @@ use Rattle.block.specs.Refusals.{verdict, rowAt}
 use Rattle.block.specs.Lists.{rowValueVerdict, methodChecks, rowMethodVerdict, fillVerdict}
 use Rattle.block.specs.Sheet.{sheetVerdict}
 use Rattle.block.specs.declared.Row.{Row}
-use Rattle.exactly.specs.General.{Reason, reason, plain, Decided, done, _also_, Exactly, exactly}
+use Rattle.exactly.specs.General.{Reason, reason, plain, done, _also_, Exactly, exactly}
 use Rattle.exactly.specs.Conditions.{
   Says,
   lt-says,

@@ -9,7 +9,7 @@ use lib.ListN.{length}
 use Rattle.slices.specs.Places.{at}
 use Rattle.block.specs.Refusals.{badEntry, badNumber}
 use Rattle.block.specs.Tables.{tableValueVerdict, tableMethodVerdict, restoreVerdict}
-use Rattle.exactly.specs.General.{Reason, reason, plain, Decided, done, _also_, Exactly, exactly}
+use Rattle.exactly.specs.General.{Reason, reason, plain, done, _also_, Exactly, exactly}
 use Rattle.exactly.specs.Conditions.{
   lt-says,
   ge-says,
