@@ -17,15 +17,8 @@ pub struct Call {
 }
 
 impl Call {
-    /// The median time of the calls, once over.
-    #[cfg_attr(feature = "linked", allow(dead_code))]
-    pub fn time<O: Operations>(&self, runs: usize) -> Duration {
-        self.medians(runs, [run::<O>])[0]
-    }
-
     /// The median times of two implementations that take turns, after their
     /// answers and what they leave in all they are lent were found the same.
-    #[cfg_attr(not(feature = "linked"), allow(dead_code))]
     pub fn compare<P: Operations, O: Operations>(&self, runs: usize) -> [Duration; 2] {
         for case in &self.cases {
             let [mut first, mut second] = [case.clone(), case.clone()];

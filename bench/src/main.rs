@@ -1,19 +1,17 @@
 //! Times of the product's operations beside those of plain Rust
-//! (`reference::Fast`), on the same inputs in the same run. Without the feature
-//! `linked` it prints the Rust times alone.
+//! (`reference::Fast`), on the same inputs in the same run.
 //!
-//! `cargo run --release [-- RUNS]`: each time is the median of so many runs, 15
-//! where none is given.
+//! `bench/run [RUNS]`: each time is the median of so many runs, 15 where none is
+//! given.
 
 mod calls;
 mod inputs;
-#[cfg(feature = "linked")]
-mod ours;
 mod print;
 mod timing;
 
 use calls::Call;
 use print::Line;
+use product::Product;
 use reference::Fast;
 use std::process::ExitCode;
 
@@ -33,22 +31,11 @@ fn main() -> ExitCode {
 }
 
 /// The times of a call, the product's and Rust's.
-#[cfg(feature = "linked")]
 fn line(call: &Call, runs: usize) -> Line {
-    let [rust, ours] = call.compare::<Fast, ours::Ours>(runs);
+    let [rust, ours] = call.compare::<Fast, Product>(runs);
     Line {
         name: call.name.clone(),
-        ours: Some(ours),
+        ours,
         rust,
-    }
-}
-
-/// The time of a call in Rust alone, for nothing is linked.
-#[cfg(not(feature = "linked"))]
-fn line(call: &Call, runs: usize) -> Line {
-    Line {
-        name: call.name.clone(),
-        ours: None,
-        rust: call.time::<Fast>(runs),
     }
 }

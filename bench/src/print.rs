@@ -2,10 +2,10 @@
 
 use std::time::Duration;
 
-/// A line of the table; without the product's time its place stays empty.
+/// A line of the table.
 pub struct Line {
     pub name: String,
-    pub ours: Option<Duration>,
+    pub ours: Duration,
     pub rust: Duration,
 }
 
@@ -17,10 +17,8 @@ pub fn table(lines: &[Line]) -> String {
         "", "ours", "Rust", "ratio"
     );
     for line in lines {
-        let ours = line.ours.map_or("-".to_string(), shown);
-        let ratio = line.ours.map_or("-".to_string(), |ours| {
-            format!("{:.2}", ours.as_secs_f64() / line.rust.as_secs_f64())
-        });
+        let ours = shown(line.ours);
+        let ratio = format!("{:.2}", line.ours.as_secs_f64() / line.rust.as_secs_f64());
         let rust = shown(line.rust);
         table += &format!("{:width$}  {ours:>10}  {rust:>10}  {ratio:>6}\n", line.name);
     }

@@ -542,8 +542,7 @@ impl Operations for Product {
 
     fn program(input: &[u8]) -> Vec<u8> {
         let mut out = vec![0; SHEET_ROOM];
-        let count =
-            unsafe { irwystl_print_text(input.as_ptr(), input.len(), out.as_mut_ptr()) };
+        let count = unsafe { irwystl_print_text(input.as_ptr(), input.len(), out.as_mut_ptr()) };
         out.truncate(count);
         out
     }
