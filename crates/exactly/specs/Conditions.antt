@@ -26,7 +26,7 @@ use Rattle.block.specs.Refusals.{check, outside, some, badEntry, badNumber, bad
 use Rattle.block.specs.Lists.{badRowCheck, shareCheck, rowsAfter, passing}
 use Rattle.block.specs.declared.Row.{Row}
 use Rattle.matrix.specs.Linear.{columns-none, columns-more, columns-xor, columns-unit}
-use Rattle.exactly.specs.General.{reason, plain, Decides}
+use Rattle.exactly.specs.General.{placed, plain, Decides}
 
 -- ---- tests and what they say
 
@@ -81,10 +81,10 @@ plain-decided m h s =
 
 -- ---- 1 to 4: x lies outside lo to hi
 
-abbrev pub Outside : ℕ → ℕ → ℕ → Type 0
-Outside lo hi x = (x < lo) ⊎ (hi < x)
+abbrev pub OutOfRange : ℕ → ℕ → ℕ → Type 0
+OutOfRange lo hi x = (x < lo) ⊎ (hi < x)
 
-pub outside-says : (lo hi x : ℕ) → Says (outside lo hi x) (Outside lo hi x)
+pub outside-says : (lo hi x : ℕ) → Says (outside lo hi x) (OutOfRange lo hi x)
 outside-says lo hi x = or-says (lt-says x lo) (lt-says hi x)
 
 -- ---- the least number below m with P
@@ -113,17 +113,17 @@ module _ (m : ℕ) (p : ℕ → Bool) (P : ℕ → Type 0) (s : (i : ℕ) → i 
 -- ---- 6: the least malformed thing
 
 -- a table entry: neither below 2^k nor 65,535
-abbrev pub BadEntry : ℕ → ℕ → Type 0
-BadEntry k x = (2 ^ k ≤ x) × (x ≡ 65535 → ⊥)
+abbrev pub MalformedEntry : ℕ → ℕ → Type 0
+MalformedEntry k x = (2 ^ k ≤ x) × (x ≡ 65535 → ⊥)
 
-pub entry-says : (k x : ℕ) → Says (badEntry k x) (BadEntry k x)
+pub entry-says : (k x : ℕ) → Says (badEntry k x) (MalformedEntry k x)
 entry-says k x = and-says (ge-says x (2 ^ k)) (ne-says x 65535)
 
 -- a matrix row: not below 2^n
-abbrev pub BadNumber : ℕ → ℕ → Type 0
-BadNumber n x = 2 ^ n ≤ x
+abbrev pub MalformedNumber : ℕ → ℕ → Type 0
+MalformedNumber n x = 2 ^ n ≤ x
 
-pub number-says : (n x : ℕ) → Says (badNumber n x) (BadNumber n x)
+pub number-says : (n x : ℕ) → Says (badNumber n x) (MalformedNumber n x)
 number-says n x = ge-says x (2 ^ n)
 
 -- a row: a one among the values where the mask has none
@@ -131,8 +131,8 @@ abbrev pub OutsideMask : Row → Type 0
 OutsideMask r = (i : ℕ) × (bit (r .values) i ≡ 1) × (bit (r .mask) i ≡ 0)
 
 -- a row: mask or values not below 2^n, word not below 2^k, or a value outside the mask
-abbrev pub BadRow : ℕ → ℕ → Row → Type 0
-BadRow n k r = (2 ^ n ≤ r .mask) ⊎ ((2 ^ n ≤ r .values) ⊎ ((2 ^ k ≤ r .word) ⊎ OutsideMask r))
+abbrev pub MalformedRow : ℕ → ℕ → Row → Type 0
+MalformedRow n k r = (2 ^ n ≤ r .mask) ⊎ ((2 ^ n ≤ r .values) ⊎ ((2 ^ k ≤ r .word) ⊎ OutsideMask r))
 
 below-pow : (v : ℕ) → v < 2 ^ v
 below-pow zero = omega arith
@@ -173,7 +173,7 @@ mask-says m v = (λ e. found (ne-says (bitAnd m v) v .0 e), λ w. ne-says (bitAn
             (first v (strays m v), w .0, w .1)
         go (no l) = absurd (d (same (omega arith)))
 
-pub row-says : (n k : ℕ) (r : Row) → Says (badRow n k r) (BadRow n k r)
+pub row-says : (n k : ℕ) (r : Row) → Says (badRow n k r) (MalformedRow n k r)
 unfolding badRow
 row-says n k r =
     or-says (ge-says (r .mask) (2 ^ n))
@@ -181,7 +181,7 @@ row-says n k r =
 
 -- 6 in a list of numbers: A says where it was met, B is the least such index
 pub malformed-decided : (a : ℕ) (bad : ℕ → Bool) (Bad : ℕ → Type 0) (l : List ℕ) → ((x : ℕ) → Says (bad x) (Bad x))
-    → Decides (malformed a bad l) (reason 6 (λ x y. (x ≡ a) × Least (length l) (λ i. Bad (at l i)) y))
+    → Decides (malformed a bad l) (placed 6 (λ x y. (x ≡ a) × Least (length l) (λ i. Bad (at l i)) y))
 malformed-decided a bad Bad l s =
     record {
       same = refl;
@@ -195,7 +195,7 @@ malformed-decided a bad Bad l s =
 
 -- 6 in a list of rows
 pub bad-row-decided : (n k : ℕ) (rs : List Row)
-    → Decides (badRowCheck n k rs) (reason 6 (λ x y. (x ≡ 0) × Least (length rs) (λ i. BadRow n k (rowAt rs i)) y))
+    → Decides (badRowCheck n k rs) (placed 6 (λ x y. (x ≡ 0) × Least (length rs) (λ i. MalformedRow n k (rowAt rs i)) y))
 bad-row-decided n k rs =
     record {
       same = refl;
@@ -204,25 +204,25 @@ bad-row-decided n k rs =
       only =
           λ x y (u, w).
           let f =
-          least-first (length rs) (λ i. badRow n k (rowAt rs i)) (λ i. BadRow n k (rowAt rs i)) (λ i b. row-says n k (rowAt rs i)) y w in
+          least-first (length rs) (λ i. badRow n k (rowAt rs i)) (λ i. MalformedRow n k (rowAt rs i)) (λ i b. row-says n k (rowAt rs i)) y w in
           (lt-ltb _ _ (f .0), sym u, f .1);
     }
 
 -- ---- 7: two rows share a point
 
 -- the point x lies under the row: at each fixed input x has the row's value
-abbrev pub Under : Row → ℕ → Type 0
-Under r x = bitAnd (r .mask) x ≡ r .values
+abbrev pub LiesUnder : Row → ℕ → Type 0
+LiesUnder r x = bitAnd (r .mask) x ≡ r .values
 
 -- some point lies under both
 abbrev pub Meet : ℕ → Row → Row → Type 0
-Meet n r s = (x : ℕ) × (x < 2 ^ n) × Under r x × Under s x
+Meet n r s = (x : ℕ) × (x < 2 ^ n) × LiesUnder r x × LiesUnder s x
 
 -- rows a and b share a point: smallest first, then smallest second
 pub record FirstPair (n : ℕ) (rs : List Row) (a b : ℕ) : Type 0 where
   pub ordered : a < b
   pub given : b < length rs
-  pub meet : Meet n (rowAt rs a) (rowAt rs b)
+  pub shared : Meet n (rowAt rs a) (rowAt rs b)
   pub before : (i j : ℕ) → i < a → i < j → j < length rs → Meet n (rowAt rs i) (rowAt rs j) → ⊥
   pub between : (j : ℕ) → a < j → j < b → Meet n (rowAt rs a) (rowAt rs j) → ⊥
 
@@ -230,7 +230,7 @@ pub share-says : (n : ℕ) (r s : Row) → Says (share n r s) (Meet n r s)
 unfolding share
 share-says n r s = (λ e. found (ltb-true _ _ e), λ (x, h, a, b). lt-ltb _ _ (first-found (2 ^ n) (λ x. under r x && under s x) x h (both x .1 (a, b))))
   where
-    both : (x : ℕ) → Says (under r x && under s x) (Under r x × Under s x)
+    both : (x : ℕ) → Says (under r x && under s x) (LiesUnder r x × LiesUnder s x)
     both x = and-says (eq-says (bitAnd (r .mask) x) (r .values)) (eq-says (bitAnd (s .mask) x) (s .values))
 
     found : first (2 ^ n) (λ x. under r x && under s x) < 2 ^ n → Meet n r s
@@ -270,7 +270,7 @@ module _ (n : ℕ) (rs : List Row) where
   unfolding sharing
   least-sharing = least-first (length rs) _ Shares (λ i b. lt-says (second n rs i) (length rs))
 
-  pub pair-decided : Decides (shareCheck n rs) (reason 7 (FirstPair n rs))
+  pub pair-decided : Decides (shareCheck n rs) (placed 7 (FirstPair n rs))
   pair-decided = record { same = refl; refuses = λ e. omega arith; sound = λ e. sound (ltb-true _ _ e); only = only }
     where
       sound : sharing n rs < length rs → FirstPair n rs (sharing n rs) (second n rs (sharing n rs))
@@ -280,7 +280,7 @@ module _ (n : ℕ) (rs : List Row) where
           record {
             ordered = t .holds .0;
             given = t .below;
-            meet = t .holds .1;
+            shared = t .holds .1;
             before = λ i j h g k w. s .earlier i h (second-found i j k (g, w));
             between = λ j g h w. t .earlier j h (g, w);
           }
@@ -289,7 +289,7 @@ module _ (n : ℕ) (rs : List Row) where
           → (ltb (sharing n rs) (length rs) ≡ true) × (sharing n rs ≡ a) × (second n rs (sharing n rs) ≡ b)
       only a b f =
           let l : a < length rs = omega (arith, f .ordered, f .given) in
-          let t = least-second a b (record { below = f .given; holds = (f .ordered, f .meet); earlier = λ j h (g, w). f .between j g h w }) in
+          let t = least-second a b (record { below = f .given; holds = (f .ordered, f .shared); earlier = λ j h (g, w). f .between j g h w }) in
           let s =
           least-sharing a
           (record {
@@ -358,7 +358,7 @@ span-says s a = (span-when s a (s a), λ (z, h, e). span-only s a z (s a) e)
 
 -- 8: the least such index
 pub dependent-decided : (n : ℕ) (s : ℕ → ℕ)
-    → Decides (check (ltb (dependent n s) n) 8 (dependent n s) 0) (reason 8 (λ a b. Least n (XorOfEarlier s) a × (b ≡ 0)))
+    → Decides (check (ltb (dependent n s) n) 8 (dependent n s) 0) (placed 8 (λ a b. Least n (XorOfEarlier s) a × (b ≡ 0)))
 unfolding dependent
 dependent-decided n s =
     record {
@@ -381,25 +381,25 @@ pub record FirstPassing (n w : ℕ) (rs : List Row) (a : ℕ) : Type 0 where
 
 module _ (n w : ℕ) (rs : List Row) where
   -- there are more than 512 rows after step i + 1
-  abbrev Passes : ℕ → Type 0
-  Passes i = 512 < length (rowsAfter n w (suc i) rs)
+  abbrev MoreAfter : ℕ → Type 0
+  MoreAfter i = 512 < length (rowsAfter n w (suc i) rs)
 
-  passing-least : passing n w rs < n → Least n Passes (passing n w rs)
+  passing-least : passing n w rs < n → Least n MoreAfter (passing n w rs)
   unfolding passing
-  passing-least = first-least n _ Passes (λ i b. lt-says 512 (length (rowsAfter n w (suc i) rs)))
+  passing-least = first-least n _ MoreAfter (λ i b. lt-says 512 (length (rowsAfter n w (suc i) rs)))
 
-  least-passing : (i : ℕ) → Least n Passes i → (passing n w rs < n) × (passing n w rs ≡ i)
+  least-passing : (i : ℕ) → Least n MoreAfter i → (passing n w rs < n) × (passing n w rs ≡ i)
   unfolding passing
-  least-passing = least-first n _ Passes (λ i b. lt-says 512 (length (rowsAfter n w (suc i) rs)))
+  least-passing = least-first n _ MoreAfter (λ i b. lt-says 512 (length (rowsAfter n w (suc i) rs)))
 
   pub passing-decided :
-      Decides (check (ltb (passing n w rs) n) 9 (suc (passing n w rs)) 0) (reason 9 (λ a b. FirstPassing n w rs a × (b ≡ 0)))
+      Decides (check (ltb (passing n w rs) n) 9 (suc (passing n w rs)) 0) (placed 9 (λ a b. FirstPassing n w rs a × (b ≡ 0)))
   passing-decided = record { same = refl; refuses = λ e. omega arith; sound = λ e. (sound (ltb-true _ _ e), refl); only = only }
     where
       sound : passing n w rs < n → FirstPassing n w rs (suc (passing n w rs))
       sound l = record { step = (omega arith, omega arith); passes = s .holds; before = before }
         where
-          s : Least n Passes (passing n w rs)
+          s : Least n MoreAfter (passing n w rs)
           s = passing-least l
 
           before : (j : ℕ) → 1 ≤ j → j < suc (passing n w rs) → length (rowsAfter n w j rs) ≤ 512

@@ -20,7 +20,7 @@ use Rattle.lines.specs.Tests.{every-at, every-all, equal-true, equal-same}
 use Rattle.lines.specs.Numerals.{valueOf, numeral-written, written-numeral}
 use Rattle.lines.specs.HeadLines.{last-apart, form-written, written-form}
 use Rattle.lines.specs.RowLines.{symbolTest, bitTest}
-use Rattle.exactly.specs.General.{reason, Decides}
+use Rattle.exactly.specs.General.{placed, Decides}
 use Rattle.exactly.specs.Conditions.{Says, eq-says, ne-says, or-says, and-says, says-not, says-false, Least, first-least, least-first}
 
 le-says : (a b : ℕ) → Says (leb a b) (a ≤ b)
@@ -33,12 +33,12 @@ every-says p P l s = (λ e i h. s (at l i) .0 (every-at p l e i h), λ w. every-
 -- ---- a heading
 
 -- 1 to 3 decimal digits without leading zeros; "0" has form
-abbrev pub Numeral : List ℕ → Type 0
-Numeral ds =
+abbrev pub DecimalDigits : List ℕ → Type 0
+DecimalDigits ds =
     ((1 ≤ length ds) × (length ds ≤ 3))
     × (((i : ℕ) → i < length ds → (48 ≤ at ds i) × (at ds i ≤ 57)) × ((length ds ≡ 1) ⊎ (at ds 0 ≡ 48 → ⊥)))
 
-numeral-says : (ds : List ℕ) → Says (numeral ds) (Numeral ds)
+numeral-says : (ds : List ℕ) → Says (numeral ds) (DecimalDigits ds)
 unfolding numeral
 numeral-says ds =
     and-says (and-says (le-says 1 (length ds)) (le-says (length ds) 3))
@@ -48,7 +48,7 @@ numeral-says ds =
 
 -- ".x number" and LF
 abbrev pub Heading : ℕ → List ℕ → Type 0
-Heading letter l = (ds : List ℕ) × Numeral ds × (l ≡ 46 ∷ letter ∷ 32 ∷ (ds ++ (10 ∷ [])))
+Heading letter l = (ds : List ℕ) × DecimalDigits ds × (l ≡ 46 ∷ letter ∷ 32 ∷ (ds ++ (10 ∷ [])))
 
 pub heading-says : (letter : ℕ) (l : List ℕ) → Says (headForm letter l) (Heading letter l)
 unfolding headLine
@@ -59,7 +59,7 @@ heading-says letter l = (λ e. has e, λ (ds, w, e). form ds w e)
         let f = form-written letter l e in
         (decimal (valueOf (numberPart l)), numeral-says (decimal (valueOf (numberPart l))) .0 (written-numeral (valueOf (numberPart l)) (f .1) .0), f .0)
 
-    form : (ds : List ℕ) → Numeral ds → l ≡ 46 ∷ letter ∷ 32 ∷ (ds ++ (10 ∷ [])) → headForm letter l ≡ true
+    form : (ds : List ℕ) → DecimalDigits ds → l ≡ 46 ∷ letter ∷ 32 ∷ (ds ++ (10 ∷ [])) → headForm letter l ≡ true
     form ds w e =
         let q = numeral-written ds (numeral-says ds .1 w) in
         let same : l ≡ headLine letter (valueOf ds) = e ∙ ap (λ (x : List ℕ). 46 ∷ letter ∷ 32 ∷ (x ++ (10 ∷ []))) (q .0) in
@@ -104,7 +104,7 @@ parts-says n k l =
     )
 
 pub row-shape-says : (n k : ℕ) (l : List ℕ) → Says (rowForm n k l) (RowShape n k l)
-row-shape-says n k l = (λ e. shape (parts-says n k l .0 e), λ w. parts-says n k l .1 (parts w))
+row-shape-says n k l = (λ e. shape (parts-says n k l .0 e), λ w. parts-says n k l .1 (parts-from w))
   where
     shape : Parts n k l → RowShape n k l
     shape p =
@@ -127,8 +127,8 @@ row-shape-says n k l = (λ e. shape (parts-says n k l .0 e), λ w. parts-says n 
               ∙ ap (λ (x : ℕ). take k (drop (n + 1) l) ++ (x ∷ [])) (getD-drop (n + 1) l k 0 ∙ p .last)));
         }
 
-    parts : RowShape n k l → Parts n k l
-    parts w = rw (w .whole) (parts-of (w .symbols) (w .word) (w .inputs) (w .outputs) (w .symbol) (w .digit))
+    parts-from : RowShape n k l → Parts n k l
+    parts-from w = rw (w .whole) (parts-of (w .symbols) (w .word) (w .inputs) (w .outputs) (w .symbol) (w .digit))
       where
         parts-of : (x y : List ℕ) → length x ≡ n → length y ≡ k
             → ((i : ℕ) → i < length x → (at x i ≡ 48) ⊎ ((at x i ≡ 49) ⊎ (at x i ≡ 45)))
@@ -154,7 +154,7 @@ row-shape-says n k l = (λ e. shape (parts-says n k l .0 e), λ w. parts-says n 
 
 -- ---- what is due at line a, from 1, of a text with p rows: three headings, the rows, ".e", and nothing more
 
-pub record Due (n k p a : ℕ) (l : List ℕ) : Type 0 where
+pub record FormDue (n k p a : ℕ) (l : List ℕ) : Type 0 where
   pub inputs : a ≡ 1 → Heading 105 l
   pub outputs : a ≡ 2 → Heading 111 l
   pub count : a ≡ 3 → Heading 112 l
@@ -204,7 +204,7 @@ module _ (n k p i : ℕ) (l : List ℕ) where
         ne-eqb i (3 + p) (λ z. omega arith),
       )
 
-  pub due-says : Says (due n k p i l) (Due n k p (suc i) l)
+  pub due-says : Says (due n k p i l) (FormDue n k p (suc i) l)
   due-says = (
     λ e.
         record {
@@ -218,7 +218,7 @@ module _ (n k p i : ℕ) (l : List ℕ) where
     λ d. go d (ℕ-discrete i 0) (ℕ-discrete i 1) (ℕ-discrete i 2) (decLt i (3 + p)) (ℕ-discrete i (3 + p)),
   )
     where
-      go : Due n k p (suc i) l → Dec (i ≡ 0) → Dec (i ≡ 1) → Dec (i ≡ 2) → Dec (i < 3 + p) → Dec (i ≡ 3 + p) → due n k p i l ≡ true
+      go : FormDue n k p (suc i) l → Dec (i ≡ 0) → Dec (i ≡ 1) → Dec (i ≡ 2) → Dec (i < 3 + p) → Dec (i ≡ 3 + p) → due n k p i l ≡ true
       go d (yes q) _ _ _ _ = at-inputs q ∙ heading-says 105 l .1 (d .inputs (omega arith))
       go d (no a) (yes q) _ _ _ = at-outputs q ∙ heading-says 111 l .1 (d .outputs (omega arith))
       go d (no a) (no b) (yes q) _ _ = at-count q ∙ heading-says 112 l .1 (d .count (omega arith))
@@ -230,7 +230,7 @@ module _ (n k p i : ℕ) (l : List ℕ) where
 
 -- line a, from 1, has the form due there
 abbrev pub DueAt : List ℕ → ℕ → Type 0
-DueAt text a = Due (headNumber text 0) (headNumber text 1) (headNumber text 2) a (lineAt text (a - 1))
+DueAt text a = FormDue (headNumber text 0) (headNumber text 1) (headNumber text 2) a (lineAt text (a - 1))
 
 -- a is the first of m lines that has not
 pub record FirstFaulty (text : List ℕ) (m a : ℕ) : Type 0 where
@@ -278,7 +278,7 @@ module _ (text : List ℕ) (m : ℕ) where
       line-says j .0
       (not-false (due n k p j (lineAt text j)) (first-below m (λ i. not (due n k p i (lineAt text i))) j h))
 
-  pub faulty-decided : Decides (check (ltb (faulty text m) m) 10 (suc (faulty text m)) 0) (reason 10 (λ a b. FirstFaulty text m a × (b ≡ 0)))
+  pub faulty-decided : Decides (check (ltb (faulty text m) m) 10 (suc (faulty text m)) 0) (placed 10 (λ a b. FirstFaulty text m a × (b ≡ 0)))
   faulty-decided = record { same = refl; refuses = λ e. omega arith; sound = λ e. (sound (ltb-true _ _ e), refl); only = only }
     where
       sound : faulty text m < m → FirstFaulty text m (suc (faulty text m))

@@ -1,6 +1,6 @@
 -- A reason is a line of 01's table: a number, and a condition on what the caller gave and on the two places. `Exactly` says that an answer
 -- is given by a list of reasons: a refusal exactly when its reason holds at its places and no earlier reason holds, 0 exactly when none
--- does. The verdict of a list of checks is so given where each check decides its reason (`exactly`). Assumes nothing.
+-- does. The verdict of a list of checks is so given where each check decides its reason (`decided-exactly`). Assumes nothing.
 use mathlib.Core.Path.{_≡_, refl, sym, ap, _∙_}
 use mathlib.Core.Bool.{Bool, true, false, false≢true}
 use mathlib.Core.List.{List, [], _∷_}
@@ -13,32 +13,33 @@ use Rattle.verdicts.specs.Verdicts.{verdict-hit, verdict-miss, verdict-none}
 
 -- ---- what is said
 
--- a line of 01's table: the number, and when it is due with the places A and B
+-- a line of 01's table: the number, and when it is given with the places A and B
 pub record Reason : Type 1 where
   pub number : ℕ
-  pub due : ℕ → ℕ → Type 0
+  pub when : ℕ → ℕ → Type 0
 
-abbrev pub reason : ℕ → (ℕ → ℕ → Type 0) → Reason
-reason number due = record { number = number; due = due }
+-- a line that names places
+abbrev pub placed : ℕ → (ℕ → ℕ → Type 0) → Reason
+placed number when = record { number = number; when = when }
 
 -- a line that names no place
 abbrev pub plain : ℕ → Type 0 → Reason
-plain number P = reason number (λ a b. P × (a ≡ 0) × (b ≡ 0))
+plain number P = placed number (λ a b. P × (a ≡ 0) × (b ≡ 0))
 
 -- the reason holds at no places
 abbrev pub Never : Reason → Type 0
-Never r = (a b : ℕ) → r .due a b → ⊥
+Never r = (a b : ℕ) → r .when a b → ⊥
 
 -- reason i of a list; past its end, one that never holds
 abbrev pub reasonAt : List Reason → ℕ → Reason
-reasonAt [] i = reason 0 (λ a b. ⊥)
+reasonAt [] i = placed 0 (λ a b. ⊥)
 reasonAt (r ∷ rs) zero = r
 reasonAt (r ∷ rs) (suc i) = reasonAt rs i
 
 -- reason i has the number m and holds at a and b, and no earlier one holds
 pub record Earliest (rs : List Reason) (i m a b : ℕ) : Type 0 where
   pub number : reasonAt rs i .number ≡ m
-  pub holds : reasonAt rs i .due a b
+  pub holds : reasonAt rs i .when a b
   pub earlier : (j : ℕ) → j < i → Never (reasonAt rs j)
 
 -- the answer v is given as the lines say
@@ -56,8 +57,8 @@ pub record Exactly (rs : List Reason) (v : Answer) : Type 0 where
 pub record Decides (c : Check) (r : Reason) : Type 0 where
   pub same : c .number ≡ r .number
   pub refuses : c .number ≡ 0 → ⊥
-  pub sound : c .holds ≡ true → r .due (c .a) (c .b)
-  pub only : (a b : ℕ) → r .due a b → (c .holds ≡ true) × (c .a ≡ a) × (c .b ≡ b)
+  pub sound : c .holds ≡ true → r .when (c .a) (c .b)
+  pub only : (a b : ℕ) → r .when a b → (c .holds ≡ true) × (c .a ≡ a) × (c .b ≡ b)
 
 -- likewise check by check
 infixr 5 _also_
@@ -84,7 +85,7 @@ pub refused-only : (cs : List Check) (rs : List Reason) → Decided cs rs → (m
 refused-only [] [] done m a b h e = absurd (h (sym (number-of e) ∙ number-of verdict-none))
 refused-only (c ∷ cs) (r ∷ rs) (d also ds) m a b h e = go (λ f. refused-only cs rs ds m a b h f) (c .holds) refl
   where
-    here : answer (c .number) (c .a) (c .b) ≡ answer m a b → r .due (c .a) (c .b) → Earliest (r ∷ rs) 0 m a b
+    here : answer (c .number) (c .a) (c .b) ≡ answer m a b → r .when (c .a) (c .b) → Earliest (r ∷ rs) 0 m a b
     here q w =
         let x : c .a ≡ a = ap (λ (v : Answer). v .a) q in
         let y : c .b ≡ b = ap (λ (v : Answer). v .b) q in
@@ -123,8 +124,8 @@ pub answered-when : (cs : List Check) (rs : List Reason) → Decided cs rs → (
 answered-when [] [] done w = verdict-none
 answered-when (c ∷ cs) (r ∷ rs) (d also ds) w = verdict-miss c cs (passed c r d (w 0)) ∙ answered-when cs rs ds (λ i. w (suc i))
 
-pub exactly : (cs : List Check) (rs : List Reason) → Decided cs rs → Exactly rs (verdict cs)
-exactly cs rs d =
+pub decided-exactly : (cs : List Check) (rs : List Reason) → Decided cs rs → Exactly rs (verdict cs)
+decided-exactly cs rs d =
     record {
       refused = λ m a b h. (refused-only cs rs d m a b h, λ (i, f). refused-when cs rs d i m a b f);
       answered = (answered-only cs rs d, λ w. number-of (answered-when cs rs d w));
