@@ -1,10 +1,11 @@
 //! The product against the plain operations of `reference`: seeded calls, valid
 //! and damaged, every operation with rows in flat slices and as records, answers
-//! and everything lent compared. Lent storage holds a drawn pattern before each
+//! and everything lent compared; then the cases of `data/`. Lent storage holds a drawn pattern before each
 //! call and is never cleared, so that a stray write shows. Each call of the
 //! product runs in a thread with 1 MiB of stack.
 
 use product::Product;
+use reference::data::{check_lists, check_operations};
 use reference::inputs::Case;
 use reference::Plain;
 use std::{env, thread};
@@ -49,4 +50,14 @@ fn drawn_calls_with_records() {
         assert_eq!(answer, due_answer, "seed {seed}");
         assert_eq!(got, due, "seed {seed}: what was lent");
     }
+}
+
+#[test]
+fn every_operation_has_the_answer_due() {
+    small_stack(check_operations::<Product>);
+}
+
+#[test]
+fn every_list_has_the_sheet_due() {
+    small_stack(check_lists::<Product>);
 }

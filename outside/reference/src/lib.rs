@@ -8,13 +8,14 @@
 //! operations on full tables and on rows, [`text`] and [`sheet`] the texts.
 //! These are written to be read beside 01 and take the long way wherever that
 //! is the plain one. [`fast`] has the same operations as one would write them
-//! for speed, [`operations`] both under one trait, and [`inputs`] makes inputs
-//! from a seed.
+//! for speed, [`operations`] both under one trait, [`inputs`] makes inputs
+//! from a seed, and [`data`] holds an implementation to the cases of `data/`.
 //!
 //! Not here: anything of the proved product. The two share nothing but 01.
 
 pub mod answer;
 pub mod checks;
+pub mod data;
 pub mod fast;
 pub mod inputs;
 pub mod list;
