@@ -1,6 +1,6 @@
 -- A step of the choice, as the code has it: the candidates by a matrix, the number chosen with it, and the matrix after the step.
 -- Not here: why they are those of 01 (the crates choice and matrix). Assumes nothing.
-use mathlib.Core.Path.{_≡_, refl, sym, ap, ap₂, _∙_, subst}
+use mathlib.Core.Path.{_≡_, sym, ap, ap₂, _∙_}
 use mathlib.Core.Bool.{Bool, true, false, cond, _&&_}
 use mathlib.Core.List.{List}
 use Prim.Native.Nat.{ℕ, zero, suc, _+_, _*_, _^_, _≤_, _<_}
@@ -11,7 +11,7 @@ use lib.Dec.{eqb, ltb, leb}
 use lib.ListN.{length}
 use Rattle.bits.specs.Digits.{bit}
 use Rattle.slices.specs.Places.{at, tab, over}
-use Rattle.slices.specs.Filled.{over-at, over-over, tab-cong, length-over}
+use Rattle.slices.specs.Filled.{over-at, over-over, tab-cong}
 use Rattle.sums.specs.Sums.{sum}
 use Rattle.sums.specs.Laws.{sum-cong}
 use Rattle.block.specs.Basis.{before, best, candidate, span, apply}
@@ -165,12 +165,3 @@ choose-turn v n w k r l s hw hk e d =
 pub sum-held : (v f : ℕ → ℕ) (n : ℕ) (l s : List ℕ) → s ≡ over (tab n f) l → sum (λ i. v (at s i)) n ≡ sum (λ i. v (f i)) n
 sum-held v f n l s e =
     sum-cong (λ i. v (at s i)) (λ i. v (f i)) n (λ i h. ap v (ap (λ (m : List ℕ). at m i) e ∙ over-at n f l 0 i h))
-
--- what holds of f below n holds of what a slice with f stored in it has there
-pub all-held : (P : ℕ → Type 0) (f : ℕ → ℕ) (n : ℕ) (l s : List ℕ) → s ≡ over (tab n f) l → ((i : ℕ) → i < n → P (f i))
-    → (i : ℕ) → i < n → P (at s i)
-all-held P f n l s e h i b = subst P (sym (ap (λ (m : List ℕ). at m i) e ∙ over-at n f l 0 i b)) (h i b)
-
--- such a slice is as long as before
-pub length-held : (f : ℕ → ℕ) (n : ℕ) (l s : List ℕ) → s ≡ over (tab n f) l → n ≤ length l → length s ≡ length l
-length-held f n l s e h = ap length e ∙ length-over n f l h

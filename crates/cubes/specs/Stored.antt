@@ -8,7 +8,7 @@ use native.Mathlib.Omega.{arith}
 use borrow.Author.Tests.{eq-eqb, ne-eqb}
 use lib.Bits.{bitAnd, bitXor, bitOr}
 use lib.Count.{ones}
-use lib.Dec.{eqb, leb}
+use lib.Dec.{eqb}
 use lib.ListN.{length, set, length-set, length-append}
 use lib.Pow.{pow-mono}
 use Rattle.slices.specs.Places.{at, tab, over}
@@ -39,10 +39,6 @@ hitAt m v w t q = hit t (cube (at m q) (at v q) (at w q))
 abbrev pub addedBy : List ℕ → List ℕ → List ℕ → ℕ → ℕ → ℕ
 addedBy m v w r t = sum (hitAt m v w t) r
 
--- R(t) where t has at most w one-bits, and else 0
-abbrev pub limited : ℕ → (ℕ → ℕ) → ℕ → ℕ
-limited w f t = cond (leb (ones t) w) (f t) 0
-
 pub cubes-at-none : (m v w : List ℕ) → CubesAt [] m v w m v w 0
 cubes-at-none m v w = record { count = refl; masks = refl; values = refl; weights = refl }
 
@@ -70,10 +66,10 @@ module _ (n : ℕ) (rs : List Row) (d : Disjoint n rs) (m₀ v₀ w₀ m v w : L
     pub cubes-small : (t : ℕ) → t < 2 ^ n → n ≤ 16 → addedBy m v w r t ≤ 65536
     cubes-small t h l = omega (arith, cubes-shift t h, shift-le (ofRows rs) n t, pow-mono l)
 
-    -- the values at every t
-    pub cubes-shifts : (u : ℕ) → tab (2 ^ n) (limited u (addedBy m v w r)) ≡ tab (2 ^ n) (limited u (shift (ofRows rs) n))
-    cubes-shifts u =
-        tab-cong (2 ^ n) _ _ (λ t h. ap (λ (x : ℕ). cond (leb (ones t) u) x 0) (cubes-shift t h))
+    -- the values at a list of numbers
+    pub cubes-shifts : (l : List ℕ) (k : ℕ) → ((i : ℕ) → i < k → at l i < 2 ^ n)
+        → tab k (λ i. addedBy m v w r (at l i)) ≡ tab k (λ i. shift (ofRows rs) n (at l i))
+    cubes-shifts l k h = tab-cong k _ _ (λ i b. cubes-shift (at l i) (h i b))
 
 -- ---- how many there are
 

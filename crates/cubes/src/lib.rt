@@ -1,5 +1,5 @@
 // R of a list of rows by cubes (document 003, Theorem 1): one cube for each pair of rows with equal words, its parts laid out in three
-// slices; what the cubes add at one t, and at every t of a bounded weight. Every function here is inner.
+// slices; what the cubes add at one t, and at each t of a list. Every function here is inner.
 ghost use mathlib.Core.Path.{_≡_};
 ghost use mathlib.Core.Bool.{cond};
 ghost use Prim.Native.Nat.{ℕ, _-_, _*_, _≤_, _<_, _^_};
@@ -14,7 +14,7 @@ ghost use Rattle.pairs.specs.Cube.{Sound};
 ghost use Rattle.pairs.specs.Theorem.{Every, Disjoint};
 ghost use Rattle.pairs.specs.Symmetric.{cubesOf};
 ghost use Rattle.listing.specs.Listing.{Listed};
-ghost use Rattle.cubes.specs.Stored.{CubesAt, addedBy, limited};
+ghost use Rattle.cubes.specs.Stored.{CubesAt, addedBy};
 
 // Whether two words are equal, in all their columns; word 0 is a word like any other.
 pub fn same_word(a: u32, b: u32) -> bool
@@ -123,45 +123,25 @@ pub fn shift_by_cubes(
     sum
 }
 
-// The same where t has at most w one-bits, and else 0.
-pub fn limited_shift(
-    cube_masks: &[u32],
-    cube_values: &[u32],
-    cube_weights: &[u32],
-    count: usize,
-    w: usize,
-    t: u32,
-) -> u32
-    requires { ⌜ (count ≤ length (now «cube_masks»)) × (count ≤ length (now «cube_values»)) × (count ≤ length (now «cube_weights»)) × (w ≤ 16) ⌝ }
-    requires { ⌜ addedBy (now «cube_masks») (now «cube_values») (now «cube_weights») count t ≤ 65536 ⌝ }
-    ensures { λ r. ⌜ r ≡ limited w (addedBy (now («cube_masks» .entry)) (now («cube_values» .entry)) (now («cube_weights» .entry)) count) t ⌝ }
-{
-    if u32::count_ones(t) <= w as u32 {
-        return shift_by_cubes(cube_masks, cube_values, cube_weights, count, t);
-    }
-    0
-}
-
-// What the cubes add at every t below 2^n with at most w one-bits, each worked out once, and 0 at the others.
+// What the cubes add at each t of a list, by its place there.
 pub fn shifts_by_cubes(
     cube_masks: &[u32],
     cube_values: &[u32],
     cube_weights: &[u32],
     count: usize,
-    n: usize,
-    w: usize,
+    ts: &[u32],
+    places: usize,
     out: &mut [u32],
 )
     requires { ⌜ (count ≤ length (now «cube_masks»)) × (count ≤ length (now «cube_values»)) × (count ≤ length (now «cube_weights»)) ⌝ }
-    requires { ⌜ (n ≤ 16) × (w ≤ n) × (2 ^ n ≤ length (now out)) ⌝ }
-    requires { ⌜ ((t : ℕ) → t < 2 ^ n → addedBy (now «cube_masks») (now «cube_values») (now «cube_weights») count t ≤ 65536) ⌝ }
-    ensures { λ _. ⌜ now (out .exit) ≡ over (tab (2 ^ n) (limited w (addedBy (now («cube_masks» .entry)) (now («cube_values» .entry)) (now («cube_weights» .entry)) count))) (now (out .entry)) ⌝ }
+    requires { ⌜ (places ≤ length (now ts)) × (places ≤ length (now out)) ⌝ }
+    requires { ⌜ ((i : ℕ) → i < places → addedBy (now «cube_masks») (now «cube_values») (now «cube_weights») count (at (now ts) i) ≤ 65536) ⌝ }
+    ensures { λ _. ⌜ now (out .exit) ≡ over (tab places (λ i. addedBy (now («cube_masks» .entry)) (now («cube_values» .entry)) (now («cube_weights» .entry)) count (at (now (ts .entry)) i))) (now (out .entry)) ⌝ }
 {
-    let size = numbers::size(n);
-    let mut t: usize = 0;
-    while t < size {
-        out[t] = limited_shift(cube_masks, cube_values, cube_weights, count, w, t as u32);
-        t += 1;
+    let mut i: usize = 0;
+    while i < places {
+        out[i] = shift_by_cubes(cube_masks, cube_values, cube_weights, count, ts[i]);
+        i += 1;
     }
 }
 
@@ -186,18 +166,20 @@ pub fn shift_of_rows(n: usize, masks: &[u32], values: &[u32], words: &[u32], t: 
     shift_by_cubes(&cube_masks, &cube_values, &cube_weights, count, t)
 }
 
-// R of a list of disjoint rows at every t below 2^n with at most w one-bits, each worked out once, and 0 at the others.
+// R of a list of disjoint rows at each t of a list of numbers below 2^n, by its place there.
 pub fn shifts_of_rows(
     n: usize,
-    w: usize,
     masks: &[u32],
     values: &[u32],
     words: &[u32],
+    ts: &[u32],
+    places: usize,
     out: &mut [u32],
 )
-    requires { ⌜ (n ≤ 16) × (w ≤ n) × (2 ^ n ≤ length (now out)) × Listed 128 (now masks) (now values) (now words) ⌝ }
+    requires { ⌜ (n ≤ 16) × Listed 128 (now masks) (now values) (now words) ⌝ }
     requires { ⌜ Disjoint n (rowsOf (now masks) (now values) (now words)) ⌝ }
-    ensures { λ _. ⌜ now (out .exit) ≡ over (tab (2 ^ n) (limited w (shift (ofRows (rowsOf (now (masks .entry)) (now (values .entry)) (now (words .entry)))) n))) (now (out .entry)) ⌝ }
+    requires { ⌜ (places ≤ length (now ts)) × (places ≤ length (now out)) × ((i : ℕ) → i < places → at (now ts) i < 2 ^ n) ⌝ }
+    ensures { λ _. ⌜ now (out .exit) ≡ over (tab places (λ i. shift (ofRows (rowsOf (now (masks .entry)) (now (values .entry)) (now (words .entry)))) n (at (now (ts .entry)) i))) (now (out .entry)) ⌝ }
 {
     let mut cube_masks = [0u32; 8256];
     let mut cube_values = [0u32; 8256];
@@ -211,5 +193,13 @@ pub fn shifts_of_rows(
         &mut cube_values,
         &mut cube_weights,
     );
-    shifts_by_cubes(&cube_masks, &cube_values, &cube_weights, count, n, w, out);
+    shifts_by_cubes(
+        &cube_masks,
+        &cube_values,
+        &cube_weights,
+        count,
+        ts,
+        places,
+        out,
+    );
 }

@@ -2,14 +2,12 @@
 use mathlib.Core.Path.{_≡_, refl, sym, ap, _∙_}
 use mathlib.Core.Bool.{cond}
 use mathlib.Core.List.{List, map}
-use Prim.Native.Nat.{ℕ, suc, _^_, _≤_, _<_}
+use Prim.Native.Nat.{ℕ, suc, _≤_, _<_}
 use native.Mathlib.Omega.{arith}
-use lib.Count.{ones}
-use borrow.Author.Tests.{le-leb}
 use lib.Dec.{ltb}
 use lib.ListN.{length, drop, List·getD-append}
 use Rattle.slices.specs.Places.{at, tab, over}
-use Rattle.slices.specs.Filled.{length-tab, map-tab, over-at, tab-front}
+use Rattle.slices.specs.Filled.{length-tab, map-tab, tab-front}
 use Rattle.slices.specs.Least.{first-cong}
 use Rattle.block.specs.Limits.{smallerRows}
 use Rattle.block.specs.Words.{row, ofRows, rowsOf}
@@ -19,14 +17,13 @@ use Rattle.block.specs.Rows.{moved}
 use Rattle.block.specs.Lists.{rowsAfter, passing, smallerList}
 use Rattle.block.specs.declared.Row.{Row}
 use Rattle.listing.specs.Listing.{Listed, rowsFrom, rows-of}
-use Rattle.choice.specs.Chosen.{Agree, length-chosen}
+use Rattle.choice.specs.Chosen.{length-chosen}
 use Rattle.matrix.specs.Reached.{Independent, independent-cong}
 use Rattle.matrix.specs.Candidate.{basis-independent}
 use Rattle.matrix.specs.Inverse.{length-inverse}
 use Rattle.moves.specs.Moved.{moved-cong}
 use Rattle.choosing.specs.Found.{Found}
 use Rattle.choosing.specs.declared.Measures.{Measures}
-use Rattle.cubes.specs.Stored.{limited}
 use Rattle.row_steps.specs.Held.{rows-copied}
 use Rattle.row_steps.specs.Passed.{passingBy, Replayed}
 use Rattle.row_steps.specs.declared.Replay.{Replay}
@@ -62,11 +59,6 @@ pub record RowsWorked (n w : ℕ) (rs : List Row) (t s m v d t′ s′ m′ v′
   pub made : r .step ≡ 0 → Made n w rs t s m v d t′ s′ m′ v′ d′ r
 
 -- ---- the parts
-
--- values that are R where t has at most w one-bits, and 0 elsewhere, agree with R where the rule asks for it
-pub limited-agree : (f : ℕ → ℕ) (n w : ℕ) (l s : List ℕ) → s ≡ over (tab (2 ^ n) (limited w f)) l → Agree (at s) f n w
-limited-agree f n w l s e t h a b =
-    ap (λ (x : List ℕ). at x t) e ∙ over-at (2 ^ n) (limited w f) l 0 t h ∙ rw (le-leb (ones t) w b)
 
 -- the parts of the first rows of three slices, written out
 pub list-put : (count : ℕ) (a b c m v d m′ v′ d′ : List ℕ) → m′ ≡ over (tab count (at a)) m → v′ ≡ over (tab count (at b)) v

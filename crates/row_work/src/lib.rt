@@ -33,9 +33,11 @@ pub fn find_basis(
     requires { ⌜ Disjoint n (rowsOf (now masks) (now values) (now words)) ⌝ }
     ensures { λ r. ⌜ Found (ofRows (rowsOf (now (masks .entry)) (now (values .entry)) (now (words .entry)))) n w (now (basis .entry)) (now (sigma .entry)) (now (basis .exit)) (now (sigma .exit)) r ⌝ }
 {
+    let mut walk = [0u32; 65536];
     let mut shifts = [0u32; 65536];
-    cubes::shifts_of_rows(n, w, masks, values, words, &mut shifts);
-    choosing::choose_basis(&shifts, n, w, basis, sigma)
+    let count = choosing::put_walk(n, w, &mut walk);
+    cubes::shifts_of_rows(n, masks, values, words, &walk, count, &mut shifts);
+    choosing::choose_basis(&walk, &shifts, count, n, w, basis, sigma)
 }
 
 // The list, laid at the front of three slices of 512 places, and moved through the n steps over the columns of T.

@@ -11,6 +11,7 @@ use Rattle.choice.specs.Chosen.{Agree, pick}
 use Rattle.matrix.specs.Linear.{columns-cong}
 use Rattle.matrix.specs.Candidate.{basis-independent}
 use Rattle.choosing.specs.Steps.{ChosenBasis}
+use Rattle.choosing.specs.Walk.{Walked, valueAt, value-agree}
 use Rattle.choosing.specs.Found.{found-column, found}
 use Rattle.choosing.specs.declared.Measures.{Measures}
 
@@ -22,23 +23,24 @@ pub record Worked (f : ℕ → ℕ) (n w : ℕ) (t s z t′ s′ z′ : List ℕ
   pub earlier : r .before ≡ measure f n
   pub later : r .after ≡ measure (smallerOf f n w) n
 
-module _ (f : ℕ → ℕ) (n w : ℕ) (hw : 1 ≤ w) (values zeros : List ℕ) (v : values ≡ over (tab (2 ^ n) (shift f n)) zeros) where
-  -- the table of values holds R
-  value : (t : ℕ) → t < 2 ^ n → at values t ≡ shift f n t
-  value t h = ap (λ (l : List ℕ). at l t) v ∙ over-at (2 ^ n) (shift f n) zeros 0 t h
+-- R of every t, laid by the places of the walk, agrees with R where the rule asks for it
+pub laid-agree : (f : ℕ → ℕ) (n w : ℕ) (by zeros walk : List ℕ) (count : ℕ) (r values : List ℕ) → by ≡ over (tab (2 ^ n) (shift f n)) zeros
+    → Walked n w walk count → values ≡ over (tab count (λ i. at by (at walk i))) r → Agree (valueAt walk values count) (shift f n) n w
+laid-agree f n w by zeros walk count r values e h d t b i j =
+    value-agree n w walk count h (at by) r values d t b i j
+    ∙ ap (λ (l : List ℕ). at l t) e
+    ∙ over-at (2 ^ n) (shift f n) zeros 0 t b
 
-  agree : Agree (at values) (shift f n) n w
-  agree t h a b = value t h
-
-  pub column-lt : (t t′ : List ℕ) → t′ ≡ over (tab n (pick (at values) n w)) t → (j : ℕ) → j < n → at t′ j < 2 ^ n
-  column-lt t t′ b j h = rw (found-column f n w hw (at values) agree t t′ b j h) (basis-independent f n w hw .below j h)
+module _ (f : ℕ → ℕ) (n w : ℕ) (hw : 1 ≤ w) (v : ℕ → ℕ) (agree : Agree v (shift f n) n w) where
+  pub column-lt : (t t′ : List ℕ) → t′ ≡ over (tab n (pick v n w)) t → (j : ℕ) → j < n → at t′ j < 2 ^ n
+  column-lt t t′ b j h = rw (found-column f n w hw v agree t t′ b j h) (basis-independent f n w hw .below j h)
 
   -- what the choice and the smaller table leave is what the rule asks
-  pub worked : (t s z t′ s′ z′ : List ℕ) (r : Measures) → ChosenBasis (at values) n w t s t′ s′ r
+  pub worked : (t s z t′ s′ z′ : List ℕ) (r : Measures) → ChosenBasis v n w t s t′ s′ r
       → z′ ≡ over (tab (2 ^ n) (λ x. f (columns (at t′) n x))) z → Worked f n w t s z t′ s′ z′ r
   unfolding smallerTable smallerOf
   worked t s z t′ s′ z′ r c e =
-      let o = found f n w hw (at values) agree t s t′ s′ r c in
+      let o = found f n w hw v agree t s t′ s′ r c in
       record {
         basis = o .basis;
         sigma = o .sigma;
@@ -46,7 +48,7 @@ module _ (f : ℕ → ℕ) (n w : ℕ) (hw : 1 ≤ w) (values zeros : List ℕ) 
             e
             ∙ ap (λ (l : List ℕ). over l z)
             (tab-cong (2 ^ n) _ _
-            (λ x h. ap f (columns-cong (at t′) (at (basisOf f n w)) n x (found-column f n w hw (at values) agree t t′ (c .basis)))));
+            (λ x h. ap f (columns-cong (at t′) (at (basisOf f n w)) n x (found-column f n w hw v agree t t′ (c .basis)))));
         earlier = o .earlier;
         later = o .later;
       }

@@ -33,8 +33,20 @@ pub fn put_restored(sigma: &[u32], n: usize, table: &[u16], out: &mut [u16])
     }
 }
 
-// Basis, sigma, smaller table and both measures of a table that passed the checks. R is worked out once for every t. No entry is 65,534,
-// which a table with at most 15 outputs never holds.
+// The values at the numbers of a list, by their places there.
+pub fn put_values(by_t: &[u32], walk: &[u32], count: usize, out: &mut [u32])
+    requires { ⌜ (count ≤ length (now walk)) × (count ≤ length (now out)) × ((i : ℕ) → i < count → at (now walk) i < length (now «by_t»)) ⌝ }
+    ensures { λ _. ⌜ now (out .exit) ≡ over (tab count (λ i. at (now («by_t» .entry)) (at (now (walk .entry)) i))) (now (out .entry)) ⌝ }
+{
+    let mut i: usize = 0;
+    while i < count {
+        out[i] = by_t[walk[i] as usize];
+        i += 1;
+    }
+}
+
+// Basis, sigma, smaller table and both measures of a table that passed the checks. R is worked out once for every t, and then laid by the
+// places of the walk. No entry is 65,534, which a table with at most 15 outputs never holds.
 pub fn linearize(
     table: &[u16],
     n: usize,
@@ -46,9 +58,13 @@ pub fn linearize(
     requires { ⌜ (length (now table) ≡ 2 ^ n) × (n ≤ 12) × (1 ≤ w) × (w ≤ n) × (n ≤ length (now basis)) × (n ≤ length (now sigma)) × (2 ^ n ≤ length (now smaller)) × ((i : ℕ) → i < 2 ^ n → at (now table) i ≡ 65534 → ⊥) ⌝ }
     ensures { λ r. ⌜ Worked (ofTable (now (table .entry))) n w (now (basis .entry)) (now (sigma .entry)) (now (smaller .entry)) (now (basis .exit)) (now (sigma .exit)) (now (smaller .exit)) r ⌝ }
 {
+    let mut by_t = [0u32; 4096];
+    let mut walk = [0u32; 4096];
     let mut values = [0u32; 4096];
-    shifts::shifts_of(table, n, &mut values);
-    let measures = choosing::choose_basis(&values, n, w, basis, sigma);
+    shifts::shifts_of(table, n, &mut by_t);
+    let count = choosing::put_walk(n, w, &mut walk);
+    put_values(&by_t, &walk, count, &mut values);
+    let measures = choosing::choose_basis(&walk, &values, count, n, w, basis, sigma);
     put_smaller(table, basis, n, smaller);
     measures
 }

@@ -1,56 +1,71 @@
--- `choosing::choose` meets its contract. The loop's invariant: b is the best of the numbers before t. The measure is what is left.
--- Assumes nothing.
-use mathlib.Core.Path.{_≡_, sym, ap, _∙_}
-use Prim.Native.Nat.{ℕ, _≤_, _<_, _-_, _^_}
+-- `choosing::choose` meets its contract. The loop's invariant: b, of value top, is the best of the numbers before this place of the
+-- walk. The measure is what is left. Assumes nothing.
+use mathlib.Core.Path.{_≡_, sym}
+use mathlib.Core.Logic.{⊎-elim}
+use Prim.Native.Nat.{_≤_, _-_}
 use native.Mathlib.Omega.{arith}
-use lib.Pow.{pow-pos}
 use denote.Ref.{now}
 use Rattle.slices.specs.Places.{at}
-use Rattle.block.specs.Basis.{before, best}
-use Rattle.choice.specs.Choice.{best-zero, best-lt, best-turn}
 use Rattle.choosing.specs.Steps.{candidateBy}
+use Rattle.choosing.specs.Walk.{valueAt, Leads, leads-none, leads-taken, leads-left, leads-all, walked-light, value-here}
 use borrow.Author.Needs.{needs}
 use Rattle.choosing.proofs.choose.Statement.{statement}
 use Rattle.choosing.proofs.choose.Tie as tie
 
 abbrev Inv-loop : tie.InvT-loop
-Inv-loop values s n k w size b₀ t₀ b t = (t ≤ size) × (size ≡ 2 ^ n) × (b ≡ best (before (at values)) (candidateBy (at s) n k w) t)
+Inv-loop walk values count s n k w b₀ top₀ place₀ b top place = (place ≤ count) × Leads (valueAt walk values count) (candidateBy (at s) n k w) (at walk) place b top
 
 abbrev μ-loop : tie.MeasureT-loop
-μ-loop values s n k w size b₀ t₀ b t = size - t
-
-size-requires : tie.Need-size-requires Inv-loop μ-loop
-size-requires c κs = search needs
+μ-loop walk values count s n k w b₀ top₀ place₀ b top place = count - place
 
 loop-holds : tie.Need-loop-holds Inv-loop μ-loop
-loop-holds c = (search needs, c .size .ensures, sym (best-zero _ _))
+loop-holds c = (search needs, leads-none _ _ _)
 
-better-of-requires : tie.Need-better-of-requires Inv-loop μ-loop
-better-of-requires c κs =
-    let s = c .before .before .before .before .before in
-    let i = c .before .loop .inv in (
-      s .pre .0,
-      s .pre .1,
-      s .pre .2,
-      s .pre .3,
-      s .pre .4,
-      rw (i .2) (best-lt _ _ (c .before .loop .t) (2 ^ s .args .n) (omega arith) (pow-pos (s .args .n))),
-      omega arith,
-    )
+mul-t : tie.Need-mul-t Inv-loop μ-loop
+mul-t c = search needs
 
-add-t : tie.Need-add-t Inv-loop μ-loop
-add-t c = search needs
+shared-slice-read-t : tie.Need-shared-slice-read-t Inv-loop μ-loop
+shared-slice-read-t c = search needs
+
+mul-value : tie.Need-mul-value Inv-loop μ-loop
+mul-value c = search needs
+
+shared-slice-read-value : tie.Need-shared-slice-read-value Inv-loop μ-loop
+shared-slice-read-value c = search needs
+
+is-better-requires : tie.Need-is-better-requires Inv-loop μ-loop
+is-better-requires c κs = search needs
+
+add-place : tie.Need-add-place Inv-loop μ-loop
+add-place c = search needs
 
 loop-less : tie.Need-loop-less Inv-loop μ-loop
 loop-less c = search needs
 
 loop-again : tie.Need-loop-again Inv-loop μ-loop
-loop-again c = (search needs, c .before .before .loop .inv .1, best-turn _ _ _ _ _ (c .before .before .loop .inv .2) (c .better-of .ensures))
+loop-again c =
+    let s = c .before .before .before .before .before .before .before .before .before in
+    let a = s .args in
+    let p = c .before .before .before .before .before .loop in
+    let l = now (a .walk) in
+    let v = valueAt l (now (a .values)) (a .count) in
+    let few = walked-light (a .n) (a .w) l (a .count) (s .pre .1) (p .place) (omega arith) in
+    let here = sym (value-here (a .n) (a .w) l (a .count) (s .pre .1) (now (a .values)) (p .place) (omega arith)) in (
+      search needs,
+      ⊎-elim
+          (λ d. leads-taken v (at (now (a .s))) (a .n) (a .k) (a .w) (at l) (p .place) (p .b) (p .top) _ (p .inv .1) few here _ (c .before .is-better .ensures) _ _ (d .0 .taken) (d .1) (d .2))
+          (λ d. leads-left v (at (now (a .s))) (a .n) (a .k) (a .w) (at l) (p .place) (p .b) (p .top) _ (p .inv .1) few here _ (c .before .is-better .ensures) _ _ (d .0 .left) (d .1) (d .2))
+          (c .if1 .came),
+    )
 
 returns : tie.Need-returns Inv-loop μ-loop
 returns c =
-    let end : c .before .loop .t ≡ 2 ^ c .before .before .before .before .before .args .n = omega (arith, c .before .loop .inv .1) in
-    c .before .loop .inv .2 ∙ ap (best _ _) end
+    let s = c .before .before .before .before .before in
+    let a = s .args in
+    let p = c .before .loop in
+    let end : p .place ≡ a .count = omega arith in
+    leads-all (valueAt (now (a .walk)) (now (a .values)) (a .count)) (at (now (a .s))) (a .n) (a .k) (a .w) (now (a .walk)) (a .count)
+    (p .b) (p .top) (s .pre .1) (rw end at (p .inv .1))
 
 pub choose-spec : {M : Type 1} → statement M
 choose-spec =
@@ -58,10 +73,13 @@ choose-spec =
     (tie.spec
     Inv-loop
     μ-loop
-    size-requires
     loop-holds
-    better-of-requires
-    add-t
+    mul-t
+    shared-slice-read-t
+    mul-value
+    shared-slice-read-value
+    is-better-requires
+    add-place
     loop-less
     loop-again
     returns)

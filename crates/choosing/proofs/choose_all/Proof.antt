@@ -1,34 +1,25 @@
 -- `choosing::choose_all` meets its contract. The loop's invariant: the first k numbers are those that the rule takes, and the matrix is the
 -- one reached by them. The measure is what is left. Assumes nothing.
-use mathlib.Core.Path.{_≡_, sym, ap, _∙_}
-use mathlib.Core.List.{List}
-use Prim.Native.Nat.{ℕ, _≤_, _<_, _-_, _^_}
+use mathlib.Core.Path.{_≡_, ap, _∙_}
+use Prim.Native.Nat.{_≤_, _-_}
 use native.Mathlib.Omega.{arith}
 use lib.ListN.{length}
-use lib.Pow.{pow-pos, pow-mono}
 use denote.Ref.{now}
-use Rattle.slices.specs.Places.{at, tab, over}
+use Rattle.slices.specs.Places.{tab, over}
 use Rattle.slices.specs.Filled.{over-none, over-more, over-over}
-use Rattle.choice.specs.Choice.{best-lt}
 use Rattle.choice.specs.Chosen.{pick}
 use Rattle.matrix.specs.Reach.{reachRows}
 use Rattle.choosing.specs.Steps.{reach-start, reach-turn, choose-turn}
+use Rattle.choosing.specs.Walk.{valueAt}
 use borrow.Author.Needs.{needs}
 use Rattle.choosing.proofs.choose_all.Statement.{statement}
 use Rattle.choosing.proofs.choose_all.Tie as tie
 
 abbrev Inv-loop : tie.InvT-loop
-Inv-loop values n w basis₀ sigma₀ k₀ basis sigma k = (k ≤ n) × (length basis ≡ length basis₀) × (length sigma ≡ length sigma₀) × (basis ≡ over (tab k (pick (at values) n w)) basis₀) × (sigma ≡ over (tab n (reachRows n (pick (at values) n w) k)) sigma₀)
+Inv-loop walk values count n w basis₀ sigma₀ k₀ basis sigma k = (k ≤ n) × (length basis ≡ length basis₀) × (length sigma ≡ length sigma₀) × (basis ≡ over (tab k (pick (valueAt walk values count) n w)) basis₀) × (sigma ≡ over (tab n (reachRows n (pick (valueAt walk values count) n w) k)) sigma₀)
 
 abbrev μ-loop : tie.MeasureT-loop
-μ-loop values n w basis₀ sigma₀ k₀ basis sigma k = n - k
-
--- the number chosen fits
-small : (c : tie.After-choose Inv-loop μ-loop) → c .choose .result < 2 ^ 24
-small c =
-    let s = c .before .before .before .before .before .before .before .before .before .before .before in
-    let below : c .choose .result < 2 ^ s .args .n = rw (c .choose .ensures) (best-lt _ _ (2 ^ s .args .n) (2 ^ s .args .n) (omega arith) (pow-pos (s .args .n))) in
-    omega (arith, pow-mono (s .pre .3))
+μ-loop walk values count n w basis₀ sigma₀ k₀ basis sigma k = n - k
 
 put-units-requires : tie.Need-put-units-requires Inv-loop μ-loop
 put-units-requires c κs = search needs
@@ -39,17 +30,11 @@ loop-holds c = (search needs, search needs, search needs, over-none _ _, reach-s
 choose-requires : tie.Need-choose-requires Inv-loop μ-loop
 choose-requires c κs = search needs
 
-cast-basis : tie.Need-cast-basis Inv-loop μ-loop
-cast-basis c = omega (arith, small c)
-
 mul-basis : tie.Need-mul-basis Inv-loop μ-loop
 mul-basis c = search needs
 
 slice-write-basis : tie.Need-slice-write-basis Inv-loop μ-loop
 slice-write-basis c = search needs
-
-cast-advance : tie.Need-cast-advance Inv-loop μ-loop
-cast-advance c = omega (arith, small (c .before))
 
 advance-requires : tie.Need-advance-requires Inv-loop μ-loop
 advance-requires c κs = search needs
@@ -62,17 +47,17 @@ loop-less c = search needs
 
 loop-again : tie.Need-loop-again Inv-loop μ-loop
 loop-again c =
-    let s = c .before .before .before .before .before .before .before .before .before .before .before .before .before .before .before in
-    let i = c .before .before .before .before .before .before .before .loop .inv in
-    let k = c .before .before .before .before .before .before .before .loop .k in
-    let r = pick (at (now (s .args .values))) (s .args .n) (s .args .w) in
-    let t : c .before .before .before .before .choose .result ≡ r k =
-    choose-turn (at (now (s .args .values))) (s .args .n) (s .args .w) k _ _ (c .before .before .before .before .before .before .before .loop .sigma) (s .pre .4) (omega arith) (i .4) (c .before .before .before .before .choose .ensures) in (
+    let s = c .before .before .before .before .before .before .before .before .before .before .before .before .before .before .before .before in
+    let a = s .args in
+    let p = c .before .before .before .before .before .before .before .loop in
+    let v = valueAt (now (a .walk)) (now (a .values)) (a .count) in
+    let t : c .before .before .before .before .choose .result ≡ pick v (a .n) (a .w) (p .k) =
+    choose-turn v (a .n) (a .w) (p .k) _ _ (p .sigma) (s .pre .0 .5) (omega arith) (p .inv .4) (c .before .before .before .before .choose .ensures) in (
       search needs,
       search needs,
       search needs,
-      over-more _ r _ _ _ (i .3) t (omega arith),
-      reach-turn (s .args .n) r k _ _ (c .before .before .before .before .before .before .before .loop .sigma) _ (omega arith) (i .4) t (c .before .before .advance .ensures .rows),
+      over-more _ (pick v (a .n) (a .w)) _ _ _ (p .inv .3) t (omega arith),
+      reach-turn (a .n) (pick v (a .n) (a .w)) (p .k) _ _ (p .sigma) _ (omega arith) (p .inv .4) t (c .before .before .advance .ensures .rows),
     )
 
 same-length : tie.Need-same-length Inv-loop μ-loop
@@ -83,11 +68,12 @@ same-length-2 c = search needs
 
 returns : tie.Need-returns Inv-loop μ-loop
 returns c =
-    let s = c .before .before .before .before .before .before .before .before .before in
+    let a = c .before .before .before .before .before .before .before .before .before .before .args in
     let i = c .before .loop .inv in
-    let end : c .before .loop .k ≡ s .args .n = omega arith in (
+    let end : c .before .loop .k ≡ a .n = omega arith in
+    let v = valueAt (now (a .walk)) (now (a .values)) (a .count) in (
       rw end at (i .3),
-      (rw end at (i .4)) ∙ ap (over (tab (s .args .n) (reachRows (s .args .n) (pick (at (now (s .args .values))) (s .args .n) (s .args .w)) (s .args .n)))) (c .before .before .before .before .put-units .ensures)
+      (rw end at (i .4)) ∙ ap (over (tab (a .n) (reachRows (a .n) (pick v (a .n) (a .w)) (a .n)))) (c .before .before .before .before .put-units .ensures)
           ∙ over-over _ _ _ _,
     )
 
@@ -100,10 +86,8 @@ choose-all-spec =
     put-units-requires
     loop-holds
     choose-requires
-    cast-basis
     mul-basis
     slice-write-basis
-    cast-advance
     advance-requires
     add-k
     loop-less

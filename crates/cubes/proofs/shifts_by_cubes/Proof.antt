@@ -1,41 +1,38 @@
--- `cubes::shifts_by_cubes` meets its contract. The loop's invariant: the first t entries hold what is due, and the rest what they
+-- `cubes::shifts_by_cubes` meets its contract. The loop's invariant: the first i entries hold what is due, and the rest what they
 -- held. The measure is what is left. Assumes nothing.
 use mathlib.Core.Path.{_≡_}
-use Prim.Native.Nat.{_≤_, _-_, _^_}
+use Prim.Native.Nat.{ℕ, _≤_, _-_}
 use native.Mathlib.Omega.{arith}
 use lib.ListN.{length}
-use lib.Pow.{pow-mono}
 use denote.Ref.{now}
-use Rattle.slices.specs.Places.{tab, over}
+use Rattle.slices.specs.Places.{at, tab, over}
 use Rattle.slices.specs.Filled.{over-none, over-more}
-use Rattle.cubes.specs.Stored.{addedBy, limited}
+use Rattle.cubes.specs.Stored.{addedBy}
 use borrow.Author.Needs.{needs}
 use Rattle.cubes.proofs.shifts_by_cubes.Statement.{statement}
 use Rattle.cubes.proofs.shifts_by_cubes.Tie as tie
 
 abbrev Inv-loop : tie.InvT-loop
-Inv-loop cube-masks cube-values cube-weights count n w out₀ size t₀ out t =
-    (t ≤ size) × (size ≡ 2 ^ n) × (length out ≡ length out₀)
-    × (out ≡ over (tab t (limited w (addedBy cube-masks cube-values cube-weights count))) out₀)
+Inv-loop cube-masks cube-values cube-weights count ts places out₀ i₀ out i =
+    (i ≤ places) × (length out ≡ length out₀)
+    × (out ≡ over (tab i (λ j. addedBy cube-masks cube-values cube-weights count (at ts j))) out₀)
 
 abbrev μ-loop : tie.MeasureT-loop
-μ-loop cube-masks cube-values cube-weights count n w out₀ size t₀ out t = size - t
-
-size-requires : tie.Need-size-requires Inv-loop μ-loop
-size-requires c κs = search needs
+μ-loop cube-masks cube-values cube-weights count ts places out₀ i₀ out i = places - i
 
 loop-holds : tie.Need-loop-holds Inv-loop μ-loop
-loop-holds c = (search needs, c .size .ensures, search needs, over-none _ _)
+loop-holds c = (search needs, search needs, over-none _ _)
 
-cast-limited-shift : tie.Need-cast-limited-shift Inv-loop μ-loop
-cast-limited-shift c =
-    let small = pow-mono (c .before .before .before .before .before .before .before .pre .1 .0 .0) in
-    omega arith
+mul-shift-by-cubes : tie.Need-mul-shift-by-cubes Inv-loop μ-loop
+mul-shift-by-cubes c = search needs
 
-limited-shift-requires : tie.Need-limited-shift-requires Inv-loop μ-loop
-limited-shift-requires c κs =
-    let s = c .before .before .before .before .before .before .before in
-    ((s .pre .0 .0, s .pre .0 .1, s .pre .0 .2, omega arith), s .pre .1 .1 (c .before .loop .t) (omega arith))
+shared-slice-read-shift-by-cubes : tie.Need-shared-slice-read-shift-by-cubes Inv-loop μ-loop
+shared-slice-read-shift-by-cubes c = search needs
+
+shift-by-cubes-requires : tie.Need-shift-by-cubes-requires Inv-loop μ-loop
+shift-by-cubes-requires c κs =
+    let s = c .before .before .before .before .before .before .before .before in
+    (s .pre .0, s .pre .1 .1 (c .before .before .loop .i) (omega arith))
 
 mul-out : tie.Need-mul-out Inv-loop μ-loop
 mul-out c = search needs
@@ -43,26 +40,25 @@ mul-out c = search needs
 slice-write-out : tie.Need-slice-write-out Inv-loop μ-loop
 slice-write-out c = search needs
 
-add-t : tie.Need-add-t Inv-loop μ-loop
-add-t c = search needs
+add-i : tie.Need-add-i Inv-loop μ-loop
+add-i c = search needs
 
 loop-less : tie.Need-loop-less Inv-loop μ-loop
 loop-less c = search needs
 
 loop-again : tie.Need-loop-again Inv-loop μ-loop
 loop-again c =
-    let a = c .before .before .before .before .before .before .before .before .args in
-    let f = limited (a .w) (addedBy (now (a .cube-masks)) (now (a .cube-values)) (now (a .cube-weights)) (a .count)) in
-    let i = c .before .before .loop .inv .3 in
-    (search needs, search needs, search needs, over-more _ f _ _ _ i (c .limited-shift .ensures) (omega arith))
+    let a = c .before .before .before .before .before .before .before .before .before .args in
+    let f : ℕ → ℕ = λ j. addedBy (now (a .cube-masks)) (now (a .cube-values)) (now (a .cube-weights)) (a .count) (at (now (a .ts)) j) in
+    (search needs, search needs, over-more _ f _ _ _ (c .before .before .before .loop .inv .2) (c .shift-by-cubes .ensures) (omega arith))
 
 same-length : tie.Need-same-length Inv-loop μ-loop
 same-length c = search needs
 
 returns : tie.Need-returns Inv-loop μ-loop
 returns c =
-    let end : c .before .loop .t ≡ 2 ^ (c .before .before .before .before .before .before .before .args .n) = omega arith in
-    rw end at (c .before .loop .inv .3)
+    let end : c .before .loop .i ≡ c .before .before .before .before .before .before .before .args .places = omega arith in
+    rw end at (c .before .loop .inv .2)
 
 pub shifts-by-cubes-spec : {M : Type 1} → statement M
 shifts-by-cubes-spec =
@@ -70,13 +66,13 @@ shifts-by-cubes-spec =
     (tie.spec
     Inv-loop
     μ-loop
-    size-requires
     loop-holds
-    cast-limited-shift
-    limited-shift-requires
+    mul-shift-by-cubes
+    shared-slice-read-shift-by-cubes
+    shift-by-cubes-requires
     mul-out
     slice-write-out
-    add-t
+    add-i
     loop-less
     loop-again
     same-length

@@ -4,7 +4,7 @@ use mathlib.Core.List.{List}
 use Prim.Native.Nat.{ℕ}
 use native.Mathlib.Omega.{arith}
 use denote.Ref.{now}
-use Rattle.slices.specs.Places.{over}
+use Rattle.slices.specs.Places.{at, over}
 use Rattle.block.specs.Words.{rowsOf}
 use Rattle.cubes.specs.Stored.{cubes-shifts, cubes-small, cubes-few}
 use borrow.Author.Needs.{needs}
@@ -22,8 +22,8 @@ slice-aggregate-put-cubes-3 c = search needs
 
 put-cubes-requires : tie.Need-put-cubes-requires
 put-cubes-requires c κs =
-    let s = c .before .before .before .before .before .before .before in
-    ((s .pre .0 .0, s .pre .0 .3), (s .pre .1 .sound, (omega arith, omega arith, omega arith)))
+    let s = c .before .before .before .before .before .before .before .before in
+    (s .pre .0, (s .pre .1 .0 .sound, (omega arith, omega arith, omega arith)))
 
 slice-aggregate-shifts-by-cubes : tie.Need-slice-aggregate-shifts-by-cubes
 slice-aggregate-shifts-by-cubes c = search needs
@@ -36,16 +36,16 @@ slice-aggregate-shifts-by-cubes-3 c = search needs
 
 shifts-by-cubes-requires : tie.Need-shifts-by-cubes-requires
 shifts-by-cubes-requires c κs =
-    let s = c .before .before .before .before .before .before .before .before .before .before .before .before .before .before .before in
+    let s = c .before .before .before .before .before .before .before .before .before .before .before .before .before .before .before .before in
     let a = s .args in
     let p = c .before .before .before .before .before .before .before .put-cubes in
     let k = p .kept .1 .1 .1 .1 in
-    let few = cubes-few (a .n) (now (a .masks)) (now (a .values)) (now (a .words)) _ _ _ _ _ _ _ (s .pre .0 .3) (p .ensures) in (
+    let few = cubes-few (a .n) (now (a .masks)) (now (a .values)) (now (a .words)) _ _ _ _ _ _ _ (s .pre .0 .1) (p .ensures) in (
       (omega (arith, k .0), omega (arith, k .1 .0), omega (arith, k .1 .1 .0)),
       (
-        (s .pre .0 .0, s .pre .0 .1, s .pre .0 .2),
-        λ t h. cubes-small (a .n) (rowsOf (now (a .masks)) (now (a .values)) (now (a .words))) (s .pre .1) _ _ _ _ _ _ _
-            (p .ensures) t h (s .pre .0 .0),
+        (s .pre .1 .1 .0, s .pre .1 .1 .1),
+        λ i h. cubes-small (a .n) (rowsOf (now (a .masks)) (now (a .values)) (now (a .words))) (s .pre .1 .0) _ _ _ _ _ _ _
+            (p .ensures) (at (now (a .ts)) i) (s .pre .1 .1 .2 i h) (s .pre .0 .0),
       ),
     )
 
@@ -54,12 +54,12 @@ same-length c = search needs
 
 returns : tie.Need-returns
 returns c =
-    let s = c .before .before .before .before .before .before .before .before .before .before .before .before .before .before .before .before .before .before in
+    let s = c .before .before .before .before .before .before .before .before .before .before .before .before .before .before .before .before .before .before .before in
     let a = s .args in
     c .before .before .shifts-by-cubes .ensures
     ∙ ap (λ (l : List ℕ). over l (now (a .out)))
-    (cubes-shifts (a .n) (rowsOf (now (a .masks)) (now (a .values)) (now (a .words))) (s .pre .1) _ _ _ _ _ _ _
-    (c .before .before .before .before .before .before .before .before .before .before .put-cubes .ensures) (a .w))
+    (cubes-shifts (a .n) (rowsOf (now (a .masks)) (now (a .values)) (now (a .words))) (s .pre .1 .0) _ _ _ _ _ _ _
+    (c .before .before .before .before .before .before .before .before .before .before .put-cubes .ensures) (now (a .ts)) (a .places) (s .pre .1 .1 .2))
 
 pub shifts-of-rows-spec : {M : Type 1} → statement M
 shifts-of-rows-spec =
