@@ -1,12 +1,11 @@
 -- What is printed for a list, by the answer of the sheet: the sheet itself, or the line of the refusal. Assumes nothing.
-use mathlib.Core.Path.{_≡_, refl, sym, ap, _∙_}
-use mathlib.Core.Bool.{Bool, false}
+use mathlib.Core.Path.{_≡_, sym, ap, _∙_}
+use mathlib.Core.Bool.{Bool}
 use mathlib.Core.List.{List}
 use Prim.Native.Nat.{ℕ, _≤_, min}
 use native.Mathlib.Nat.{zero-add}
 use native.Mathlib.Omega.{arith}
 use borrow.Author.Tests.{eq-eqb, ne-eqb, le-ltb}
-use lib.Dec.{ltb}
 use lib.ListN.{length}
 use Rattle.slices.specs.Places.{over}
 use Rattle.block.specs.Limits.{sheetRoom}

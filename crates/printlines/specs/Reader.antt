@@ -2,12 +2,12 @@
 -- working storage. Assumes nothing.
 use mathlib.Core.Path.{_≡_, refl, sym, ap, _∙_}
 use mathlib.Core.List.{List, map}
-use Prim.Native.Nat.{ℕ, _≤_, _<_}
+use Prim.Native.Nat.{ℕ, _≤_}
 use native.Mathlib.Omega.{arith}
 use borrow.Author.Tests.{eq-eqb}
 use lib.ListN.{length, getD, take, drop, length-map, List·getD-map}
 use lib.Seq.{take-at}
-use Rattle.slices.specs.Places.{at, tab, over}
+use Rattle.slices.specs.Places.{at}
 use Rattle.slices.specs.Filled.{length-tab, tab-cong, tab-list}
 use Rattle.block.specs.Words.{row, rowsOf}
 use Rattle.block.specs.Refusals.{answer, stored}

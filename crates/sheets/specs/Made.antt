@@ -1,9 +1,8 @@
 -- The sheet by what the row method leaves in working storage: where it answers 0 the ranges hold, and the text put from that storage
 -- is 01's sheet; where it refuses, so does the sheet. Assumes nothing.
 use mathlib.Core.Path.{_≡_, refl, sym, ap, _∙_}
-use mathlib.Core.Bool.{Bool, false}
-use mathlib.Core.List.{List, [], _∷_, map}
-use Prim.Native.Nat.{ℕ, suc, _-_, _*_, _^_, _≤_, _<_}
+use mathlib.Core.List.{List, map}
+use Prim.Native.Nat.{ℕ, suc, _-_, _^_, _≤_}
 use native.Mathlib.Nat.{mul-le-mul, zero-add}
 use native.Mathlib.Omega.{arith}
 use borrow.Author.Tests.{eq-eqb, ne-eqb, ltb-false}
@@ -12,16 +11,15 @@ use lib.ListN.{length, getD, take, drop}
 use lib.Pow.{pow-mono}
 use lib.Seq.{take-at}
 use Rattle.sums.specs.Laws.{sum-le}
-use Rattle.slices.specs.Places.{at, tab, over}
+use Rattle.slices.specs.Places.{at, over}
 use Rattle.slices.specs.Least.{first-below}
 use Rattle.slices.specs.Filled.{tab-cong, tab-list, over-map-at}
 use Rattle.block.specs.Limits.{sheetRoom, smallerRows}
 use Rattle.block.specs.Words.{row, ofRows}
 use Rattle.block.specs.Measure.{shift, measure}
 use Rattle.block.specs.Basis.{basisOf, sigmaOf, smallerOf}
-use Rattle.block.specs.Refusals.{verdict, answered, carried, stored}
-use Rattle.block.specs.Lists.{rowsAfter, passing, methodChecks, smallerList, withRows}
-use Rattle.block.specs.Text.{withBytes}
+use Rattle.block.specs.Refusals.{verdict, stored}
+use Rattle.block.specs.Lists.{rowsAfter, passing, methodChecks, smallerList}
 use Rattle.block.specs.Sheet.{sheetOf, sheetText, sheetVerdict, sheet}
 use Rattle.block.specs.declared.Row.{Row}
 use Rattle.block.specs.declared.Answer.{Answer}

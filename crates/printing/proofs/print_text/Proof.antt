@@ -1,5 +1,4 @@
 -- `printing::print_text` meets its contract: by the reader's answer, what is put or printed is the text that 01 says. Assumes nothing.
-use mathlib.Core.Path.{sym, _∙_}
 use native.Mathlib.Omega.{arith}
 use denote.Ref.{now}
 use lib.ListN.{length-take}

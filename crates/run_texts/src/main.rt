@@ -1,0 +1,110 @@
+// The program's text, run: 01's example cut at each byte, and every text of data/ with its sheet. Each line of the first part has the
+// number of bytes left and what is printed for them: 10 at the line of the cut. The second part names each text whose printed bytes are
+// not those of its sheet, and ends with the number of those that are. The arguments are the texts, each followed by its sheet.
+use libc::STDOUT_FILENO;
+ghost use mathlib.Core.Path.{_≡_};
+ghost use mathlib.Core.Bool.{true};
+ghost use Prim.Native.Nat.{_≤_};
+ghost use Rattle.io.specs.Counts.{Counts};
+
+fn say(text: &[u8]) {
+    io::write_all(STDOUT_FILENO, text);
+}
+
+// The first bytes of a text, or all of it.
+fn cut(text: &[u8], length: usize) -> &[u8] {
+    if length < text.len() {
+        &text[..length]
+    } else {
+        text
+    }
+}
+
+// What is printed for the first bytes of a text.
+fn say_cut(text: &[u8], length: usize) {
+    let mut out = [0u8; 17518];
+    let count = printing::print_text(cut(text, length), &mut out);
+    io::print_decimal(STDOUT_FILENO, length as u64);
+    say(b" ");
+    say(&out[..count]);
+}
+
+fn say_cuts(text: &[u8]) {
+    for i in 0..text.len() {
+        say_cut(text, i);
+    }
+}
+
+// Whether two texts are the same bytes.
+fn is_same(a: &[u8], b: &[u8]) -> bool
+    ensures { λ r. ⌜ (r ≡ true → now (a .entry) ≡ now (b .entry)) ⌝ }
+{
+    if a.len() != b.len() {
+        return false;
+    }
+    let mut i = 0;
+    while i < a.len() {
+        if a[i] != b[i] {
+            return false;
+        }
+        i += 1;
+    }
+    true
+}
+
+// The file that argument i names, as much of it as fits; a file that cannot be read is told on standard error.
+fn read_file(i: usize, buf: &mut [u8]) -> usize
+    ensures { λ r. ⌜ Counts r (now (buf .exit)) ⌝ }
+{
+    let mut path = io::buffer();
+    let length = os::arg(i, &mut path);
+    let fd = os::open_read(&path[..length]);
+    if fd < 0 {
+        os::fail(&path[..length]);
+    }
+    let count = io::read_full(fd, buf);
+    libc::close(fd);
+    count
+}
+
+// Says which text is printed otherwise than its sheet has it.
+fn say_differs(i: usize) {
+    let mut path = io::buffer();
+    let length = os::arg(i, &mut path);
+    say(&path[..length]);
+    say(b" is printed otherwise\n");
+}
+
+// Whether what is printed for the text of argument i is the sheet of argument j: 1 or 0.
+fn compare(i: usize, j: usize) -> usize
+    ensures { λ r. ⌜ r ≤ 1 ⌝ }
+{
+    let mut text = [0u8; 16384];
+    let length = read_file(i, &mut text);
+    let mut due = [0u8; 17519];
+    let size = read_file(j, &mut due);
+    let mut out = [0u8; 17518];
+    let count = printing::print_text(&text[..length], &mut out);
+    if is_same(&out[..count], &due[..size]) {
+        return 1;
+    }
+    say_differs(i);
+    0
+}
+
+fn compare_all() -> usize {
+    let pairs = os::arg_count() / 2;
+    let mut equal = 0;
+    let mut i = 0;
+    while i < pairs {
+        equal += compare(2 * i + 1, 2 * i + 2);
+        i += 1;
+    }
+    equal
+}
+
+fn main() {
+    say_cuts(b".i 3\n.o 2\n.p 4\n00- 01\n11- 01\n01- 10\n10- 10\n.e\n");
+    io::print_decimal(STDOUT_FILENO, compare_all() as u64);
+    say(b" texts are printed as their sheets have them\n");
+}
