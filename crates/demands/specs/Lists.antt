@@ -37,7 +37,7 @@ use Rattle.demands.specs.Restoring.{not-malformed, restoring-answers}
 pub basis-points : (f g : ℕ → ℕ) (n w : ℕ) → ((x : ℕ) → x < 2 ^ n → f x ≡ g x) → basisOf f n w ≡ basisOf g n w
 basis-points f g n w e =
     basis-tab f n w
-    ∙ tab-cong n _ _ (λ j l. pick-cong (shift f n) (shift g n) n w (λ t h. shift-points f g n t h e) j)
+    ∙ tab-cong n _ _ (λ j l. pick-cong (shift f n) (shift g n) n w (λ t h low high. shift-points f g n t h e) j)
     ∙ sym (basis-tab g n w)
 
 pub sigma-points : (f g : ℕ → ℕ) (n w : ℕ) → ((x : ℕ) → x < 2 ^ n → f x ≡ g x) → sigmaOf f n w ≡ sigmaOf g n w
