@@ -9,6 +9,7 @@ use Rattle.block.specs.Basis.{basisOf, sigmaOf}
 use Rattle.block.specs.Refusals.{stored}
 use Rattle.block.specs.Lists.{rowValue, rowMethodVerdict, rowMethod, smallerList, fillVerdict, filled}
 use Rattle.block.specs.Text.{textOf, writeVerdict, writeText, readVerdict, readText, rowsIn, numbers}
+use Rattle.block.specs.Sheet.{sheet, sheetText, sheetVerdict}
 use Rattle.block.specs.declared.Row.{Row}
 use Rattle.block.specs.declared.Answer.{Answer}
 use Rattle.block.specs.declared.ValueAnswer.{ValueAnswer}
@@ -87,3 +88,13 @@ pub record ReadNumbersToRecords (text : List ℕ) (rows₀ : List Row) (r : Read
 pub records-read-numbers-once : {text : List ℕ} {rows₀ : List Row} {r s : ReadAnswer} {rows₁ rows₂ : List Row}
     → ReadNumbersToRecords text rows₀ r rows₁ → ReadNumbersToRecords text rows₀ s rows₂ → (r ≡ s) × (rows₁ ≡ rows₂)
 records-read-numbers-once p q = (one (p .answer) (q .answer), one (p .rows) (q .rows))
+
+-- ---- `sheet`
+
+pub record SheetOfRecords (n k w : ℕ) (rows : List Row) (out₀ : List ℕ) (r : TextAnswer) (out₁ : List ℕ) : Type 0 where
+  pub answer : r ≡ sheet n k w rows (length out₀)
+  pub text : out₁ ≡ stored (sheetVerdict n k w rows (length out₀)) (sheetText n k w rows) out₀
+
+pub records-sheet-once : {n k w : ℕ} {rows : List Row} {out₀ : List ℕ} {r s : TextAnswer} {out₁ out₂ : List ℕ}
+    → SheetOfRecords n k w rows out₀ r out₁ → SheetOfRecords n k w rows out₀ s out₂ → (r ≡ s) × (out₁ ≡ out₂)
+records-sheet-once p q = (one (p .answer) (q .answer), one (p .text) (q .text))

@@ -1,6 +1,6 @@
-//! An implementation against the cases of `outside/data`: `operations.txt` has one
-//! operation a line with its answer, `lists/` texts for the program with what it
-//! prints. Lent storage is looked at in full: what an answer does not write
+//! An implementation against cases that a third program worked out: `operations.txt`
+//! in `outside/data` has one operation a line with its answer, `crates/run_texts/data`
+//! texts for the program with what it prints. Lent storage is looked at in full: what an answer does not write
 //! holds what it held.
 
 use crate::inputs::LentRows;
@@ -16,8 +16,8 @@ const HELD: u32 = 0xABCD_1234;
 /// What lent table entries hold before the call.
 const HELD_ENTRY: u16 = 0xABCD;
 
-fn data() -> PathBuf {
-    PathBuf::from(env!("CARGO_MANIFEST_DIR")).join("../data")
+fn from_here(path: &str) -> PathBuf {
+    PathBuf::from(env!("CARGO_MANIFEST_DIR")).join(path)
 }
 
 fn parse<T: FromStr>(word: &str) -> T
@@ -192,7 +192,7 @@ fn row_method_answer<O: Operations>(n: usize, k: usize, words: &[&str]) -> Strin
 
 /// Every operation of `operations.txt` has the answer that stands beside it.
 pub fn check_operations<O: Operations>() {
-    let cases = fs::read_to_string(data().join("operations.txt")).unwrap();
+    let cases = fs::read_to_string(from_here("../data/operations.txt")).unwrap();
     let mut count = 0;
     for (index, line) in cases.lines().enumerate() {
         let (given, due) = line.split_once(" => ").unwrap();
@@ -202,10 +202,10 @@ pub fn check_operations<O: Operations>() {
     assert_eq!(count, 300);
 }
 
-/// Every text of `lists/` has the sheet, or the refusal, that stands beside it.
+/// Every text of `crates/run_texts/data` has the sheet, or the refusal, that stands beside it.
 pub fn check_lists<O: Operations>() {
     let mut count = 0;
-    for entry in fs::read_dir(data().join("lists")).unwrap() {
+    for entry in fs::read_dir(from_here("../../crates/run_texts/data")).unwrap() {
         let path = entry.unwrap().path();
         if path.extension().map_or(false, |end| end == "txt") {
             let text = fs::read(&path).unwrap();
