@@ -220,5 +220,5 @@ pub fn check_lists<O: Operations>() {
             count += 1;
         }
     }
-    assert_eq!(count, 86);
+    assert_eq!(count, 91);
 }
