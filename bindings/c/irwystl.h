@@ -29,9 +29,9 @@ extern "C" {
  *   9   at step A the smaller rows are more than 512
  *   10  line A, counted from 1, is not of the form due there
  *
- * A sheet begins with the word sheet. The room beyond what is written holds what it held. Nothing has to be checked before the call, but text has
- * to be valid for reading length bytes (and not null, even where length is 0), out for writing, and the two must not overlap. The call keeps
- * nothing, takes no memory but at most 1 MiB of stack, and may be made from several threads at once, each with its own room.
+ * A sheet begins with the word sheet. The room beyond what is written holds what it held. Nothing has to be checked before the call, but
+ * text has to be valid for reading length bytes (and not null, even where length is 0), out for writing, and the two must not overlap. The
+ * call keeps nothing, takes no memory but at most 1 MiB of stack, and may be made from several threads at once, each with its own room.
  */
 size_t irwystl_print_text(const uint8_t *text, size_t length, uint8_t *out);
 
