@@ -3,8 +3,17 @@
 use crate::timing::medians;
 use reference::inputs::Case;
 use reference::Operations;
-use std::hint::black_box;
+use std::mem::forget;
+use std::ptr::read_volatile;
 use std::time::Duration;
+
+/// The value itself, by a read that the compiler can't see through, so that no
+/// call is left out. (The standard library's is younger than some Rusts in use.)
+fn black_box<T>(value: T) -> T {
+    let seen = unsafe { read_volatile(&value) };
+    forget(value);
+    seen
+}
 
 /// Calls that are timed together.
 pub struct Call {
