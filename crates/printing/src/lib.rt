@@ -1,7 +1,6 @@
 // What the program prints (01, the first section, and The sheet). One function: `print_text` looks at the first 8,192 bytes of a text,
 // and writes the sheet of its rows with weight limit 3, or n where n is below 3, to the front of lent room; or it writes the one line
 // "refused N A B". It answers the number of bytes. This crate holds nothing else.
-use block::Reading;
 ghost use mathlib.Core.Path.{_≡_};
 ghost use lib.ListN.{length};
 ghost use Rattle.slices.specs.Places.{over};
@@ -12,23 +11,9 @@ pub fn print_text(input: &[u8], out: &mut [u8; 17518]) -> usize
     ensures text { λ _. ⌜ now (out .exit) ≡ over (printed (now (input .entry))) (now (out .entry)) ⌝ }
     ensures count { λ r. ⌜ r ≡ length (printed (now (input .entry))) ⌝ }
 {
-    let text = printlines::first_bytes(input);
-    let mut masks = [0u32; 128];
-    let mut values = [0u32; 128];
-    let mut words = [0u32; 128];
-    let reading = reading::read_text(text, &mut masks, &mut values, &mut words);
-    match reading {
-        Reading::Refused(r) => {
-            let kind = r.kind;
-            printlines::put_refusal(out, kinds::kind_number(kind), r.a, r.b)
-        }
-        Reading::Accepted(h) => printlines::print_list(
-            h.n,
-            h.k,
-            &masks[..h.count],
-            &values[..h.count],
-            &words[..h.count],
-            out,
-        ),
+    let r = text_work::work_text(input, out);
+    if r.number != 0 {
+        return printlines::put_refusal(out, r.number, r.a, r.b);
     }
+    r.count
 }

@@ -1,3 +1,3 @@
--- What the program prints: `Printed` has the text for a list, and `Reader` the text by the reader's answer.
+-- What is printed: `Words` has a word and three numbers, `Printed` what the program prints by the work of its text.
+pub mod Words
 pub mod Printed
-pub mod Reader

@@ -1,87 +1,63 @@
--- What is printed for a list, by the answer of the sheet: the sheet itself, or the line of the refusal. Assumes nothing.
-use mathlib.Core.Path.{_≡_, sym, ap, _∙_}
-use mathlib.Core.Bool.{Bool}
+-- What the program prints, by the work of its text: the sheet itself, or the line of the refusal. Assumes nothing.
+use mathlib.Core.Path.{_≡_, refl, sym, ap, _∙_}
+use mathlib.Core.Bool.{Bool, true, false, cond}
 use mathlib.Core.List.{List}
-use Prim.Native.Nat.{ℕ, _≤_, min}
+use Prim.Native.Nat.{ℕ, _≤_}
 use native.Mathlib.Nat.{zero-add}
 use native.Mathlib.Omega.{arith}
-use borrow.Author.Tests.{eq-eqb, ne-eqb, le-ltb}
+use borrow.Author.Tests.{eq-eqb, ne-eqb}
 use lib.ListN.{length}
 use Rattle.slices.specs.Places.{over}
-use Rattle.block.specs.Limits.{sheetRoom}
-use Rattle.block.specs.Refusals.{answer, verdict, stored}
-use Rattle.block.specs.Lists.{methodChecks}
-use Rattle.block.specs.Sheet.{sheetText, sheetVerdict, sheet, refusalLine, orRefused, printedList}
-use Rattle.block.specs.declared.Row.{Row}
+use Rattle.block.specs.Refusals.{answer, answered, stored}
+use Rattle.block.specs.Sheet.{refusalLine, orRefused, printedList, printed}
 use Rattle.block.specs.declared.Answer.{Answer}
-use Rattle.block.specs.declared.TextAnswer.{TextAnswer}
 use Rattle.verdicts.specs.Verdicts.{carried-yes, stored-yes, stored-no}
 use Rattle.puts.specs.Puts.{Put, put-over}
+use Rattle.sheet_work.specs.declared.SheetWork.{SheetWork}
+use Rattle.text_work.specs.Work.{textVerdict, sheetIn, textWork}
 
--- the text t lies over l₀, which left l, and r is its length
-pub record Printed (t l₀ l : List ℕ) (r : ℕ) : Type 0 where
-  pub text : l ≡ over t l₀
-  pub count : r ≡ length t
-
--- a text put at the front, of at most 71 bytes
-pub put-printed : {t l₀ l : List ℕ} {r : ℕ} → r ≤ 71 → 71 ≤ length l₀ → Put l₀ 0 t l r → Printed t l₀ l r
-put-printed {t} {l₀} {l} {r} h e p =
-    let q : r ≡ length t = p .place ∙ zero-add (length t) in
-    record { text = put-over (omega arith) p; count = q }
-
--- ---- a text, or the line that says why not
-
-pub or-text : (v : Answer) (t : List ℕ) → v .number ≡ 0 → orRefused v t ≡ t
+-- a text or the line of a second refusal, or the line of a first, is by the verdict of both
+or-or : (u v : Answer) (t : List ℕ) → orRefused u (orRefused v t) ≡ orRefused (cond (answered u) v u) t
 unfolding orRefused
-or-text v t h = rw (eq-eqb (v .number) 0 h)
+or-or u v t = go (answered u) refl
+  where
+    go : (b : Bool) → answered u ≡ b
+        → cond (answered u) (cond (answered v) t (refusalLine v)) (refusalLine u)
+        ≡ cond (answered (cond (answered u) v u)) t (refusalLine (cond (answered u) v u))
+    go true e = rw e
+    go false e = rw (e, e)
 
-pub or-line : (v : Answer) (t : List ℕ) → (v .number ≡ 0 → ⊥) → orRefused v t ≡ refusalLine v
-unfolding orRefused
-or-line v t h = rw (ne-eqb (v .number) 0 h)
+printed-by : (input : List ℕ) → printed input ≡ orRefused (textVerdict input) (sheetIn input)
+unfolding printed printedList textVerdict sheetIn
+printed-by input = or-or _ _ _
 
--- ---- a list
-
--- the verdict of a room that is long enough
-enough : (n k w : ℕ) (rs : List Row) (room : ℕ) → 17518 ≤ room → sheetVerdict n k w rs room ≡ sheetVerdict n k w rs sheetRoom
-unfolding sheetVerdict
-enough n k w rs room h = ap (λ (b : Bool). verdict (methodChecks n k w rs b)) (le-ltb room sheetRoom h ∙ sym (le-ltb sheetRoom sheetRoom (omega arith)))
-
-module _ (n k w : ℕ) (rs : List Row) (l l′ : List ℕ) (r : TextAnswer) (long : 17518 ≤ length l) (limit : w ≡ min 3 n)
-    (answers : r ≡ sheet n k w rs (length l)) (text : l′ ≡ stored (sheetVerdict n k w rs (length l)) (sheetText n k w rs) l) where
+module _ (input l l′ : List ℕ) (r : SheetWork) (answers : r ≡ textWork input) (text : l′ ≡ stored (textVerdict input) (sheetIn input) l) where
   abbrev u : Answer
-  u = sheetVerdict n k w rs (length l)
-
-  -- what is printed, by the verdict
-  by-verdict : printedList n k rs ≡ orRefused u (sheetText n k w rs)
-  unfolding printedList
-  by-verdict =
-      ap (λ (i : ℕ). orRefused (sheetVerdict n k i rs sheetRoom) (sheetText n k i rs)) (sym limit)
-      ∙ ap (λ (v : Answer). orRefused v (sheetText n k w rs)) (sym (enough n k w rs (length l) long))
+  u = textVerdict input
 
   numbered : r .number ≡ u .number
-  unfolding sheet
-  numbered = ap (λ (x : TextAnswer). x .number) answers
+  unfolding textWork
+  numbered = ap (λ (x : SheetWork). x .number) answers
 
-  said : answer (r .number) (r .a) (r .b) ≡ u
-  unfolding sheet
-  said = ap (λ (x : TextAnswer). answer (x .number) (x .a) (x .b)) answers
-
-  pub list-refused : (l″ : List ℕ) (c : ℕ) → (r .number ≡ 0 → ⊥) → c ≤ 71
-      → Put l′ 0 (refusalLine (answer (r .number) (r .a) (r .b))) l″ c → Printed (printedList n k rs) l l″ c
-  list-refused l″ c h small p =
+  -- the line of a refusal
+  pub text-refused : (l″ : List ℕ) (c : ℕ) → (r .number ≡ 0 → ⊥) → c ≤ 71 → 71 ≤ length l
+      → Put l′ 0 (refusalLine (answer (r .number) (r .a) (r .b))) l″ c → (l″ ≡ over (printed input) l) × (c ≡ length (printed input))
+  unfolding textWork orRefused
+  text-refused l″ c h small long p =
       let z : u .number ≡ 0 → ⊥ = λ e. h (numbered ∙ e) in
-      let e : l′ ≡ l = text ∙ stored-no u (sheetText n k w rs) l z in
-      let f : printedList n k rs ≡ refusalLine (answer (r .number) (r .a) (r .b)) = by-verdict ∙ or-line u (sheetText n k w rs) z ∙ ap refusalLine (sym said) in
-      let q : Put l 0 (refusalLine (answer (r .number) (r .a) (r .b))) l″ c = rw e at p in
-      rw f (put-printed small (omega arith) q)
+      let said : answer (r .number) (r .a) (r .b) ≡ u = ap (λ (x : SheetWork). answer (x .number) (x .a) (x .b)) answers in
+      let f : printed input ≡ refusalLine (answer (r .number) (r .a) (r .b)) = printed-by input ∙ rw (ne-eqb (u .number) 0 z, said) in
+      let q : Put l 0 (refusalLine (answer (r .number) (r .a) (r .b))) l″ c = rw (text ∙ stored-no u (sheetIn input) l z) at p in
+      let n : c ≡ length (refusalLine (answer (r .number) (r .a) (r .b))) = q .place ∙ zero-add _ in
+      rw f (put-over (omega arith) q, n)
 
-  pub list-printed : r .number ≡ 0 → Printed (printedList n k rs) l l′ (r .count)
-  unfolding sheet
-  list-printed h =
+  -- the sheet
+  pub text-printed : r .number ≡ 0 → (l′ ≡ over (printed input) l) × (r .count ≡ length (printed input))
+  unfolding textWork orRefused
+  text-printed h =
       let z : u .number ≡ 0 = sym numbered ∙ h in
-      let f : printedList n k rs ≡ sheetText n k w rs = by-verdict ∙ or-text u (sheetText n k w rs) z in
-      rw f
-      (record {
-        text = text ∙ stored-yes u (sheetText n k w rs) l z;
-        count = ap (λ (x : TextAnswer). x .count) answers ∙ carried-yes u (length (sheetText n k w rs)) z;
-      })
+      let f : printed input ≡ sheetIn input = printed-by input ∙ rw (eq-eqb (u .number) 0 z) in
+      rw f (
+        text ∙ stored-yes u (sheetIn input) l z,
+        ap (λ (x : SheetWork). x .count) answers ∙ carried-yes u (length (sheetIn input)) z,
+      )

@@ -2,28 +2,14 @@
 // number of bytes left and what is printed for them: 10 at the line of the cut. The second part names each text whose printed bytes are
 // not those of its sheet, and ends with the number of those that are. The arguments are the texts, each followed by its sheet.
 use libc::STDOUT_FILENO;
-ghost use mathlib.Core.Path.{_≡_};
-ghost use mathlib.Core.Bool.{true};
+use saying::say;
 ghost use Prim.Native.Nat.{_≤_};
 ghost use Rattle.io.specs.Counts.{Counts};
-
-fn say(text: &[u8]) {
-    io::write_all(STDOUT_FILENO, text);
-}
-
-// The first bytes of a text, or all of it.
-fn cut(text: &[u8], length: usize) -> &[u8] {
-    if length < text.len() {
-        &text[..length]
-    } else {
-        text
-    }
-}
 
 // What is printed for the first bytes of a text.
 fn say_cut(text: &[u8], length: usize) {
     let mut out = [0u8; 17518];
-    let count = printing::print_text(cut(text, length), &mut out);
+    let count = printing::print_text(text_work::first_bytes(text, length), &mut out);
     io::print_decimal(STDOUT_FILENO, length as u64);
     say(b" ");
     say(&out[..count]);
@@ -33,23 +19,6 @@ fn say_cuts(text: &[u8]) {
     for i in 0..text.len() {
         say_cut(text, i);
     }
-}
-
-// Whether two texts are the same bytes.
-fn is_same(a: &[u8], b: &[u8]) -> bool
-    ensures { λ r. ⌜ (r ≡ true → now (a .entry) ≡ now (b .entry)) ⌝ }
-{
-    if a.len() != b.len() {
-        return false;
-    }
-    let mut i = 0;
-    while i < a.len() {
-        if a[i] != b[i] {
-            return false;
-        }
-        i += 1;
-    }
-    true
 }
 
 // The file that argument i names, as much of it as fits; a file that cannot be read is told on standard error.
@@ -85,7 +54,7 @@ fn compare(i: usize, j: usize) -> usize
     let size = read_file(j, &mut due);
     let mut out = [0u8; 17518];
     let count = printing::print_text(&text[..length], &mut out);
-    if is_same(&out[..count], &due[..size]) {
+    if saying::is_same(&out[..count], &due[..size]) {
         return 1;
     }
     say_differs(i);

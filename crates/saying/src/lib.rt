@@ -1,5 +1,7 @@
-// What the programs that the gate runs share: lines on standard output, and parts of slices. Every function here is inner.
+// What the programs share: lines on standard output, texts compared, and parts of slices. Every function here is inner.
 use libc::STDOUT_FILENO;
+ghost use mathlib.Core.Path.{_≡_};
+ghost use mathlib.Core.Bool.{true};
 
 pub fn say(text: &[u8]) {
     io::write_all(STDOUT_FILENO, text);
@@ -15,6 +17,23 @@ pub fn say_answer(number: u32, a: usize, b: usize) {
     say_number(number as u64);
     say_number(a as u64);
     say_number(b as u64);
+}
+
+// Whether two texts are the same bytes.
+pub fn is_same(a: &[u8], b: &[u8]) -> bool
+    ensures { λ r. ⌜ (r ≡ true → now (a .entry) ≡ now (b .entry)) ⌝ }
+{
+    if a.len() != b.len() {
+        return false;
+    }
+    let mut i = 0;
+    while i < a.len() {
+        if a[i] != b[i] {
+            return false;
+        }
+        i += 1;
+    }
+    true
 }
 
 pub fn wide16(x: u16) -> u64 {

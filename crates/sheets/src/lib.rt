@@ -21,52 +21,11 @@ pub fn sheet(
     ensures answer { λ r. ⌜ r ≡ sheet n k w (rowsOf (now (masks .entry)) (now (values .entry)) (now (words .entry))) (length (now (out .entry))) ⌝ }
     ensures text { λ r. ⌜ now (out .exit) ≡ stored (sheetVerdict n k w (rowsOf (now (masks .entry)) (now (values .entry)) (now (words .entry))) (length (now (out .entry)))) (sheetText n k w (rowsOf (now (masks .entry)) (now (values .entry)) (now (words .entry)))) (now (out .entry)) ⌝ }
 {
-    let mut basis = [0u32; 16];
-    let mut sigma = [0u32; 16];
-    let mut smaller_masks = [0u32; 512];
-    let mut smaller_values = [0u32; 512];
-    let mut smaller_words = [0u32; 512];
-    let short = out.len() < 17518;
-    let r = row_work::method_rows(
-        n,
-        k,
-        w,
-        masks,
-        values,
-        words,
-        short,
-        &mut basis,
-        &mut sigma,
-        &mut smaller_masks,
-        &mut smaller_values,
-        &mut smaller_words,
-    );
-    if r.number != 0 {
-        return TextAnswer {
-            number: r.number,
-            a: r.a,
-            b: r.b,
-            count: 0,
-        };
-    }
-    let count = sheetlines::put_sheet(
-        out,
-        n,
-        k,
-        w,
-        r.before as usize,
-        r.after as usize,
-        &basis[..n],
-        &sigma[..n],
-        r.count,
-        &smaller_masks,
-        &smaller_values,
-        &smaller_words,
-    );
+    let r = sheet_work::make_sheet(n, k, w, masks, values, words, out);
     TextAnswer {
         number: r.number,
         a: r.a,
         b: r.b,
-        count,
+        count: r.count,
     }
 }

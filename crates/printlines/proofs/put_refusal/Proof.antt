@@ -1,57 +1,33 @@
--- `printlines::put_refusal` meets its contract: the seven puts, one after the other, are the line. Assumes nothing.
+-- `printlines::put_refusal` meets its contract: the words, and LF after them. Assumes nothing.
 use Rattle.puts.specs.Puts.{then}
 use Rattle.block.specs.Sheet.{refusalLine}
 use borrow.Author.Needs.{needs}
 use Rattle.printlines.proofs.put_refusal.Statement.{statement}
 use Rattle.printlines.proofs.put_refusal.Tie as tie
 
-slice-aggregate-put-bytes : tie.Need-slice-aggregate-put-bytes
-slice-aggregate-put-bytes c = search needs
+slice-aggregate-put-three : tie.Need-slice-aggregate-put-three
+slice-aggregate-put-three c = search needs
 
-put-bytes-requires : tie.Need-put-bytes-requires
-put-bytes-requires c κs = search needs
-
-put-decimal-requires : tie.Need-put-decimal-requires
-put-decimal-requires c κs = search needs
+put-three-requires : tie.Need-put-three-requires
+put-three-requires c κs = search needs
 
 put-byte-requires : tie.Need-put-byte-requires
 put-byte-requires c κs = search needs
-
-put-decimal-requires-2 : tie.Need-put-decimal-requires-2
-put-decimal-requires-2 c κs = search needs
-
-put-byte-requires-2 : tie.Need-put-byte-requires-2
-put-byte-requires-2 c κs = search needs
-
-put-decimal-requires-3 : tie.Need-put-decimal-requires-3
-put-decimal-requires-3 c κs = search needs
-
-put-byte-requires-3 : tie.Need-put-byte-requires-3
-put-byte-requires-3 c κs = search needs
 
 same-length : tie.Need-same-length
 same-length c = search needs
 
 returns : tie.Need-returns
 unfolding refusalLine
-returns c = (
-  then
-      (then (then (then (c .before .before .before .before .before .before .before .before .before .before .before .before .before .before .before .before .before .before .before .before .before .before .before .before .before .before .put-bytes .ensures) (c .before .before .before .before .before .before .before .before .before .before .before .before .before .before .before .before .before .before .before .before .before .before .put-decimal .ensures .0)) (then (c .before .before .before .before .before .before .before .before .before .before .before .before .before .before .before .before .before .before .put-byte .ensures) (c .before .before .before .before .before .before .before .before .before .before .before .before .before .before .put-decimal2 .ensures .0))) (then (c .before .before .before .before .before .before .before .before .before .before .put-byte2 .ensures) (c .before .before .before .before .before .before .put-decimal3 .ensures .0)))
-      (c .before .before .put-byte3 .ensures),
-  search needs,
-)
+returns c =
+    (then (c .before .before .before .before .before .before .put-three .ensures .0) (c .before .before .put-byte .ensures), search needs)
 
 pub put-refusal-spec : {M : Type 1} → statement M
 put-refusal-spec =
     tie.close
     (tie.spec
-    slice-aggregate-put-bytes
-    put-bytes-requires
-    put-decimal-requires
+    slice-aggregate-put-three
+    put-three-requires
     put-byte-requires
-    put-decimal-requires-2
-    put-byte-requires-2
-    put-decimal-requires-3
-    put-byte-requires-3
     same-length
     returns)

@@ -6,8 +6,8 @@ use borrow.Author.Needs.{needs}
 use Rattle.run_texts.proofs.say_cut.Statement.{statement}
 use Rattle.run_texts.proofs.say_cut.Tie as tie
 
-cut-requires : tie.Need-cut-requires
-cut-requires c κs = search needs
+first-bytes-requires : tie.Need-first-bytes-requires
+first-bytes-requires c κs = search needs
 
 print-text-requires : tie.Need-print-text-requires
 print-text-requires c κs = search needs
@@ -38,7 +38,7 @@ pub say-cut-spec : {M : Type 1} → statement M
 say-cut-spec =
     tie.close
     (tie.spec
-    cut-requires
+    first-bytes-requires
     print-text-requires
     print-decimal-requires
     slice-aggregate-say

@@ -1,0 +1,206 @@
+// Files of a bulk import: a list is read, its sheet is written whole or not at all, an older sheet is set aside. What the system does
+// no contract says, so these functions promise no more than that they are safe and end; the gate runs them (crate run_imports). All
+// functions here are inner. An error is the system's number for it, 0 for none.
+use import_paths::put_path;
+ghost use mathlib.Core.Path.{_≡_};
+ghost use Prim.Native.Nat.{_+_, _≤_};
+ghost use lib.ListN.{length};
+ghost use Rattle.io.specs.Counts.{Counts};
+ghost use Rattle.libc.specs.Io.{Ended};
+
+// The longest name of a list that leaves room for the names beside it.
+pub const NAME_MAX: usize = 4060;
+
+// Why the last call failed: some error, even where the system names none.
+pub fn reason() -> i32 {
+    let error = os::errno();
+    if error == 0 {
+        return libc::EIO;
+    }
+    error
+}
+
+// Whether reading ended where the file did. `read_full` also ends where a read fails, and a folder can be opened and not read.
+pub fn end_error(fd: i32) -> i32 {
+    let mut more = [0u8; 1];
+    let got = libc::read(fd, &mut more);
+    if got < 0 {
+        return reason();
+    }
+    if got > 0 {
+        return libc::EIO;
+    }
+    0
+}
+
+// What was read of a file: how many bytes, or why not.
+pub struct Input {
+    pub error: i32,
+    pub length: usize,
+}
+
+// Reads the file, as much of it as fits.
+pub fn read_file(path: &[u8], text: &mut [u8]) -> Input
+    ensures { λ r. ⌜ Counts (r .length) (now (text .exit)) ⌝ }
+{
+    let fd = os::open_read(path);
+    if fd < 0 {
+        return Input {
+            error: reason(),
+            length: 0,
+        };
+    }
+    let length = io::read_full(fd, text);
+    let mut error = 0;
+    if length < text.len() {
+        error = end_error(fd);
+    }
+    libc::close(fd);
+    Input { error, length }
+}
+
+// Writes a new file's bytes, down to the device, and closes it.
+pub fn fill_file(fd: i32, bytes: &[u8]) -> i32 {
+    let mut error = 0;
+    if !io::write_all(fd, bytes) {
+        error = reason();
+    } else if libc::fsync(fd) < 0 {
+        error = reason();
+    }
+    if libc::close(fd) < 0 {
+        if error == 0 {
+            error = reason();
+        }
+    }
+    error
+}
+
+// A file made under a new name: its descriptor and the number of its name, or why not.
+pub struct Made {
+    pub error: i32,
+    pub fd: i32,
+    pub k: usize,
+}
+
+// Makes a file under the first name of FILE.sheet.new, .new2 and so on that is not taken.
+pub fn make_file(name: &[u8]) -> Made
+    requires { ⌜ length (now name) ≤ 4060 ⌝ }
+{
+    let mut path = [0u8; 4096];
+    let mut k = 1;
+    while k < 1000 {
+        let length = put_path(&mut path, name, b".sheet.new", k);
+        let fd = os::create(&path[..length]);
+        if fd >= 0 {
+            return Made { error: 0, fd, k };
+        }
+        let error = reason();
+        if error != libc::EEXIST {
+            return Made { error, fd, k };
+        }
+        k += 1;
+    }
+    Made {
+        error: libc::EEXIST,
+        fd: -1,
+        k,
+    }
+}
+
+// Renames a file that was filled to FILE.sheet. Where it was not filled or that fails, its name is gone again.
+pub fn settle_file(name: &[u8], k: usize, filled: i32) -> i32
+    requires { ⌜ length (now name) ≤ 4060 ⌝ }
+{
+    let mut new = [0u8; 4096];
+    let mut path = [0u8; 4096];
+    let from = put_path(&mut new, name, b".sheet.new", k);
+    let to = put_path(&mut path, name, b".sheet", 1);
+    let mut error = filled;
+    if error == 0 {
+        if os::rename(&new[..from], &path[..to]) < 0 {
+            error = reason();
+        }
+    }
+    if error != 0 {
+        os::unlink(&new[..from]);
+    }
+    error
+}
+
+// Writes the sheet beside its list as FILE.sheet: to a new name first, then renamed.
+pub fn write_sheet(name: &[u8], sheet: &[u8]) -> i32
+    requires { ⌜ length (now name) ≤ 4060 ⌝ }
+{
+    let made = make_file(name);
+    if made.error != 0 {
+        return made.error;
+    }
+    let filled = fill_file(made.fd, sheet);
+    settle_file(name, made.k, filled)
+}
+
+// Whether no file has this name, not even a link that leads nowhere.
+pub fn is_free(path: &[u8; 4096]) -> bool
+    requires { ⌜ Ended (now path) ⌝ }
+{
+    let mut link = [0u8; 1];
+    if libc::readlink(path, &mut link) < 0 {
+        return os::errno() == libc::ENOENT;
+    }
+    false
+}
+
+// Whether this is the name of a folder, which is no older sheet.
+pub fn is_folder(path: &[u8]) -> bool {
+    let fd = os::open_update(path);
+    if fd < 0 {
+        return os::errno() == libc::EISDIR;
+    }
+    libc::close(fd);
+    false
+}
+
+// An older sheet set aside: the number of its name now, 0 where there was none, or why it stands where it stood.
+pub struct Aside {
+    pub error: i32,
+    pub k: usize,
+}
+
+// Gives an older sheet the first name of FILE.sheet.old, .old2 and so on that is not taken.
+pub fn rename_older(name: &[u8], path: &[u8]) -> Aside
+    requires { ⌜ length (now name) ≤ 4060 ⌝ }
+{
+    let mut older = [0u8; 4096];
+    let mut k = 1;
+    while k < 1000 {
+        let length = put_path(&mut older, name, b".sheet.old", k);
+        if is_free(&older) {
+            let mut error = 0;
+            if os::rename(path, &older[..length]) < 0 {
+                error = reason();
+            }
+            return Aside { error, k };
+        }
+        k += 1;
+    }
+    Aside {
+        error: libc::EEXIST,
+        k,
+    }
+}
+
+// Sets an older sheet of the list aside, so that it does not look current.
+pub fn set_aside(name: &[u8]) -> Aside
+    requires { ⌜ length (now name) ≤ 4060 ⌝ }
+{
+    let none = Aside { error: 0, k: 0 };
+    let mut path = [0u8; 4096];
+    let length = put_path(&mut path, name, b".sheet", 1);
+    if is_free(&path) {
+        return none;
+    }
+    if is_folder(&path[..length]) {
+        return none;
+    }
+    rename_older(name, &path[..length])
+}

@@ -1,0 +1,66 @@
+// The line of one list in a bulk import: its file's name, then "sheet ROWS BEFORE AFTER" or "refused N A B". All functions here are
+// inner: the operation that makes the line is `import_text` of the crate importing.
+use sheet_work::SheetWork;
+ghost use mathlib.Core.Path.{_≡_};
+ghost use mathlib.Core.List.{map};
+ghost use Prim.Native.Nat.{_+_, _≤_};
+ghost use lib.ListN.{length};
+ghost use Rattle.puts.specs.Puts.{Put};
+ghost use Rattle.import_lines.specs.Line.{shownByte, lineWords, importLine};
+
+// A byte of a name as it is shown. A name may hold a line's end, which would break the line it stands in.
+pub fn shown_byte(b: u8) -> u8
+    ensures { λ r. ⌜ r ≡ shownByte b ⌝ }
+{
+    if b < 32 {
+        return 63;
+    }
+    if b == 127 {
+        return 63;
+    }
+    b
+}
+
+// Puts a name at the front, as it is shown.
+pub fn put_name(out: &mut [u8], name: &[u8]) -> usize
+    requires { ⌜ length (now name) ≤ length (now out) ⌝ }
+    ensures { λ r. ⌜ Put (now (out .entry)) 0 (map shownByte (now (name .entry))) (now (out .exit)) r ⌝ }
+    ensures { λ r. ⌜ r ≡ length (now (name .entry)) ⌝ }
+{
+    let mut i = 0;
+    while i < name.len() {
+        out[i] = shown_byte(name[i]);
+        i += 1;
+    }
+    i
+}
+
+// Puts what is said of a list after its name.
+pub fn put_words(out: &mut [u8], at: usize, r: SheetWork) -> usize
+    requires { ⌜ at + 70 ≤ length (now out) ⌝ }
+    ensures { λ c. ⌜ Put (now (out .entry)) at (lineWords r) (now (out .exit)) c ⌝ }
+    ensures { λ c. ⌜ c ≤ at + 70 ⌝ }
+{
+    if r.number != 0 {
+        return printlines::put_three(out, at, b"refused ", r.number as usize, r.a, r.b);
+    }
+    printlines::put_three(
+        out,
+        at,
+        b"sheet ",
+        r.rows,
+        r.before as usize,
+        r.after as usize,
+    )
+}
+
+// Puts the line, without its end.
+pub fn put_line(out: &mut [u8], name: &[u8], r: SheetWork) -> usize
+    requires { ⌜ length (now name) + 71 ≤ length (now out) ⌝ }
+    ensures { λ c. ⌜ Put (now (out .entry)) 0 (importLine (now (name .entry)) r) (now (out .exit)) c ⌝ }
+    ensures { λ c. ⌜ c ≤ length (now (name .entry)) + 71 ⌝ }
+{
+    let c = put_name(out, name);
+    let d = puts::put_byte(out, c, 32);
+    put_words(out, d, r)
+}

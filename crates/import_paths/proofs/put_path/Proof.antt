@@ -1,0 +1,42 @@
+-- `import_paths::put_path` meets its contract: the three puts, one after the other, are the name. Assumes nothing.
+use native.Mathlib.Omega.{arith}
+use denote.Ref.{now}
+use Rattle.puts.specs.Puts.{then}
+use Rattle.import_paths.specs.Path.{pathOf}
+use Rattle.import_paths.specs.Made.{path-made}
+use borrow.Author.Needs.{needs}
+use Rattle.import_paths.proofs.put_path.Statement.{statement}
+use Rattle.import_paths.proofs.put_path.Tie as tie
+
+put-bytes-requires : tie.Need-put-bytes-requires
+put-bytes-requires c κs = search needs
+
+put-bytes-requires-2 : tie.Need-put-bytes-requires-2
+put-bytes-requires-2 c κs = search needs
+
+put-count-requires : tie.Need-put-count-requires
+put-count-requires c κs = search needs
+
+element-write-path : tie.Need-element-write-path
+element-write-path c = search needs
+
+element-write-path-2 : tie.Need-element-write-path-2
+element-write-path-2 c = search needs
+
+returns : tie.Need-returns
+unfolding pathOf
+returns c =
+    let a = c .before .before .before .before .before .before .before .before .args in
+    let p = c .put-count .ensures in
+    path-made (now (a .path)) _ _ _ (then (then (c .before .before .before .before .put-bytes .ensures) (c .before .before .put-bytes2 .ensures)) (p .0)) (omega arith) (omega (arith, p .1))
+
+pub put-path-spec : {M : Type 1} → statement M
+put-path-spec =
+    tie.close
+    (tie.spec
+    put-bytes-requires
+    put-bytes-requires-2
+    put-count-requires
+    element-write-path
+    element-write-path-2
+    returns)

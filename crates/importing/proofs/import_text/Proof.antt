@@ -1,0 +1,37 @@
+-- `importing::import_text` meets its contract: by the work of the text, and the line that is put for it. Assumes nothing.
+use mathlib.Core.Path.{ap}
+use native.Mathlib.Omega.{arith}
+use denote.Ref.{now}
+use lib.ListN.{length, length-take}
+use Rattle.importing.specs.Made.{line-made}
+use borrow.Author.Needs.{needs}
+use Rattle.importing.proofs.import_text.Statement.{statement}
+use Rattle.importing.proofs.import_text.Tie as tie
+
+work-text-requires : tie.Need-work-text-requires
+work-text-requires c κs = search needs
+
+first-bytes-requires : tie.Need-first-bytes-requires
+first-bytes-requires c κs = search needs
+
+put-line-requires : tie.Need-put-line-requires
+put-line-requires c κs =
+    omega (arith, simp length-take at (ap length (c .first-bytes .ensures)))
+
+returns : tie.Need-returns
+returns c =
+    let a = c .before .before .before .before .before .before .before .args in
+    let e = c .before .before .before .work-text .ensures in
+    let p = c .put-line .ensures in
+    let f = c .before .first-bytes .ensures in
+    let m = line-made (now (a .name)) (now (a .text)) _ (now (a .line)) _ _ _ f (e .0) (p .0) (omega (arith, p .1, simp length-take at (ap length f))) in
+    (m .0, (e .1, m .1))
+
+pub import-text-spec : {M : Type 1} → statement M
+import-text-spec =
+    tie.close
+    (tie.spec
+    work-text-requires
+    first-bytes-requires
+    put-line-requires
+    returns)

@@ -1,0 +1,15 @@
+-- What one list of a bulk import comes to. Assumes nothing.
+use mathlib.Core.List.{List}
+use Prim.Native.Nat.{ℕ}
+use lib.ListN.{length, take}
+use Rattle.text_work.specs.Work.{textVerdict, textWork}
+use Rattle.import_lines.specs.Line.{importLine}
+use Rattle.importing.specs.declared.Imported.{Imported}
+
+-- the line of a list: at most 4,096 bytes of its name, and what came of its text
+unfoldable pub lineOf : List ℕ → List ℕ → List ℕ
+lineOf name text = importLine (take 4096 name) (textWork text)
+
+-- the answer: the verdict's number, the bytes of the sheet and the bytes of the line
+unfoldable pub imported : List ℕ → List ℕ → Imported
+imported name text = record { number = textVerdict text .number; count = textWork text .count; length = length (lineOf name text) }

@@ -1,0 +1,37 @@
+// One list of a bulk import. One operation: `import_text` makes the sheet of a list that a file held, as the program prints it, and the
+// line that says what came of it. This crate holds nothing else.
+ghost use mathlib.Core.Path.{_≡_};
+ghost use Rattle.slices.specs.Places.{over};
+ghost use Rattle.block.specs.Refusals.{stored};
+ghost use Rattle.text_work.specs.Work.{textVerdict, sheetIn};
+ghost use Rattle.importing.specs.Import.{lineOf, imported};
+
+// The answer: its number, the bytes of the sheet (0 with a refusal), and the bytes of the line.
+pub struct Imported {
+    pub number: u32,
+    pub count: usize,
+    pub length: usize,
+}
+
+// Writes the sheet of a list to the front of one lent room, or leaves it as it was where the list is refused, and the line, without its
+// end, to the front of the other. Of a longer name the line has the first 4,096 bytes.
+pub fn import_text(
+    name: &[u8],
+    text: &[u8],
+    sheet: &mut [u8; 17518],
+    line: &mut [u8; 4176],
+) -> Imported
+    ensures answer { λ r. ⌜ r ≡ imported (now (name .entry)) (now (text .entry)) ⌝ }
+    ensures sheet { λ r. ⌜ now (sheet .exit) ≡ stored (textVerdict (now (text .entry))) (sheetIn (now (text .entry))) (now (sheet .entry)) ⌝ }
+    ensures line { λ r. ⌜ now (line .exit) ≡ over (lineOf (now (name .entry)) (now (text .entry))) (now (line .entry)) ⌝ }
+{
+    let r = text_work::work_text(text, sheet);
+    let number = r.number;
+    let count = r.count;
+    let length = import_lines::put_line(line, text_work::first_bytes(name, 4096), r);
+    Imported {
+        number,
+        count,
+        length,
+    }
+}

@@ -1,0 +1,54 @@
+// The bulk import, run: the arguments are imported, and the files are read back. Of each name that follows it is said whether its file
+// has the bytes that are due, which lie in data/ beside it, or whether it is gone.
+use saying::say;
+ghost use Rattle.io.specs.Counts.{Counts};
+
+// Whether both files can be read and hold the same bytes.
+fn is_as_due(path: &[u8], due: &[u8]) -> bool {
+    let mut text = [0u8; 17519];
+    let written = import_files::read_file(path, &mut text);
+    let mut other = [0u8; 17519];
+    let expected = import_files::read_file(due, &mut other);
+    if written.error != 0 || expected.error != 0 {
+        return false;
+    }
+    saying::is_same(&text[..written.length], &other[..expected.length])
+}
+
+// Says whether the file has the bytes of the other.
+fn say_as_due(path: &[u8], due: &[u8]) {
+    say(path);
+    if is_as_due(path, due) {
+        say(b" holds what is due\n");
+    } else {
+        say(b" does not hold what is due\n");
+    }
+}
+
+// Says whether there is no such file.
+fn say_gone(path: &[u8]) {
+    let mut text = [0u8; 1];
+    say(path);
+    if import_files::read_file(path, &mut text).error == libc::ENOENT {
+        say(b" is not there\n");
+    } else {
+        say(b" is there\n");
+    }
+}
+
+fn main() {
+    bulk_import::import_all();
+    // a sheet where there was none, one in the place of an older one, and one beside a new name that was taken
+    say_as_due(b"valve.pla.sheet", b"valve.due");
+    say_as_due(b"again.pla.sheet", b"again.due");
+    say_as_due(b"taken.pla.sheet", b"taken.due");
+    say_as_due(b"taken.pla.sheet.new", b"taken.was");
+    // an older sheet of a refused list, and one that was set aside before it
+    say_gone(b"torn.pla.sheet");
+    say_as_due(b"torn.pla.sheet.old", b"torn.was");
+    say_as_due(b"torn.pla.sheet.old2", b"torn.older");
+    // nothing is left of a sheet that was refused or could not be written
+    say_gone(b"overlap.pla.sheet");
+    say_gone(b"blocked.pla.sheet.new");
+    say_as_due(b"blocked.pla.sheet/kept", b"blocked.kept");
+}

@@ -1,0 +1,103 @@
+-- `text_work::work_text` meets its contract: by the reader's answer, the refusal or the work of the rows in storage. Assumes nothing.
+use native.Mathlib.Omega.{arith}
+use denote.Ref.{now}
+use lib.ListN.{length-take}
+use Rattle.text_work.specs.Reader.{reader-refused, reader-count, reader-accepted}
+use borrow.Author.Needs.{needs}
+use Rattle.text_work.proofs.work_text.Statement.{statement}
+use Rattle.text_work.proofs.work_text.Tie as tie
+
+first-bytes-requires : tie.Need-first-bytes-requires
+first-bytes-requires c κs = search needs
+
+slice-aggregate-read-text : tie.Need-slice-aggregate-read-text
+slice-aggregate-read-text c = search needs
+
+slice-aggregate-read-text-2 : tie.Need-slice-aggregate-read-text-2
+slice-aggregate-read-text-2 c = search needs
+
+slice-aggregate-read-text-3 : tie.Need-slice-aggregate-read-text-3
+slice-aggregate-read-text-3 c = search needs
+
+read-text-requires : tie.Need-read-text-requires
+read-text-requires c κs = search needs
+
+enum-known-reading : tie.Need-enum-known-reading
+enum-known-reading c = search needs
+
+kind-number-requires : tie.Need-kind-number-requires
+kind-number-requires c κs = search needs
+
+enum-known-reading-2 : tie.Need-enum-known-reading-2
+enum-known-reading-2 c = search needs
+
+array-share-prefix-masks : tie.Need-array-share-prefix-masks
+array-share-prefix-masks c =
+    let h = reader-count (now (c .before .before .before .before .before .before .before .before .before .before .before .before .before .args .input)) _ _ (c .before .before .before .before .before .before .before .before .before .before .first-bytes .ensures) (c .before .before .before .before .before .before .read-text .ensures .0) _ (c .before .reading2 .given .1) in
+    omega arith
+
+slice-aggregate-work-list : tie.Need-slice-aggregate-work-list
+slice-aggregate-work-list c =
+    let h = reader-count (now (c .before .before .before .before .before .before .before .before .before .before .before .before .before .before .args .input)) _ _ (c .before .before .before .before .before .before .before .before .before .before .before .first-bytes .ensures) (c .before .before .before .before .before .before .before .read-text .ensures .0) _ (c .before .before .reading2 .given .1) in
+    simp length-take (omega arith)
+
+array-share-prefix-values : tie.Need-array-share-prefix-values
+array-share-prefix-values c =
+    let h = reader-count (now (c .before .before .before .before .before .before .before .before .before .before .before .before .before .before .args .input)) _ _ (c .before .before .before .before .before .before .before .before .before .before .before .first-bytes .ensures) (c .before .before .before .before .before .before .before .read-text .ensures .0) _ (c .before .before .reading2 .given .1) in
+    omega arith
+
+slice-aggregate-work-list-2 : tie.Need-slice-aggregate-work-list-2
+slice-aggregate-work-list-2 c =
+    let h = reader-count (now (c .before .before .before .before .before .before .before .before .before .before .before .before .before .before .before .args .input)) _ _ (c .before .before .before .before .before .before .before .before .before .before .before .before .first-bytes .ensures) (c .before .before .before .before .before .before .before .before .read-text .ensures .0) _ (c .before .before .before .reading2 .given .1) in
+    simp length-take (omega arith)
+
+array-share-prefix-words : tie.Need-array-share-prefix-words
+array-share-prefix-words c =
+    let h = reader-count (now (c .before .before .before .before .before .before .before .before .before .before .before .before .before .before .before .args .input)) _ _ (c .before .before .before .before .before .before .before .before .before .before .before .before .first-bytes .ensures) (c .before .before .before .before .before .before .before .before .read-text .ensures .0) _ (c .before .before .before .reading2 .given .1) in
+    omega arith
+
+slice-aggregate-work-list-3 : tie.Need-slice-aggregate-work-list-3
+slice-aggregate-work-list-3 c =
+    let h = reader-count (now (c .before .before .before .before .before .before .before .before .before .before .before .before .before .before .before .before .args .input)) _ _ (c .before .before .before .before .before .before .before .before .before .before .before .before .before .first-bytes .ensures) (c .before .before .before .before .before .before .before .before .before .read-text .ensures .0) _ (c .before .before .before .before .reading2 .given .1) in
+    simp length-take (omega arith)
+
+work-list-requires : tie.Need-work-list-requires
+work-list-requires c κs = search needs
+
+returns : tie.Need-returns
+returns c =
+    rw (c .kind-number .ensures)
+    (reader-refused (now (c .before .before .before .before .before .before .before .before .before .before .before .before .before .before .args .input)) _ _ (c .before .before .before .before .before .before .before .before .before .before .before .first-bytes .ensures) (c .before .before .before .before .before .before .before .read-text .ensures .0) _ (now (c .before .before .before .before .before .before .before .before .before .before .before .before .before .before .args .out)) (c .before .before .reading .given .1))
+
+same-length : tie.Need-same-length
+same-length c = search needs
+
+returns-2 : tie.Need-returns-2
+returns-2 c =
+    let r = c .before .before .before .before .before .before .before .before .before .before .before .before .before .read-text .ensures in
+    let e = c .before .before .work-list .ensures in
+    reader-accepted (now (c .before .before .before .before .before .before .before .before .before .before .before .before .before .before .before .before .before .before .before .before .args .input)) _ _ (c .before .before .before .before .before .before .before .before .before .before .before .before .before .before .before .before .before .first-bytes .ensures) (r .0) _ (c .before .before .before .before .before .before .before .before .reading2 .given .1) _ _ _ _ _ _ (r .1 .0) (r .1 .1 .0) (r .1 .1 .1)
+    (now (c .before .before .before .before .before .before .before .before .before .before .before .before .before .before .before .before .before .before .before .before .args .out)) _ _ (c .before .before .before .before .before .before .before .before .before .before .before .before .before .before .before .before .before .before .before .before .pre) (e .0) (e .1)
+
+pub work-text-spec : {M : Type 1} → statement M
+work-text-spec =
+    tie.close
+    (tie.spec
+    first-bytes-requires
+    slice-aggregate-read-text
+    slice-aggregate-read-text-2
+    slice-aggregate-read-text-3
+    read-text-requires
+    enum-known-reading
+    kind-number-requires
+    enum-known-reading-2
+    array-share-prefix-masks
+    slice-aggregate-work-list
+    array-share-prefix-values
+    slice-aggregate-work-list-2
+    array-share-prefix-words
+    slice-aggregate-work-list-3
+    work-list-requires
+    returns
+    same-length
+    returns-2)

@@ -1,0 +1,152 @@
+-- The work of a text, by the reader's answer: its refusal, or the work of the rows that the text says, which lie in working storage.
+-- Assumes nothing.
+use mathlib.Core.Path.{_≡_, refl, sym, ap, _∙_}
+use mathlib.Core.Bool.{Bool}
+use mathlib.Core.List.{List, map}
+use Prim.Native.Nat.{ℕ, _≤_, min}
+use native.Mathlib.Omega.{arith}
+use borrow.Author.Tests.{eq-eqb, ne-eqb, le-ltb}
+use lib.ListN.{length, getD, take, drop, length-map, List·getD-map}
+use lib.Seq.{take-at}
+use Rattle.slices.specs.Places.{at}
+use Rattle.slices.specs.Filled.{length-tab, tab-cong, tab-list}
+use Rattle.block.specs.Limits.{sheetRoom}
+use Rattle.block.specs.Words.{row, rowsOf}
+use Rattle.block.specs.Refusals.{answer, verdict, stored}
+use Rattle.block.specs.Text.{readVerdict, readText, headNumber, rowsIn, kindNumber, numbers}
+use Rattle.block.specs.Lists.{methodChecks}
+use Rattle.block.specs.Sheet.{sheetText, sheetVerdict}
+use Rattle.block.specs.declared.Row.{Row}
+use Rattle.block.specs.declared.Answer.{Answer}
+use Rattle.block.specs.declared.ReadAnswer.{ReadAnswer}
+use Rattle.block.specs.declared.Headings.{Headings}
+use Rattle.block.specs.declared.Refusal.{Refusal}
+use Rattle.block.specs.declared.Kind.{Kind}
+use Rattle.block.specs.declared.Kind.the-variants.{Inputs, Outputs, Count, Room, Form}
+use Rattle.block.specs.declared.Reading.{Reading}
+use Rattle.block.specs.declared.Reading.the-variants.{Accepted, Refused}
+use Rattle.verdicts.specs.Verdicts.{answered-clear, carried-yes, stored-yes, stored-no}
+use Rattle.checks.specs.Sizes.{inside}
+use Rattle.listing.specs.Listing.{rowsFrom, rows-of}
+use Rattle.sheet_work.specs.Work.{withSheet, sheetWork}
+use Rattle.sheet_work.specs.declared.SheetWork.{SheetWork}
+use Rattle.text_work.specs.Work.{textVerdict, sheetIn, textWork}
+
+-- every refusal has a number of its own
+kind-some : (k : Kind) → kindNumber k ≡ 0 → ⊥
+kind-some Inputs e = omega arith
+kind-some Outputs e = omega arith
+kind-some Count e = omega arith
+kind-some Room e = omega arith
+kind-some Form e = omega arith
+
+-- an accepted text has at most 128 rows
+count-le : (text : List ℕ) (room : ℕ) → readVerdict text room .number ≡ 0 → headNumber text 2 ≤ 128
+unfolding readVerdict
+count-le text room e =
+    let clear = answered-clear _ (refl, (refl, (refl, (refl, (refl, (refl, tt)))))) (eq-eqb _ 0 e) in
+    inside 1 128 (headNumber text 2) (clear 3 (omega arith)) .1
+
+-- the list whose masks, values and words lie in three slices is the list
+rows-parts : (rs : List Row)
+    → rowsOf (map (λ (r : Row). r .mask) rs) (map (λ (r : Row). r .values) rs) (map (λ (r : Row). r .word) rs) ≡ rs
+rows-parts rs =
+    let masks : List ℕ = map (λ (r : Row). r .mask) rs in
+    let values : List ℕ = map (λ (r : Row). r .values) rs in
+    let words : List ℕ = map (λ (r : Row). r .word) rs in
+    let size = length-map rs (λ (r : Row). r .mask) in
+    rows-of masks values words (length-map rs (λ (r : Row). r .values) ∙ sym size) (length-map rs (λ (r : Row). r .word) ∙ sym size)
+    ∙ ap (λ (i : ℕ). rowsFrom i masks values words) size
+    ∙ tab-cong (length rs) (λ i. row (at masks i) (at values i) (at words i)) (λ i. getD rs i (row 0 0 0))
+    (λ i h.
+    rw (
+      List·getD-map (λ (r : Row). r .mask) rs i (row 0 0 0),
+      List·getD-map (λ (r : Row). r .values) rs i (row 0 0 0),
+      List·getD-map (λ (r : Row). r .word) rs i (row 0 0 0),
+    ))
+    ∙ tab-list (row 0 0 0) rs
+
+count-rows : (text : List ℕ) → length (rowsIn text) ≡ headNumber text 2
+unfolding rowsIn
+count-rows text = length-tab (headNumber text 2) _
+
+-- the verdict of a room that is long enough
+enough : (n k w : ℕ) (rs : List Row) (room : ℕ) → 17518 ≤ room → sheetVerdict n k w rs room ≡ sheetVerdict n k w rs sheetRoom
+unfolding sheetVerdict
+enough n k w rs room h = ap (λ (b : Bool). verdict (methodChecks n k w rs b)) (le-ltb room sheetRoom h ∙ sym (le-ltb sheetRoom sheetRoom (omega arith)))
+
+-- an answer without results
+abbrev refused : Answer → SheetWork
+refused v = record { number = v .number; a = v .a; b = v .b; before = 0; after = 0; rows = 0; count = 0 }
+
+no-sheet : (u v : Answer) (x y c l : ℕ) → v ≡ u → (u .number ≡ 0 → ⊥) → refused u ≡ withSheet v x y c l
+no-sheet u v x y c l e h = rw (e, ne-eqb (u .number) 0 h)
+
+module _ (input text : List ℕ) (reading : Reading) (cut : text ≡ take 8192 input) (answers : numbers reading ≡ readText text 128) where
+  abbrev u : Answer
+  u = readVerdict text 128
+
+  -- the reader refuses
+  pub reader-refused : (f : Refusal) (l : List ℕ) → reading ≡ Refused f
+      → (record { number = kindNumber (f .kind); a = f .a; b = f .b; before = 0; after = 0; rows = 0; count = 0 } ≡ textWork input)
+      × (l ≡ stored (textVerdict input) (sheetIn input) l)
+  unfolding readText textWork textVerdict
+  reader-refused f l e =
+      let q : numbers (Refused f) ≡ readText text 128 = ap numbers (sym e) ∙ answers in
+      let said : answer (kindNumber (f .kind)) (f .a) (f .b) ≡ u = ap (λ (x : ReadAnswer). answer (x .number) (x .a) (x .b)) q in
+      let z : u .number ≡ 0 → ⊥ = λ z. kind-some (f .kind) (ap (λ (v : Answer). v .number) said ∙ z) in
+      let t : textVerdict input ≡ u = rw (← cut, ne-eqb (u .number) 0 z) in (
+        ap refused said ∙ no-sheet u (textVerdict input) _ _ _ _ t z,
+        sym (stored-no u (sheetIn input) l z) ∙ ap (λ (v : Answer). stored v (sheetIn input) l) (sym t),
+      )
+
+  module _ (h : Headings) (e : reading ≡ Accepted h) where
+    same : numbers (Accepted h) ≡ readText text 128
+    same = ap numbers (sym e) ∙ answers
+
+    zero : u .number ≡ 0
+    unfolding readText
+    zero = sym (ap (λ (x : ReadAnswer). x .number) same)
+
+    inputs : h .n ≡ headNumber text 0
+    unfolding readText
+    inputs = ap (λ (x : ReadAnswer). x .n) same ∙ carried-yes u (headNumber text 0) zero
+
+    columns : h .k ≡ headNumber text 1
+    unfolding readText
+    columns = ap (λ (x : ReadAnswer). x .k) same ∙ carried-yes u (headNumber text 1) zero
+
+    counted : h .count ≡ headNumber text 2
+    unfolding readText
+    counted = ap (λ (x : ReadAnswer). x .count) same ∙ carried-yes u (headNumber text 2) zero
+
+    pub reader-count : h .count ≤ 128
+    reader-count = rw counted (count-le text 128 zero)
+
+    -- a part of the rows at the front of storage
+    front : (f : Row → ℕ) (l l′ : List ℕ) → l′ ≡ stored u (map f (rowsIn text)) l → take (h .count) l′ ≡ map f (rowsIn text)
+    front f l l′ q =
+        ap (take (h .count)) (q ∙ stored-yes u (map f (rowsIn text)) l zero)
+        ∙ take-at (map f (rowsIn text)) (drop (length (map f (rowsIn text))) l) (h .count)
+        (length-map (rowsIn text) f ∙ count-rows text ∙ sym counted)
+
+    -- the work of the rows in storage
+    pub reader-accepted : (m v d m′ v′ d′ : List ℕ) → m′ ≡ stored u (map (λ (r : Row). r .mask) (rowsIn text)) m
+        → v′ ≡ stored u (map (λ (r : Row). r .values) (rowsIn text)) v → d′ ≡ stored u (map (λ (r : Row). r .word) (rowsIn text)) d
+        → (l l′ : List ℕ) (r : SheetWork) → 17518 ≤ length l
+        → r ≡ sheetWork (h .n) (h .k) (min 3 (h .n)) (rowsOf (take (h .count) m′) (take (h .count) v′) (take (h .count) d′)) (length l)
+        → l′ ≡ stored (sheetVerdict (h .n) (h .k) (min 3 (h .n)) (rowsOf (take (h .count) m′) (take (h .count) v′) (take (h .count) d′)) (length l))
+        (sheetText (h .n) (h .k) (min 3 (h .n)) (rowsOf (take (h .count) m′) (take (h .count) v′) (take (h .count) d′))) l
+        → (r ≡ textWork input) × (l′ ≡ stored (textVerdict input) (sheetIn input) l)
+    unfolding sheetWork textWork textVerdict sheetIn
+    reader-accepted m v d m′ v′ d′ a b c l l′ r long e q =
+        let rows : rowsOf (take (h .count) m′) (take (h .count) v′) (take (h .count) d′) ≡ rowsIn text =
+        rw (
+          front (λ (r : Row). r .mask) m m′ a,
+          front (λ (r : Row). r .values) v v′ b,
+          front (λ (r : Row). r .word) d d′ c,
+          rows-parts (rowsIn text),
+        ) in (
+          e ∙ rw (← cut, eq-eqb (u .number) 0 zero, inputs, columns, rows, enough (headNumber text 0) (headNumber text 1) (min 3 (headNumber text 0)) (rowsIn text) (length l) long),
+          q ∙ rw (← cut, eq-eqb (u .number) 0 zero, inputs, columns, rows, enough (headNumber text 0) (headNumber text 1) (min 3 (headNumber text 0)) (rowsIn text) (length l) long),
+        )

@@ -1,0 +1,80 @@
+// The work of a text (01, the first section, and The sheet): the bytes looked at, the weight limit, and the sheet of the rows that the
+// text says, with its measures and the number of smaller rows. What the programs print rests on it. All functions here are inner.
+use block::Reading;
+use sheet_work::SheetWork;
+ghost use mathlib.Core.Path.{_≡_};
+ghost use Prim.Native.Nat.{_≤_, min};
+ghost use lib.ListN.{length, take};
+ghost use Rattle.block.specs.Words.{rowsOf};
+ghost use Rattle.block.specs.Refusals.{stored};
+ghost use Rattle.block.specs.Sheet.{sheetText, sheetVerdict};
+ghost use Rattle.sheet_work.specs.Work.{sheetWork};
+ghost use Rattle.text_work.specs.Work.{textVerdict, sheetIn, textWork};
+
+// The first bytes of a text, at most so many.
+pub fn first_bytes(text: &[u8], most: usize) -> &[u8]
+    ensures { λ r. ⌜ now r ≡ take most (now (text .entry)) ⌝ }
+{
+    if most < text.len() {
+        &text[..most]
+    } else {
+        text
+    }
+}
+
+// The weight limit: 3, or n where n is below 3.
+pub fn weight_limit(n: usize) -> usize
+    ensures { λ r. ⌜ r ≡ min 3 n ⌝ }
+{
+    if n < 3 { n } else { 3 }
+}
+
+// Writes the sheet of a list with that weight limit to the front of out, or refuses.
+pub fn work_list(
+    n: usize,
+    k: usize,
+    masks: &[u32],
+    values: &[u32],
+    words: &[u32],
+    out: &mut [u8],
+) -> SheetWork
+    ensures { λ r. ⌜ r ≡ sheetWork n k (min 3 n) (rowsOf (now (masks .entry)) (now (values .entry)) (now (words .entry))) (length (now (out .entry))) ⌝ }
+    ensures { λ r. ⌜ now (out .exit) ≡ stored (sheetVerdict n k (min 3 n) (rowsOf (now (masks .entry)) (now (values .entry)) (now (words .entry))) (length (now (out .entry)))) (sheetText n k (min 3 n) (rowsOf (now (masks .entry)) (now (values .entry)) (now (words .entry)))) (now (out .entry)) ⌝ }
+{
+    sheet_work::make_sheet(n, k, weight_limit(n), masks, values, words, out)
+}
+
+// Writes the sheet of a text to the front of out, or refuses.
+pub fn work_text(input: &[u8], out: &mut [u8]) -> SheetWork
+    requires { ⌜ 17518 ≤ length (now out) ⌝ }
+    ensures { λ r. ⌜ r ≡ textWork (now (input .entry)) ⌝ }
+    ensures { λ r. ⌜ now (out .exit) ≡ stored (textVerdict (now (input .entry))) (sheetIn (now (input .entry))) (now (out .entry)) ⌝ }
+{
+    let text = first_bytes(input, 8192);
+    let mut masks = [0u32; 128];
+    let mut values = [0u32; 128];
+    let mut words = [0u32; 128];
+    let reading = reading::read_text(text, &mut masks, &mut values, &mut words);
+    match reading {
+        Reading::Refused(r) => {
+            let kind = r.kind;
+            SheetWork {
+                number: kinds::kind_number(kind),
+                a: r.a,
+                b: r.b,
+                before: 0,
+                after: 0,
+                rows: 0,
+                count: 0,
+            }
+        }
+        Reading::Accepted(h) => work_list(
+            h.n,
+            h.k,
+            &masks[..h.count],
+            &values[..h.count],
+            &words[..h.count],
+            out,
+        ),
+    }
+}
