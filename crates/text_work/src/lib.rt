@@ -41,7 +41,8 @@ pub fn work_list(
     ensures { λ r. ⌜ r ≡ sheetWork n k (min 3 n) (rowsOf (now (masks .entry)) (now (values .entry)) (now (words .entry))) (length (now (out .entry))) ⌝ }
     ensures { λ r. ⌜ now (out .exit) ≡ stored (sheetVerdict n k (min 3 n) (rowsOf (now (masks .entry)) (now (values .entry)) (now (words .entry))) (length (now (out .entry)))) (sheetText n k (min 3 n) (rowsOf (now (masks .entry)) (now (values .entry)) (now (words .entry)))) (now (out .entry)) ⌝ }
 {
-    sheet_work::make_sheet(n, k, weight_limit(n), masks, values, words, out)
+    let w = weight_limit(n);
+    sheet_work::make_sheet(n, k, w, masks, values, words, out)
 }
 
 // Writes the sheet of a text to the front of out, or refuses.
