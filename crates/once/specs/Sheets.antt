@@ -1,4 +1,4 @@
--- The promises of `sheets` and `printing`, and that each leaves one answer. A slice held s₀ and holds s₁ at the end. Assumes nothing.
+-- The promises of `sheets`, `printing` and `importing`, and that each leaves one answer. A slice held s₀ and holds s₁ at the end. Assumes nothing.
 use mathlib.Core.Path.{_≡_}
 use mathlib.Core.List.{List}
 use Prim.Native.Nat.{ℕ}
@@ -8,6 +8,9 @@ use Rattle.block.specs.Words.{rowsOf}
 use Rattle.block.specs.Refusals.{stored}
 use Rattle.block.specs.Sheet.{sheet, sheetText, sheetVerdict, printed}
 use Rattle.block.specs.declared.TextAnswer.{TextAnswer}
+use Rattle.text_work.specs.Work.{textVerdict, sheetIn}
+use Rattle.importing.specs.Import.{lineOf, imported}
+use Rattle.importing.specs.declared.Imported.{Imported}
 use Rattle.once.specs.Law.{one}
 
 -- ---- `sheet`
@@ -30,3 +33,15 @@ pub record PrintPromise (input out₀ : List ℕ) (count : ℕ) (out₁ : List �
 pub print-once : {input out₀ : List ℕ} {a b : ℕ} {out₁ out₂ : List ℕ} → PrintPromise input out₀ a out₁ → PrintPromise input out₀ b out₂
     → (a ≡ b) × (out₁ ≡ out₂)
 print-once p q = (one (p .bytes) (q .bytes), one (p .text) (q .text))
+
+-- ---- `import_text`
+
+pub record ImportPromise (name text sheet₀ line₀ : List ℕ) (r : Imported) (sheet₁ line₁ : List ℕ) : Type 0 where
+  pub answer : r ≡ imported name text
+  pub sheet : sheet₁ ≡ stored (textVerdict text) (sheetIn text) sheet₀
+  pub line : line₁ ≡ over (lineOf name text) line₀
+
+pub import-once : {name text sheet₀ line₀ : List ℕ} {r s : Imported} {sheet₁ sheet₂ line₁ line₂ : List ℕ}
+    → ImportPromise name text sheet₀ line₀ r sheet₁ line₁ → ImportPromise name text sheet₀ line₀ s sheet₂ line₂
+    → (r ≡ s) × (sheet₁ ≡ sheet₂) × (line₁ ≡ line₂)
+import-once p q = (one (p .answer) (q .answer), one (p .sheet) (q .sheet), one (p .line) (q .line))

@@ -27,7 +27,8 @@ or-or u v t = go (answered u) refl
     go true e = rw e
     go false e = rw (e, e)
 
-printed-by : (input : List ℕ) → printed input ≡ orRefused (textVerdict input) (sheetIn input)
+-- the program prints the sheet that an import writes, or the line of the refusal that an import says
+pub printed-by : (input : List ℕ) → printed input ≡ orRefused (textVerdict input) (sheetIn input)
 unfolding printed printedList textVerdict sheetIn
 printed-by input = or-or _ _ _
 
