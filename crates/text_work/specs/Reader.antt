@@ -10,7 +10,7 @@ use lib.ListN.{length, getD, take, drop, length-map, List·getD-map}
 use lib.Seq.{take-at}
 use Rattle.slices.specs.Places.{at}
 use Rattle.slices.specs.Filled.{length-tab, tab-cong, tab-list}
-use Rattle.block.specs.Limits.{sheetRoom}
+use Rattle.block.specs.Limits.{sheetRoom, givenRows}
 use Rattle.block.specs.Words.{row, rowsOf}
 use Rattle.block.specs.Refusals.{answer, verdict, stored}
 use Rattle.block.specs.Text.{readVerdict, readText, headNumber, rowsIn, kindNumber, numbers}
@@ -74,6 +74,17 @@ count-rows text = length-tab (headNumber text 2) _
 enough : (n k w : ℕ) (rs : List Row) (room : ℕ) → 17518 ≤ room → sheetVerdict n k w rs room ≡ sheetVerdict n k w rs sheetRoom
 unfolding sheetVerdict
 enough n k w rs room h = ap (λ (b : Bool). verdict (methodChecks n k w rs b)) (le-ltb room sheetRoom h ∙ sym (le-ltb sheetRoom sheetRoom (omega arith)))
+
+-- the number is the reader's where it refuses, and else the sheet's
+pub verdict-reader : (input : List ℕ) → (readVerdict (take 8192 input) givenRows .number ≡ 0 → ⊥)
+    → textVerdict input ≡ readVerdict (take 8192 input) givenRows
+unfolding textVerdict
+verdict-reader input h = rw (ne-eqb (readVerdict (take 8192 input) givenRows .number) 0 h)
+
+pub verdict-sheet : (input : List ℕ) → readVerdict (take 8192 input) givenRows .number ≡ 0
+    → textVerdict input ≡ sheetVerdict (headNumber (take 8192 input) 0) (headNumber (take 8192 input) 1) (min 3 (headNumber (take 8192 input) 0)) (rowsIn (take 8192 input)) sheetRoom
+unfolding textVerdict
+verdict-sheet input h = rw (eq-eqb (readVerdict (take 8192 input) givenRows .number) 0 h)
 
 -- an answer without results
 abbrev refused : Answer → SheetWork
