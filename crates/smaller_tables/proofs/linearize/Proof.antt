@@ -63,8 +63,8 @@ choose-basis-requires c κs =
       walked (a .n) (a .w) (replicate 4096 0) _ _ (c .before .before .before .before .before .before .before .before .before .before .put-walk .ensures .0) (c .before .before .before .before .before .before .before .before .before .before .put-walk .ensures .1),
     )
 
-put-smaller-requires : tie.Need-put-smaller-requires
-put-smaller-requires c κs =
+put-through-requires : tie.Need-put-through-requires
+put-through-requires c κs =
     let s = c .before .before .before .before .before .before .before .before .before .before .before .before .before .before .before .before .before .before .before .before .before .before .before .before .before .before in
     let a = s .args in (
       s .pre .0,
@@ -91,7 +91,7 @@ returns c =
     let a = s .args in
     worked (ofTable (now (a .table))) (a .n) (a .w) (s .pre .2) _
     (laid-agree (ofTable (now (a .table))) (a .n) (a .w) _ _ _ _ _ _ (c .before .before .before .before .before .before .before .before .before .before .before .before .before .before .before .before .before .before .before .before .before .before .before .shifts-of .ensures) (walked (a .n) (a .w) (replicate 4096 0) _ _ (c .before .before .before .before .before .before .before .before .before .before .before .before .before .before .before .before .before .before .before .before .put-walk .ensures .0) (c .before .before .before .before .before .before .before .before .before .before .before .before .before .before .before .before .before .before .before .before .put-walk .ensures .1)) (c .before .before .before .before .before .before .before .before .before .before .before .before .before .before .before .put-values .ensures))
-    _ _ _ _ _ _ _ (c .before .before .before .before .before .before .before .before .before .choose-basis .ensures) (c .before .before .put-smaller .ensures)
+    _ _ _ _ _ _ _ (c .before .before .before .before .before .before .before .before .before .choose-basis .ensures) (c .before .before .put-through .ensures)
 
 pub linearize-spec : {M : Type 1} → statement M
 linearize-spec =
@@ -108,7 +108,7 @@ linearize-spec =
     slice-aggregate-choose-basis
     slice-aggregate-choose-basis-2
     choose-basis-requires
-    put-smaller-requires
+    put-through-requires
     same-length
     same-length-2
     same-length-3
