@@ -13,6 +13,7 @@ use Rattle.choice.specs.Chosen.{Agree, pick}
 use Rattle.matrix.specs.Linear.{apply-lt, columns-cong}
 use Rattle.matrix.specs.Images.{apply-columns}
 use Rattle.matrix.specs.Candidate.{basis-independent}
+use Rattle.shifts.specs.Light.{LightValues}
 use Rattle.choosing.specs.Steps.{ChosenBasis}
 use Rattle.choosing.specs.Walk.{Walked, valueAt, value-agree}
 use Rattle.choosing.specs.Found.{found-column, found}
@@ -26,13 +27,10 @@ pub record Worked (f : ℕ → ℕ) (n w : ℕ) (t s z t′ s′ z′ : List ℕ
   pub earlier : r .before ≡ measure f n
   pub later : r .after ≡ measure (smallerOf f n w) n
 
--- R of every t, laid by the places of the walk, agrees with R where the rule asks for it
-pub laid-agree : (f : ℕ → ℕ) (n w : ℕ) (by zeros walk : List ℕ) (count : ℕ) (r values : List ℕ) → by ≡ over (tab (2 ^ n) (shift f n)) zeros
+-- R at the numbers of few one-bits, laid by the places of the walk, agrees with R where the rule asks for it
+pub laid-agree : (f : ℕ → ℕ) (n w : ℕ) (by walk : List ℕ) (count : ℕ) (r values : List ℕ) → LightValues (shift f n) (2 ^ n) w by
     → Walked n w walk count → values ≡ over (tab count (λ i. at by (at walk i))) r → Agree (valueAt walk values count) (shift f n) n w
-laid-agree f n w by zeros walk count r values e h d t b i j =
-    value-agree n w walk count h (at by) r values d t b i j
-    ∙ ap (λ (l : List ℕ). at l t) e
-    ∙ over-at (2 ^ n) (shift f n) zeros 0 t b
+laid-agree f n w by walk count r values e h d t b i j = value-agree n w walk count h (at by) r values d t b i j ∙ e .each t b j
 
 module _ (f : ℕ → ℕ) (n w : ℕ) (hw : 1 ≤ w) (v : ℕ → ℕ) (agree : Agree v (shift f n) n w) where
   pub column-lt : (t t′ : List ℕ) → t′ ≡ over (tab n (pick v n w)) t → (j : ℕ) → j < n → at t′ j < 2 ^ n

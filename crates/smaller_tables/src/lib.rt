@@ -46,8 +46,8 @@ pub fn put_values(by_t: &[u32], walk: &[u32], count: usize, out: &mut [u32])
     }
 }
 
-// Basis, sigma, smaller table and both measures of a table that passed the checks. R is worked out once for every t, and then laid by the
-// places of the walk. No entry is 65,534, which a table with at most 15 outputs never holds.
+// Basis, sigma, smaller table and both measures of a table that passed the checks. R is worked out once for every t of at most w one-bits,
+// and then laid by the places of the walk. No entry is 65,534, which a table with at most 15 outputs never holds.
 pub fn linearize(
     table: &[u16],
     n: usize,
@@ -62,7 +62,7 @@ pub fn linearize(
     let mut by_t = [0u32; 4096];
     let mut walk = [0u32; 4096];
     let mut values = [0u32; 4096];
-    shifts::shifts_of(table, n, &mut by_t);
+    shifts::shifts_of(table, n, w, &mut by_t);
     let count = choosing::put_walk(n, w, &mut walk);
     put_values(&by_t, &walk, count, &mut values);
     let measures = choosing::choose_basis(&walk, &values, count, n, w, basis, sigma);

@@ -1,5 +1,5 @@
--- `smaller_tables::linearize` meets its contract: R of every t, laid by the places of the walk, the choice by it, and the smaller table
--- are the work. Assumes nothing.
+-- `smaller_tables::linearize` meets its contract: R at the numbers of few one-bits, laid by the places of the walk, the choice by it,
+-- and the smaller table are the work. Assumes nothing.
 use native.Mathlib.Omega.{arith}
 use lib.ListN.{replicate}
 use lib.Pow.{pow-mono}
@@ -41,7 +41,7 @@ put-values-requires c κs =
     let s = c .before .before .before .before .before .before .before .before .before .before .before .before .before in
     let a = s .args in
     let e = c .before .before .before .before .put-walk .kept .1 .1 .0 in
-    let d = c .before .before .before .before .before .before .before .shifts-of .kept .1 .1 .0 in
+    let d = c .before .before .before .before .before .before .before .shifts-of .kept .1 .1 .1 .0 in
     let h = walked (a .n) (a .w) (replicate 4096 0) _ _ (c .before .before .before .before .put-walk .ensures .0) (c .before .before .before .before .put-walk .ensures .1) in
     let small = pow-mono (s .pre .1) in
     (omega (arith, e, h .short, small), omega (arith, h .short, small), λ i b. omega (arith, walked-lt _ _ _ _ h i b, d, small))
@@ -72,7 +72,7 @@ put-through-requires c κs =
       search needs,
       search needs,
       column-lt (ofTable (now (a .table))) (a .n) (a .w) (s .pre .2) _
-          (laid-agree (ofTable (now (a .table))) (a .n) (a .w) _ _ _ _ _ _ (c .before .before .before .before .before .before .before .before .before .before .before .before .before .before .before .before .before .before .before .before .shifts-of .ensures) (walked (a .n) (a .w) (replicate 4096 0) _ _ (c .before .before .before .before .before .before .before .before .before .before .before .before .before .before .before .before .before .put-walk .ensures .0) (c .before .before .before .before .before .before .before .before .before .before .before .before .before .before .before .before .before .put-walk .ensures .1)) (c .before .before .before .before .before .before .before .before .before .before .before .before .put-values .ensures))
+          (laid-agree (ofTable (now (a .table))) (a .n) (a .w) _ _ _ _ _ (c .before .before .before .before .before .before .before .before .before .before .before .before .before .before .before .before .before .before .before .before .shifts-of .ensures) (walked (a .n) (a .w) (replicate 4096 0) _ _ (c .before .before .before .before .before .before .before .before .before .before .before .before .before .before .before .before .before .put-walk .ensures .0) (c .before .before .before .before .before .before .before .before .before .before .before .before .before .before .before .before .before .put-walk .ensures .1)) (c .before .before .before .before .before .before .before .before .before .before .before .before .put-values .ensures))
           _ _ (c .before .before .before .before .before .before .choose-basis .ensures .basis),
     )
 
@@ -90,7 +90,7 @@ returns c =
     let s = c .before .before .before .before .before .before .before .before .before .before .before .before .before .before .before .before .before .before .before .before .before .before .before .before .before .before .before .before .before in
     let a = s .args in
     worked (ofTable (now (a .table))) (a .n) (a .w) (s .pre .2) _
-    (laid-agree (ofTable (now (a .table))) (a .n) (a .w) _ _ _ _ _ _ (c .before .before .before .before .before .before .before .before .before .before .before .before .before .before .before .before .before .before .before .before .before .before .before .shifts-of .ensures) (walked (a .n) (a .w) (replicate 4096 0) _ _ (c .before .before .before .before .before .before .before .before .before .before .before .before .before .before .before .before .before .before .before .before .put-walk .ensures .0) (c .before .before .before .before .before .before .before .before .before .before .before .before .before .before .before .before .before .before .before .before .put-walk .ensures .1)) (c .before .before .before .before .before .before .before .before .before .before .before .before .before .before .before .put-values .ensures))
+    (laid-agree (ofTable (now (a .table))) (a .n) (a .w) _ _ _ _ _ (c .before .before .before .before .before .before .before .before .before .before .before .before .before .before .before .before .before .before .before .before .before .before .before .shifts-of .ensures) (walked (a .n) (a .w) (replicate 4096 0) _ _ (c .before .before .before .before .before .before .before .before .before .before .before .before .before .before .before .before .before .before .before .before .put-walk .ensures .0) (c .before .before .before .before .before .before .before .before .before .before .before .before .before .before .before .before .before .before .before .before .put-walk .ensures .1)) (c .before .before .before .before .before .before .before .before .before .before .before .before .before .before .before .put-values .ensures))
     _ _ _ _ _ _ _ (c .before .before .before .before .before .before .before .before .before .choose-basis .ensures) (c .before .before .put-through .ensures)
 
 pub linearize-spec : {M : Type 1} → statement M
