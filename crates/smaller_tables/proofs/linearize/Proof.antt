@@ -5,7 +5,7 @@ use lib.ListN.{replicate}
 use lib.Pow.{pow-mono}
 use denote.Ref.{now}
 use Rattle.block.specs.Words.{ofTable}
-use Rattle.choosing.specs.Walk.{walked, walked-lt}
+use Rattle.choosing.specs.Walk.{walked, walked-lt, walk-below}
 use Rattle.smaller_tables.specs.Work.{laid-agree, column-lt, worked}
 use borrow.Author.Needs.{needs}
 use Rattle.smaller_tables.proofs.linearize.Statement.{statement}
@@ -25,7 +25,7 @@ slice-aggregate-put-walk c = search needs
 put-walk-requires : tie.Need-put-walk-requires
 put-walk-requires c κs =
     let s = c .before .before .before .before .before .before .before .before in
-    (pow-mono (s .pre .1), omega arith, s .pre .3)
+    (omega (arith, walk-below (s .args .n) (s .args .w), pow-mono (s .pre .1)), omega arith, s .pre .3)
 
 slice-aggregate-put-values : tie.Need-slice-aggregate-put-values
 slice-aggregate-put-values c = search needs
@@ -58,8 +58,10 @@ choose-basis-requires c κs =
     let a = s .args in
     let e = c .before .before .before .before .before .before .before .before .before .before .put-walk .kept .1 .1 .0 in
     let d = c .before .before .before .before .before .put-values .kept .1 .1 .1 .0 in
+    let count = c .before .before .before .before .before .before .before .before .before .before .put-walk .ensures .1 in
+    let below = walk-below (a .n) (a .w) in
     let small = pow-mono (s .pre .1) in (
-      (omega (arith, e, small), omega (arith, d, small), search needs, search needs, search needs, s .pre .2),
+      (omega (arith, e, count, below, small), omega (arith, d, count, below, small), search needs, search needs, search needs, s .pre .2),
       walked (a .n) (a .w) (replicate 4096 0) _ _ (c .before .before .before .before .before .before .before .before .before .before .put-walk .ensures .0) (c .before .before .before .before .before .before .before .before .before .before .put-walk .ensures .1),
     )
 
