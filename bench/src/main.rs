@@ -10,6 +10,7 @@ mod print;
 mod timing;
 
 use calls::Call;
+use inputs::Table;
 use print::Line;
 use product::Product;
 use reference::Fast;
@@ -24,9 +25,14 @@ fn main() -> ExitCode {
             return ExitCode::FAILURE;
         }
     };
-    let calls = inputs::calls();
-    let lines: Vec<Line> = calls.iter().map(|call| line(call, runs)).collect();
-    print!("{}", print::table(&lines));
+    let tables: Vec<String> = inputs::tables()
+        .iter()
+        .map(|Table { title, calls }| {
+            let lines: Vec<Line> = calls.iter().map(|call| line(call, runs)).collect();
+            print::table(title, &lines)
+        })
+        .collect();
+    print!("{}", tables.join("\n"));
     ExitCode::SUCCESS
 }
 

@@ -9,18 +9,19 @@ pub struct Line {
     pub rust: Duration,
 }
 
-/// The table: name, our time, Rust's time, and how many times as long ours is.
-pub fn table(lines: &[Line]) -> String {
-    let width = lines.iter().map(|line| line.name.len()).max().unwrap_or(0);
-    let mut table = format!(
-        "{:width$}  {:>10}  {:>10}  {:>6}\n",
-        "", "ours", "Rust", "ratio"
-    );
+/// A table under its title: name, our time, Rust's time, and how many times as
+/// long ours is.
+pub fn table(title: &str, lines: &[Line]) -> String {
+    let names = lines.iter().map(|line| line.name.as_str());
+    let width = names.chain([title]).map(str::len).max().unwrap_or(0);
+    let row = |name: &str, ours: &str, rust: &str, ratio: &str| {
+        format!("{name:width$}  {ours:>10}  {rust:>10}  {ratio:>6}\n")
+    };
+    let mut table = row(title, "ours", "Rust", "ratio");
     for line in lines {
-        let ours = shown(line.ours);
-        let ratio = format!("{:.2}", line.ours.as_secs_f64() / line.rust.as_secs_f64());
-        let rust = shown(line.rust);
-        table += &format!("{:width$}  {ours:>10}  {rust:>10}  {ratio:>6}\n", line.name);
+        let ratio = line.ours.as_secs_f64() / line.rust.as_secs_f64();
+        let [ours, rust] = [shown(line.ours), shown(line.rust)];
+        table += &row(&line.name, &ours, &rust, &format!("{ratio:.2}"));
     }
     table
 }

@@ -2,6 +2,13 @@
 
 use std::time::{Duration, Instant};
 
+/// The time of a function on this work.
+pub fn once<T>(work: &mut T, function: fn(&mut T)) -> Duration {
+    let start = Instant::now();
+    function(work);
+    start.elapsed()
+}
+
 /// The median time of each of the functions over so many runs, after one that
 /// does not count. They take turns, so that other load on the machine falls on
 /// all of them alike. `prepare` makes what a run works on and is not timed.
@@ -12,11 +19,8 @@ pub fn medians<T, const N: usize>(
 ) -> [Duration; N] {
     let mut times = [(); N].map(|()| Vec::with_capacity(runs));
     for turn in 0..=runs {
-        for (run, times) in functions.iter().zip(&mut times) {
-            let mut work = prepare();
-            let start = Instant::now();
-            run(&mut work);
-            let time = start.elapsed();
+        for (function, times) in functions.iter().zip(&mut times) {
+            let time = once(&mut prepare(), *function);
             if turn > 0 {
                 times.push(time);
             }

@@ -3,3 +3,4 @@ pub mod Digits
 pub mod Xor
 pub mod Parity
 pub mod Bit
+pub mod Parts

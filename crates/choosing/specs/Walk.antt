@@ -159,7 +159,7 @@ pub laid-none : (w : ℕ) (l : List ℕ) → Laid w 0 l l 0
 unfolding walkTo
 laid-none w l = record { size = refl; counted = refl; fits = omega arith; holds = refl }
 
-pub laid-taken : (w t : ℕ) (l m k : List ℕ) (count r : ℕ) → Laid w t l m count → light w t ≡ true → t < length l → k ≡ set m count t
+pub laid-taken : (w t : ℕ) (l m k : List ℕ) (count r : ℕ) → Laid w t l m count → light w t ≡ true → count < length l → k ≡ set m count t
     → r ≡ count + 1 → Laid w (t + 1) l k r
 laid-taken w t l m k count r s h b f g =
     let e = s .counted in
@@ -183,20 +183,30 @@ laid-left w t l m k count r s h f g =
       holds = f ∙ rw (walk-left w t h) (s .holds);
     }
 
+-- a number of the walk has a place below its end
+pub laid-room : (n w t : ℕ) (l m : List ℕ) (count : ℕ) → Laid w t l m count → light w t ≡ true → t < 2 ^ n → count < length (walk n w)
+unfolding walk
+laid-room n w t l m count s h b = omega (arith, s .counted, walks w (2 ^ n) .held t b h .0)
+
+-- the walk leaves at least one number out: 0
+pub walk-below : (n w : ℕ) → length (walk n w) < 2 ^ n
+unfolding walk
+walk-below n w = few (2 ^ n) (pow-pos n)
+  where
+    few : (m : ℕ) → 0 < m → length (walkTo w m) < m
+    few zero h = absurd (omega arith)
+    few (suc m) h = omega (arith, walk-short w m)
+
 -- the walk at the front of a list
 pub walked : (n w : ℕ) (l m : List ℕ) (count : ℕ) → m ≡ over (walk n w) l → count ≡ length (walk n w) → Walked n w m count
 unfolding walk
 walked n w l m count e d =
     record {
       counted = d;
-      short = omega (arith, d, few (2 ^ n) (pow-pos n));
+      short = omega (arith, d, walk-below n w);
       each = λ i h.
           ap (λ (x : List ℕ). at x i) e ∙ List·getD-append (walkTo w (2 ^ n)) (drop (length (walkTo w (2 ^ n))) l) 0 i (omega arith);
     }
-  where
-    few : (m : ℕ) → 0 < m → length (walkTo w m) < m
-    few zero h = absurd (omega arith)
-    few (suc m) h = omega (arith, walk-short w m)
 
 -- ---- the walk in a list, and values by place
 

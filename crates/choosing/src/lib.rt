@@ -29,7 +29,7 @@ pub fn is_light(w: usize, t: u32) -> bool
 
 // Puts the walk, the numbers below 2^n with 1 to w one-bits in ascending order, and answers how many there are.
 pub fn put_walk(n: usize, w: usize, out: &mut [u32]) -> usize
-    requires { ⌜ (2 ^ n ≤ length (now out)) × (n ≤ 16) × (w ≤ n) ⌝ }
+    requires { ⌜ (length (walk n w) ≤ length (now out)) × (n ≤ 16) × (w ≤ n) ⌝ }
     ensures { λ _. ⌜ now (out .exit) ≡ over (walk n w) (now (out .entry)) ⌝ }
     ensures { λ r. ⌜ r ≡ length (walk n w) ⌝ }
 {
@@ -91,7 +91,7 @@ pub fn choose(
     k: usize,
     w: usize,
 ) -> u32
-    requires { ⌜ (2 ^ n ≤ length (now walk)) × (2 ^ n ≤ length (now values)) × (n ≤ length (now s)) × (n ≤ 24) × (k ≤ n) ⌝ }
+    requires { ⌜ (count ≤ length (now walk)) × (count < length (now values)) × (n ≤ length (now s)) × (n ≤ 24) × (k ≤ n) ⌝ }
     requires { ⌜ Walked n w (now walk) count ⌝ }
     ensures { λ r. ⌜ r ≡ best (before (valueAt (now (walk .entry)) (now (values .entry)) count)) (candidateBy (at (now (s .entry))) n k w) (2 ^ n) ⌝ }
 {
@@ -139,7 +139,7 @@ pub fn choose_all(
     basis: &mut [u32],
     sigma: &mut [u32],
 )
-    requires { ⌜ (2 ^ n ≤ length (now walk)) × (2 ^ n ≤ length (now values)) × (n ≤ length (now basis)) × (n ≤ length (now sigma)) × (n ≤ 24) × (1 ≤ w) ⌝ }
+    requires { ⌜ (count ≤ length (now walk)) × (count < length (now values)) × (n ≤ length (now basis)) × (n ≤ length (now sigma)) × (n ≤ 24) × (1 ≤ w) ⌝ }
     requires { ⌜ Walked n w (now walk) count ⌝ }
     ensures { λ _. ⌜ now (basis .exit) ≡ over (tab n (pick (valueAt (now (walk .entry)) (now (values .entry)) count) n w)) (now (basis .entry)) ⌝ }
     ensures { λ _. ⌜ now (sigma .exit) ≡ over (tab n (reachRows n (pick (valueAt (now (walk .entry)) (now (values .entry)) count) n w) n)) (now (sigma .entry)) ⌝ }
@@ -199,7 +199,7 @@ pub fn choose_basis(
     basis: &mut [u32],
     sigma: &mut [u32],
 ) -> Measures
-    requires { ⌜ (2 ^ n ≤ length (now walk)) × (2 ^ n ≤ length (now values)) × (n ≤ length (now basis)) × (n ≤ length (now sigma)) × (n ≤ 24) × (1 ≤ w) ⌝ }
+    requires { ⌜ (count ≤ length (now walk)) × (count < length (now values)) × (n ≤ length (now basis)) × (n ≤ length (now sigma)) × (n ≤ 24) × (1 ≤ w) ⌝ }
     requires { ⌜ Walked n w (now walk) count ⌝ }
     ensures { λ r. ⌜ ChosenBasis (valueAt (now (walk .entry)) (now (values .entry)) count) n w (now (basis .entry)) (now (sigma .entry)) (now (basis .exit)) (now (sigma .exit)) r ⌝ }
 {

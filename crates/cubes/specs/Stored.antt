@@ -82,11 +82,11 @@ cubes-few n masks values words m₀ v₀ w₀ m v w r l s =
 
 -- ---- one cube, as a loop over them has it
 
-pub hit-taken : (m v w : List ℕ) (t q : ℕ) → bitAnd t (at m q) ≡ at v q → hitAt m v w t q ≡ at w q
-hit-taken m v w t q h = rw (eq-eqb (bitAnd t (at m q)) (at v q) h)
+pub hit-taken : (t : ℕ) (q : Cube) → bitAnd t (q .mask) ≡ q .value → hit t q ≡ q .weight
+hit-taken t q h = rw (eq-eqb (bitAnd t (q .mask)) (q .value) h)
 
-pub hit-left : (m v w : List ℕ) (t q : ℕ) → (bitAnd t (at m q) ≡ at v q → ⊥) → hitAt m v w t q ≡ 0
-hit-left m v w t q h = rw (ne-eqb (bitAnd t (at m q)) (at v q) h)
+pub hit-left : (t : ℕ) (q : Cube) → (bitAnd t (q .mask) ≡ q .value → ⊥) → hit t q ≡ 0
+hit-left t q h = rw (ne-eqb (bitAnd t (q .mask)) (q .value) h)
 
 pub added-more : (m v w : List ℕ) (t q x : ℕ) → x ≡ addedBy m v w q t + hitAt m v w t q → x ≡ addedBy m v w (q + 1) t
 added-more m v w t q x e = e ∙ sym (sum-more (hitAt m v w t) q)
@@ -96,6 +96,12 @@ pub added-step : (m v w : List ℕ) (r t q : ℕ) → q < r → addedBy m v w q 
 added-step m v w r t q h = omega (arith, sum-more (hitAt m v w t) q, sum-mono (hitAt m v w t) (q + 1) r (omega arith))
 
 -- ---- the cubes of a list of rows, as two nested loops put them
+
+-- the cube of the rows i and j, by their places in two slices
+abbrev pub cubeOf : ℕ → List ℕ → List ℕ → ℕ → ℕ → Cube
+cubeOf n masks values i j =
+    cube (bitAnd (at masks i) (at masks j)) (bitAnd (bitAnd (at masks i) (at masks j)) (bitXor (at values i) (at values j)))
+    (2 ^ (n - ones (bitOr (at masks i) (at masks j))) * cond (eqb i j) 1 2)
 
 -- lists that held the cubes cs, whatever they held before, hold the cubes ds, r of them
 pub record Grown (cs ds : List Cube) (m₁ v₁ w₁ : List ℕ) (r₁ : ℕ) (m v w : List ℕ) (r : ℕ) : Type 0 where
@@ -112,21 +118,15 @@ module _ (n : ℕ) (masks values words : List ℕ) (e : length values ≡ length
   abbrev rows : List Row
   rows = rowsOf masks values words
 
-  -- the cube of the rows i and j, by places
-  abbrev pub cubeBy : ℕ → ℕ → Cube
-  cubeBy i j =
-      cube (bitAnd (at masks i) (at masks j)) (bitAnd (bitAnd (at masks i) (at masks j)) (bitXor (at values i) (at values j)))
-      (2 ^ (n - ones (bitOr (at masks i) (at masks j))) * cond (eqb i j) 1 2)
-
   module _ (i j : ℕ) (hi : i < length masks) (hj : j < length masks) where
-    cube-by : cubeAt n rows i j ≡ cubeBy i j
+    cube-by : cubeAt n rows i j ≡ cubeOf n masks values i j
     cube-by = rw (row-at masks values words e f i hi, row-at masks values words e f j hj)
 
     word-by : (k : ℕ) → k < length masks → rowAt rows k .word ≡ at words k
     word-by k h = ap (λ (r : Row). r .word) (row-at masks values words e f k h)
 
     -- a pair with equal words has a cube
-    pub cubes-put : i ≤ j → at words i ≡ at words j → cubesTo n rows i (j + 1) ≡ cubesTo n rows i j ++ (cubeBy i j ∷ [])
+    pub cubes-put : i ≤ j → at words i ≡ at words j → cubesTo n rows i (j + 1) ≡ cubesTo n rows i j ++ (cubeOf n masks values i j ∷ [])
     cubes-put h d =
         cubes-more n rows i j h (word-by i hi ∙ d ∙ sym (word-by j hj))
         ∙ ap (λ (q : Cube). cubesTo n rows i j ++ (q ∷ [])) cube-by

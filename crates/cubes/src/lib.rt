@@ -1,5 +1,5 @@
-// R of a list of rows by cubes (document 003, Theorem 1): one cube for each pair of rows with equal words, its parts laid out in three
-// slices; what the cubes add at one t, and at each t of a list. Every function here is inner.
+// R of a list of rows by cubes (document 003, Theorem 1), one for each pair of rows with equal words: at one t, pair by pair; and at each
+// t of a list, with the parts of the cubes laid out in three slices. Every function here is inner.
 ghost use mathlib.Core.Path.{_≡_};
 ghost use mathlib.Core.Bool.{cond};
 ghost use Prim.Native.Nat.{ℕ, _-_, _*_, _≤_, _<_, _^_};
@@ -12,9 +12,9 @@ ghost use Rattle.block.specs.Words.{ofRows, rowsOf};
 ghost use Rattle.block.specs.Measure.{shift};
 ghost use Rattle.pairs.specs.Cube.{Sound};
 ghost use Rattle.pairs.specs.Theorem.{Every, Disjoint};
-ghost use Rattle.pairs.specs.Symmetric.{cubesOf};
+ghost use Rattle.pairs.specs.Symmetric.{hit, cubesOf};
 ghost use Rattle.listing.specs.Listing.{Listed};
-ghost use Rattle.cubes.specs.Stored.{CubesAt, addedBy};
+ghost use Rattle.cubes.specs.Stored.{CubesAt, addedBy, cubeOf};
 
 // Whether two words are equal, in all their columns; word 0 is a word like any other.
 pub fn same_word(a: u32, b: u32) -> bool
@@ -145,25 +145,38 @@ pub fn shifts_by_cubes(
     }
 }
 
-// R(t) of a list of disjoint rows.
+// What the rows i and j, whose words are equal, add to R(t): what their pair weighs where t lies in its cube, and else nothing.
+fn pair_adds(n: usize, masks: &[u32], values: &[u32], i: usize, j: usize, t: u32) -> u32
+    requires { ⌜ (n ≤ 16) × (i < length (now masks)) × (j < length (now masks)) × (length (now values) ≡ length (now masks)) ⌝ }
+    requires { ⌜ (at (now masks) i < 2 ^ n) × (at (now masks) j < 2 ^ n) ⌝ }
+    ensures { λ r. ⌜ r ≡ hit t (cubeOf n (now (masks .entry)) (now (values .entry)) i j) ⌝ }
+    ensures { λ r. ⌜ r ≤ 131072 ⌝ }
+{
+    let mask = masks[i];
+    let mask2 = masks[j];
+    let both = mask & mask2;
+    if t & both == both & (values[i] ^ values[j]) {
+        return weight_of(n, mask | mask2, i == j);
+    }
+    0
+}
+
+// R(t) of a list of disjoint rows. No cube is stored.
 pub fn shift_of_rows(n: usize, masks: &[u32], values: &[u32], words: &[u32], t: u32) -> u32
     requires { ⌜ (n ≤ 16) × (t < 2 ^ n) × Listed 128 (now masks) (now values) (now words) ⌝ }
     requires { ⌜ Disjoint n (rowsOf (now masks) (now values) (now words)) ⌝ }
     ensures { λ r. ⌜ r ≡ shift (ofRows (rowsOf (now (masks .entry)) (now (values .entry)) (now (words .entry)))) n t ⌝ }
 {
-    let mut cube_masks = [0u32; 8256];
-    let mut cube_values = [0u32; 8256];
-    let mut cube_weights = [0u32; 8256];
-    let count = put_cubes(
-        n,
-        masks,
-        values,
-        words,
-        &mut cube_masks,
-        &mut cube_values,
-        &mut cube_weights,
-    );
-    shift_by_cubes(&cube_masks, &cube_values, &cube_weights, count, t)
+    let p = masks.len();
+    let mut sum: u32 = 0;
+    for i in 0..p {
+        for j in i..p {
+            if same_word(words[i], words[j]) {
+                sum += pair_adds(n, masks, values, i, j, t);
+            }
+        }
+    }
+    sum
 }
 
 // R of a list of disjoint rows at each t of a list of numbers below 2^n, by its place there.

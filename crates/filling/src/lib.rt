@@ -1,39 +1,53 @@
-// Filling a table from rows: the word at a point, and the table of all points. Every function here is inner.
+// Filling a table from rows: no output everywhere, then each row's word at the row's own points. Every function here is inner.
 ghost use mathlib.Core.Path.{_≡_};
 ghost use Prim.Native.Nat.{ℕ, _≤_, _<_, _^_};
 ghost use lib.ListN.{length};
-ghost use Rattle.slices.specs.Places.{at, over};
-ghost use Rattle.block.specs.Words.{ofRows, rowsOf};
+ghost use Rattle.slices.specs.Places.{at, tab, over};
+ghost use Rattle.block.specs.Words.{none, row, rowsOf};
 ghost use Rattle.block.specs.Lists.{filled};
+ghost use Rattle.pairs.specs.Cube.{Sound};
+ghost use Rattle.pairs.specs.Theorem.{Every};
 ghost use Rattle.listing.specs.Listing.{Listed};
+ghost use Rattle.filling.specs.Points.{RowPut};
 
-// The word of the first row over the point x, or 65,535 where there is none.
-pub fn word_over(masks: &[u32], values: &[u32], words: &[u32], x: u32) -> u16
-    requires { ⌜ Listed 512 (now masks) (now values) (now words) ⌝ }
-    requires { ⌜ ((i : ℕ) → i < length (now words) → at (now words) i < 65536) ⌝ }
-    ensures { λ r. ⌜ r ≡ ofRows (rowsOf (now (masks .entry)) (now (values .entry)) (now (words .entry))) x ⌝ }
+// No output at any point.
+fn clear(size: usize, out: &mut [u16])
+    requires { ⌜ size ≤ length (now out) ⌝ }
+    ensures { λ _. ⌜ now (out .exit) ≡ over (tab size (λ _. none)) (now (out .entry)) ⌝ }
 {
-    let last = masks.len() - 1;
-    let mut i: usize = 0;
-    while i <= last {
-        if masks[i] & x == values[i] {
-            return words[i] as u16;
-        }
-        i += 1;
+    let mut x: usize = 0;
+    while x < size {
+        out[x] = 65535;
+        x += 1;
     }
-    65535
 }
 
-// The full table of a list of rows.
+// The row's word at each point under the row: its values at the fixed inputs, and at the free ones each part of them in turn, from the
+// greatest down to 0.
+fn put_row(n: usize, mask: u32, values: u32, word: u16, out: &mut [u16])
+    requires { ⌜ (n ≤ 12) × (2 ^ n ≤ length (now out)) × Sound n (row mask values word) ⌝ }
+    ensures { λ _. ⌜ RowPut n (row mask values word) (now (out .entry)) (now (out .exit)) ⌝ }
+{
+    let free = (numbers::power(n) - 1) ^ mask;
+    let mut part = free;
+    while 0 < part {
+        out[(values ^ part) as usize] = word;
+        part = free & (part - 1);
+    }
+    out[(values ^ part) as usize] = word;
+}
+
+// The full table of a list of rows, put from the last row to the first: at a point under two rows the first one's word stays.
 pub fn fill_rows(n: usize, masks: &[u32], values: &[u32], words: &[u32], out: &mut [u16])
     requires { ⌜ (n ≤ 12) × (2 ^ n ≤ length (now out)) × Listed 512 (now masks) (now values) (now words) ⌝ }
+    requires { ⌜ Every (Sound n) (rowsOf (now masks) (now values) (now words)) ⌝ }
     requires { ⌜ ((i : ℕ) → i < length (now words) → at (now words) i < 65536) ⌝ }
     ensures { λ _. ⌜ now (out .exit) ≡ over (filled n (rowsOf (now (masks .entry)) (now (values .entry)) (now (words .entry)))) (now (out .entry)) ⌝ }
 {
-    let size = numbers::size(n);
-    let mut x: usize = 0;
-    while x < size {
-        out[x] = word_over(masks, values, words, x as u32);
-        x += 1;
+    clear(numbers::size(n), out);
+    let mut i = masks.len();
+    while 0 < i {
+        i -= 1;
+        put_row(n, masks[i], values[i], words[i] as u16, out);
     }
 }

@@ -1,13 +1,14 @@
-// Matrices over GF(2) in slices, n numbers of n bits: a matrix at a point, and the two row operations that a step is made of.
-// Every function here is inner.
+// Matrices over GF(2) in slices, n numbers of n bits: a matrix at a point and at every point, and the two row operations that a step is
+// made of. Every function here is inner.
 ghost use mathlib.Core.Path.{_≡_};
-ghost use Prim.Native.Nat.{ℕ, _≤_, _<_, _^_};
+ghost use Prim.Native.Nat.{ℕ, _+_, _≤_, _<_, _^_};
 ghost use lib.Bits.{bitXor};
 ghost use lib.ListN.{length};
 ghost use Rattle.slices.specs.Places.{at, tab, over};
-ghost use Rattle.block.specs.Basis.{apply, columns};
+ghost use Rattle.block.specs.Basis.{apply};
 ghost use Rattle.block.specs.Rows.{highest, partner, exchange};
 ghost use Rattle.matrix.specs.Reach.{exchangeRows, shearRows};
+ghost use Rattle.matrix.specs.Images.{Images};
 
 // The matrix with rows s at x: bit j is the parity of (row j AND x).
 pub fn apply_rows(s: &[u32], n: usize, x: u32) -> u32
@@ -23,18 +24,44 @@ pub fn apply_rows(s: &[u32], n: usize, x: u32) -> u32
     r
 }
 
-// The matrix with columns c at z: the XOR of the columns at the one-bits of z.
-pub fn apply_columns(c: &[u32], n: usize, z: u32) -> u32
-    requires { ⌜ (n ≤ length (now c)) × (n ≤ 24) ⌝ }
-    ensures { λ r. ⌜ r ≡ columns (at (now (c .entry))) n z ⌝ }
+// Doubles the values of the matrix with columns c that are there: those at each z below 2^i become those below 2^(i + 1).
+fn double_images(c: &[u32], n: usize, i: usize, images: &mut [u32])
+    requires { ⌜ (i < n) × (n ≤ 24) × (n ≤ length (now c)) × (2 ^ n ≤ length (now images)) ⌝ }
+    requires { ⌜ Images (at (now c)) n (2 ^ i) (now images) ⌝ }
+    ensures { λ _. ⌜ Images (at (now (c .entry))) n (2 ^ (i + 1)) (now (images .exit)) ⌝ }
 {
-    let mut r: u32 = 0;
+    let column = c[i];
+    let size = numbers::size(i);
+    let mut z: usize = 0;
+    while z < size {
+        images[size + z] = images[z] ^ column;
+        z += 1;
+    }
+}
+
+// The matrix with columns c at every z below 2^n: the XOR of the columns at the one-bits of z. Each value is one XOR from another.
+pub fn put_images(c: &[u32], n: usize, images: &mut [u32])
+    requires { ⌜ (n ≤ 24) × (n ≤ length (now c)) × (2 ^ n ≤ length (now images)) ⌝ }
+    ensures { λ _. ⌜ Images (at (now (c .entry))) n (2 ^ n) (now (images .exit)) ⌝ }
+{
+    images[0] = 0;
+    let mut i: usize = 0;
+    while i < n {
+        double_images(c, n, i, images);
+        i += 1;
+    }
+}
+
+// The columns of the matrix with rows s: its values at 1, 2, 4, ..
+pub fn put_columns(s: &[u32], n: usize, c: &mut [u32])
+    requires { ⌜ (n ≤ length (now s)) × (n ≤ 24) × (n ≤ length (now c)) ⌝ }
+    ensures { λ _. ⌜ now (c .exit) ≡ over (tab n (λ j. apply (at (now (s .entry))) n (2 ^ j))) (now (c .entry)) ⌝ }
+{
     let mut j: usize = 0;
     while j < n {
-        r = numbers::xor_where(r, c[j], numbers::bit_of(z, j));
+        c[j] = apply_rows(s, n, numbers::power(j));
         j += 1;
     }
-    r
 }
 
 // The unit numbers 1, 2, 4, .., which are the rows of the matrix that changes nothing.

@@ -1,5 +1,5 @@
 -- Laws of matrices over GF(2) (01, The basis and the matrix): linear maps first, then the steps, the matrix they reach, the
--- candidates that are left, the inverse and the smaller block.
+-- candidates that are left, the inverse, the smaller block, and the values listed.
 pub mod Linear
 pub mod Steps
 pub mod Reached
@@ -7,3 +7,4 @@ pub mod Reach
 pub mod Candidate
 pub mod Inverse
 pub mod Smaller
+pub mod Images

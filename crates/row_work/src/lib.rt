@@ -5,20 +5,45 @@ use choosing::Measures;
 use row_steps::Replay;
 ghost use mathlib.Core.Path.{_≡_};
 ghost use mathlib.Core.Bool.{false};
-ghost use Prim.Native.Nat.{_≤_};
+ghost use Prim.Native.Nat.{_≤_, _<_};
 ghost use lib.ListN.{length};
 ghost use Rattle.slices.specs.Places.{at};
 ghost use Rattle.block.specs.Words.{ofRows, rowsOf};
 ghost use Rattle.pairs.specs.Theorem.{Disjoint};
 ghost use Rattle.listing.specs.Listing.{Listed, rowsFrom};
 ghost use Rattle.matrix.specs.Reached.{Independent};
+ghost use Rattle.choosing.specs.Walk.{walk};
 ghost use Rattle.choosing.specs.Found.{Found};
 ghost use Rattle.row_steps.specs.Held.{Room};
 ghost use Rattle.row_steps.specs.Passed.{Replayed};
 ghost use Rattle.row_work.specs.Work.{ListPut, RowsWorked};
 ghost use Rattle.row_work.specs.Method.{MethodDone};
 
-// T, sigma and both measures of a list of disjoint rows.
+// T, sigma and both measures of a list of disjoint rows, in working room for the walk and for R at its numbers.
+fn find_basis_in(
+    n: usize,
+    w: usize,
+    masks: &[u32],
+    values: &[u32],
+    words: &[u32],
+    candidates: &mut [u32],
+    shifts: &mut [u32],
+    basis: &mut [u32],
+    sigma: &mut [u32],
+) -> Measures
+    requires { ⌜ (n ≤ 16) × (1 ≤ w) × (w ≤ n) × (n ≤ length (now basis)) × (n ≤ length (now sigma)) ⌝ }
+    requires { ⌜ (length (walk n w) ≤ length (now candidates)) × (length (walk n w) < length (now shifts)) ⌝ }
+    requires { ⌜ Listed 128 (now masks) (now values) (now words) ⌝ }
+    requires { ⌜ Disjoint n (rowsOf (now masks) (now values) (now words)) ⌝ }
+    ensures { λ r. ⌜ Found (ofRows (rowsOf (now (masks .entry)) (now (values .entry)) (now (words .entry)))) n w (now (basis .entry)) (now (sigma .entry)) (now (basis .exit)) (now (sigma .exit)) r ⌝ }
+{
+    let count = choosing::put_walk(n, w, candidates);
+    cubes::shifts_of_rows(n, masks, values, words, candidates, count, shifts);
+    choosing::choose_basis(candidates, shifts, count, n, w, basis, sigma)
+}
+
+// T, sigma and both measures of a list of disjoint rows. Room is cleared at each call, which takes longer than the work of a short list if
+// it is room for every number below 2^16; and with a weight limit of 3, the program's, few numbers are in the walk.
 pub fn find_basis(
     n: usize,
     w: usize,
@@ -33,11 +58,34 @@ pub fn find_basis(
     requires { ⌜ Disjoint n (rowsOf (now masks) (now values) (now words)) ⌝ }
     ensures { λ r. ⌜ Found (ofRows (rowsOf (now (masks .entry)) (now (values .entry)) (now (words .entry)))) n w (now (basis .entry)) (now (sigma .entry)) (now (basis .exit)) (now (sigma .exit)) r ⌝ }
 {
-    let mut walk = [0u32; 65536];
+    if w <= 3 {
+        let mut few_candidates = [0u32; 698];
+        let mut few_shifts = [0u32; 698];
+        return find_basis_in(
+            n,
+            w,
+            masks,
+            values,
+            words,
+            &mut few_candidates,
+            &mut few_shifts,
+            basis,
+            sigma,
+        );
+    }
+    let mut candidates = [0u32; 65536];
     let mut shifts = [0u32; 65536];
-    let count = choosing::put_walk(n, w, &mut walk);
-    cubes::shifts_of_rows(n, masks, values, words, &walk, count, &mut shifts);
-    choosing::choose_basis(&walk, &shifts, count, n, w, basis, sigma)
+    find_basis_in(
+        n,
+        w,
+        masks,
+        values,
+        words,
+        &mut candidates,
+        &mut shifts,
+        basis,
+        sigma,
+    )
 }
 
 // The list, laid at the front of three slices of 512 places, and moved through the n steps over the columns of T.

@@ -1,7 +1,7 @@
 -- R of a full table by blocks of 64 points: t is high * 64 + low. The table is held to a copy of itself that is moved by low and marks
 -- the points without an output, so that one comparison says all of a point. Blocks b and b XOR high add the same, so each such pair is
 -- counted once. First the definitions, then the copy, the number of blocks, what a pair adds, and R. Not here: the order in which the
--- values are stored (`Order`). Assumes nothing.
+-- values are stored (`Light`). Assumes nothing.
 use mathlib.Core.Path.{_≡_, refl, sym, ap, _∙_}
 use mathlib.Core.Bool.{Bool, true, false, not, cond, _&&_, and-false}
 use mathlib.Core.List.{List}

@@ -1,4 +1,4 @@
--- R of a table: one point at a time (`Points`), and by blocks of points (`Blocks`) stored in an order of their own (`Order`).
+-- R of a table: one point at a time (`Points`), and by blocks of points (`Blocks`), stored at the numbers of few one-bits (`Light`).
 pub mod Points
 pub mod Blocks
-pub mod Order
+pub mod Light

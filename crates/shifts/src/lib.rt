@@ -1,14 +1,15 @@
-// R of a full table: at one t, point by point, and at every t, by blocks of 64 points. Every function here is inner.
+// R of a full table: at one t, point by point, and at every t of few one-bits, by blocks of 64 points. Every function here is inner.
 ghost use mathlib.Core.Path.{_≡_};
 ghost use Prim.Native.Nat.{ℕ, _+_, _*_, _-_, _≤_, _<_, _^_};
 ghost use lib.Bits.{bitXor};
+ghost use lib.Count.{ones};
+ghost use lib.Dec.{leb};
 ghost use lib.ListN.{length};
 ghost use Rattle.slices.specs.Places.{at, tab, over};
-ghost use Rattle.slices.specs.Placed.{Placed};
 ghost use Rattle.block.specs.Words.{ofTable};
 ghost use Rattle.block.specs.Measure.{shift};
 ghost use Rattle.shifts.specs.Blocks.{marked, matching, pairAdds, FullTable, Copied};
-ghost use Rattle.shifts.specs.Order.{atLow};
+ghost use Rattle.shifts.specs.Light.{LightValues, LowPut};
 
 // R(t) of a full table of 2^n words.
 pub fn shift_at(table: &[u16], n: usize, t: usize) -> u32
@@ -107,25 +108,36 @@ fn shift_by_blocks(table: &[u16], copy: &[u16], n: usize, low: usize, high: usiz
     r
 }
 
-// R(t) for every t with the given low part.
-fn shifts_at_low(table: &[u16], n: usize, low: usize, out: &mut [u32])
+// Whether t has at most w one-bits.
+fn has_few(t: usize, w: usize) -> bool
+    requires { ⌜ t < 4096 ⌝ }
+    ensures { λ r. ⌜ r ≡ leb (ones t) w ⌝ }
+{
+    u32::count_ones(t as u32) as usize <= w
+}
+
+// R(t) for every t of at most w one-bits with the given low part.
+fn shifts_at_low(table: &[u16], n: usize, w: usize, low: usize, out: &mut [u32])
     requires { ⌜ (FullTable (now table) n) × (low < 64) × (2 ^ n ≤ length (now out)) ⌝ }
-    ensures { λ _. ⌜ Placed (atLow low (2 ^ n)) (shift (ofTable (now (table .entry))) n) (now (out .entry)) (now (out .exit)) ⌝ }
+    ensures { λ _. ⌜ LowPut (shift (ofTable (now (table .entry))) n) w low (2 ^ n) (now (out .entry)) (now (out .exit)) ⌝ }
 {
     let mut copy = [0u16; 4096];
     put_copy(table, n, low, &mut copy);
     let end = table.len() / 64;
     let mut high: usize = 0;
     while high < end {
-        out[high * 64 + low] = shift_by_blocks(table, &copy, n, low, high);
+        let t = high * 64 + low;
+        if has_few(t, w) {
+            out[t] = shift_by_blocks(table, &copy, n, low, high);
+        }
         high += 1;
     }
 }
 
-// R(t) for every t, each worked out once. No entry is 65,534, which a table with at most 15 outputs never holds.
-pub fn shifts_of(table: &[u16], n: usize, out: &mut [u32])
+// R(t) for every t of at most w one-bits, each worked out once. No entry is 65,534, which a table with at most 15 outputs never holds.
+pub fn shifts_of(table: &[u16], n: usize, w: usize, out: &mut [u32])
     requires { ⌜ (length (now table) ≡ 2 ^ n) × (n ≤ 12) × (2 ^ n ≤ length (now out)) × ((i : ℕ) → i < 2 ^ n → at (now table) i ≡ 65534 → ⊥) ⌝ }
-    ensures { λ _. ⌜ now (out .exit) ≡ over (tab (2 ^ n) (shift (ofTable (now (table .entry))) n)) (now (out .entry)) ⌝ }
+    ensures { λ _. ⌜ LightValues (shift (ofTable (now (table .entry))) n) (2 ^ n) w (now (out .exit)) ⌝ }
 {
     if n < 6 {
         small_shifts(table, n, out);
@@ -133,7 +145,9 @@ pub fn shifts_of(table: &[u16], n: usize, out: &mut [u32])
     }
     let mut low: usize = 0;
     while low < 64 {
-        shifts_at_low(table, n, low, out);
+        if has_few(low, w) {
+            shifts_at_low(table, n, w, low, out);
+        }
         low += 1;
     }
 }

@@ -1,5 +1,4 @@
--- Lists by place. `Places` has the definitions; `Least`, `Filled` and `Placed` the laws.
+-- Lists by place. `Places` has the definitions; `Least` and `Filled` the laws.
 pub mod Places
 pub mod Least
 pub mod Filled
-pub mod Placed

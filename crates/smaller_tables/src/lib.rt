@@ -9,14 +9,17 @@ ghost use Rattle.block.specs.Basis.{columns};
 ghost use Rattle.block.specs.Tables.{restored};
 ghost use Rattle.smaller_tables.specs.Work.{Worked};
 
-// The smaller table: entry z is the table's entry at T z.
-pub fn put_smaller(table: &[u16], basis: &[u32], n: usize, out: &mut [u16])
-    requires { ⌜ (length (now table) ≡ 2 ^ n) × (n ≤ 12) × (n ≤ length (now basis)) × (2 ^ n ≤ length (now out)) × ((j : ℕ) → j < n → at (now basis) j < 2 ^ n) ⌝ }
-    ensures { λ _. ⌜ now (out .exit) ≡ over (tab (2 ^ n) (λ z. ofTable (now (table .entry)) (columns (at (now (basis .entry))) n z))) (now (out .entry)) ⌝ }
+// The table read through the matrix with these columns: entry z is the table's entry at the matrix's value at z. With T's columns that is
+// the smaller table.
+pub fn put_through(table: &[u16], by_columns: &[u32], n: usize, out: &mut [u16])
+    requires { ⌜ (length (now table) ≡ 2 ^ n) × (n ≤ 12) × (n ≤ length (now «by_columns»)) × (2 ^ n ≤ length (now out)) × ((j : ℕ) → j < n → at (now «by_columns») j < 2 ^ n) ⌝ }
+    ensures { λ _. ⌜ now (out .exit) ≡ over (tab (2 ^ n) (λ z. ofTable (now (table .entry)) (columns (at (now («by_columns» .entry))) n z))) (now (out .entry)) ⌝ }
 {
+    let mut images = [0u32; 4096];
+    matrices::put_images(by_columns, n, &mut images);
     let mut z: usize = 0;
     while z < table.len() {
-        out[z] = table[matrices::apply_columns(basis, n, z as u32) as usize];
+        out[z] = table[images[z] as usize];
         z += 1;
     }
 }
@@ -26,11 +29,9 @@ pub fn put_restored(sigma: &[u32], n: usize, table: &[u16], out: &mut [u16])
     requires { ⌜ (length (now table) ≡ 2 ^ n) × (n ≤ 12) × (n ≤ length (now sigma)) × (2 ^ n ≤ length (now out)) ⌝ }
     ensures { λ _. ⌜ now (out .exit) ≡ over (restored n (now (sigma .entry)) (now (table .entry))) (now (out .entry)) ⌝ }
 {
-    let mut x: usize = 0;
-    while x < table.len() {
-        out[x] = table[matrices::apply_rows(sigma, n, x as u32) as usize];
-        x += 1;
-    }
+    let mut sigma_columns = [0u32; 12];
+    matrices::put_columns(sigma, n, &mut sigma_columns);
+    put_through(table, &sigma_columns, n, out);
 }
 
 // The values at the numbers of a list, by their places there.
@@ -45,8 +46,8 @@ pub fn put_values(by_t: &[u32], walk: &[u32], count: usize, out: &mut [u32])
     }
 }
 
-// Basis, sigma, smaller table and both measures of a table that passed the checks. R is worked out once for every t, and then laid by the
-// places of the walk. No entry is 65,534, which a table with at most 15 outputs never holds.
+// Basis, sigma, smaller table and both measures of a table that passed the checks. R is worked out once for every t of at most w one-bits,
+// and then laid by the places of the walk. No entry is 65,534, which a table with at most 15 outputs never holds.
 pub fn linearize(
     table: &[u16],
     n: usize,
@@ -61,10 +62,10 @@ pub fn linearize(
     let mut by_t = [0u32; 4096];
     let mut walk = [0u32; 4096];
     let mut values = [0u32; 4096];
-    shifts::shifts_of(table, n, &mut by_t);
+    shifts::shifts_of(table, n, w, &mut by_t);
     let count = choosing::put_walk(n, w, &mut walk);
     put_values(&by_t, &walk, count, &mut values);
     let measures = choosing::choose_basis(&walk, &values, count, n, w, basis, sigma);
-    put_smaller(table, basis, n, smaller);
+    put_through(table, basis, n, smaller);
     measures
 }

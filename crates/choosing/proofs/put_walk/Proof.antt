@@ -1,11 +1,13 @@
 -- `choosing::put_walk` meets its contract. The loop's invariant: the walk below t lies at the front, and the rest holds what it held.
 -- The measure is what is left. Assumes nothing.
 use mathlib.Core.Path.{_≡_, sym, _∙_}
+use mathlib.Core.Bool.{true}
 use mathlib.Core.Logic.{⊎-elim}
-use Prim.Native.Nat.{_≤_, _-_, _^_}
+use Prim.Native.Nat.{_≤_, _<_, _-_, _^_}
 use native.Mathlib.Omega.{arith}
+use lib.ListN.{length}
 use lib.Pow.{pow-mono}
-use Rattle.choosing.specs.Walk.{walk, Laid, laid-none, laid-taken, laid-left}
+use Rattle.choosing.specs.Walk.{light, walk, Laid, laid-none, laid-room, laid-taken, laid-left}
 use borrow.Author.Needs.{needs}
 use Rattle.choosing.proofs.put_walk.Statement.{statement}
 use Rattle.choosing.proofs.put_walk.Tie as tie
@@ -15,6 +17,11 @@ Inv-loop n w out₀ size count₀ t₀ out count t = (t ≤ size) × (size ≡ 2
 
 abbrev μ-loop : tie.MeasureT-loop
 μ-loop n w out₀ size count₀ t₀ out count t = size - t
+
+-- a number of the walk has room
+room : (c : tie.Then1 Inv-loop μ-loop) → light (c .before .before .before .before .before .before .args .w) (c .before .before .before .loop .t) ≡ true
+    → c .before .before .before .loop .count < length (walk (c .before .before .before .before .before .before .args .n) (c .before .before .before .before .before .before .args .w))
+room c h = let p = c .before .before .before .loop in laid-room _ _ (p .t) _ _ _ (p .inv .2) h (omega arith)
 
 size-requires : tie.Need-size-requires Inv-loop μ-loop
 size-requires c κs = search needs
@@ -32,10 +39,10 @@ cast-out : tie.Need-cast-out Inv-loop μ-loop
 cast-out c = omega (arith, pow-mono (c .before .before .before .before .before .before .pre .1))
 
 mul-out : tie.Need-mul-out Inv-loop μ-loop
-mul-out c = search needs
+mul-out c = omega (arith, room c (sym (c .before .is-light .ensures) ∙ c .if1 .taken))
 
 slice-write-out : tie.Need-slice-write-out Inv-loop μ-loop
-slice-write-out c = search needs
+slice-write-out c = omega (arith, room c (sym (c .before .is-light .ensures) ∙ c .if1 .taken), c .before .before .before .loop .inv .2 .size)
 
 add-count : tie.Need-add-count Inv-loop μ-loop
 add-count c = search needs
@@ -48,12 +55,14 @@ loop-less c = search needs
 
 loop-again : tie.Need-loop-again Inv-loop μ-loop
 loop-again c =
+    let s = c .before .before .before .before .before .before in
     let p = c .before .before .before .loop in
     let light = sym (c .before .is-light .ensures) in (
       search needs,
       search needs,
       ⊎-elim
-          (λ d. laid-taken _ (p .t) _ _ _ _ _ (p .inv .2) (light ∙ d .0 .taken) (omega arith) (d .1) (d .2))
+          (λ d. laid-taken _ (p .t) _ _ _ _ _ (p .inv .2) (light ∙ d .0 .taken)
+          (omega (arith, laid-room (s .args .n) (s .args .w) (p .t) _ _ _ (p .inv .2) (light ∙ d .0 .taken) (omega arith))) (d .1) (d .2))
           (λ d. laid-left _ (p .t) _ _ _ _ _ (p .inv .2) (light ∙ d .0 .left) (d .1) (d .2))
           (c .if1 .came),
     )

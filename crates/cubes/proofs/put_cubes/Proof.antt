@@ -9,7 +9,7 @@ use denote.Ref.{now}
 use lib.ListN.{length}
 use Rattle.block.specs.Words.{rowsOf}
 use Rattle.pairs.specs.Symmetric.{cubesTo, cubes-none}
-use Rattle.cubes.specs.Stored.{CubesAt, Grown, cubes-at-none, cubeBy, cubes-put, cubes-pass, mask-fixed, cubes-fit, row-done, rows-done, grown-more, grown-same}
+use Rattle.cubes.specs.Stored.{CubesAt, Grown, cubes-at-none, cubeOf, cubes-put, cubes-pass, mask-fixed, cubes-fit, row-done, rows-done, grown-more, grown-same}
 use borrow.Author.Tests.{eqb-true, eqb-false}
 use borrow.Author.Needs.{needs}
 use Rattle.cubes.proofs.put_cubes.Statement.{statement}
@@ -130,7 +130,7 @@ loop2-again c =
       ⊎-elim
           (λ w.
           grown-more _ _ _ _ _ _ _ _ _ _ _ _ _ _ _ (o .inv .3)
-          (cubeBy (a .n) (now (a .masks)) (now (a .values)) (now (a .words)) (l .values-too) (l .words-too) i (o .j))
+          (cubeOf (a .n) (now (a .masks)) (now (a .values)) i (o .j))
           (omega arith) (omega arith) (omega arith)
           (put (omega arith) (eqb-true _ _ (sym (c .before .same-word .ensures) ∙ w .0 .taken)))
           (w .11 ∙ w .4 .ensures .0) (w .12 ∙ w .4 .ensures .1 .0) (w .13 ∙ w .4 .ensures .1 .1) (w .14))

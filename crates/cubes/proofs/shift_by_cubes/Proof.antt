@@ -6,6 +6,8 @@ use Prim.Native.Nat.{_≤_, _-_}
 use native.Mathlib.Omega.{arith}
 use denote.Ref.{now}
 use Rattle.sums.specs.Laws.{sum-zero}
+use Rattle.slices.specs.Places.{at}
+use Rattle.pairs.specs.Symmetric.{cube}
 use Rattle.cubes.specs.Stored.{addedBy, hit-taken, hit-left, added-more, added-step}
 use borrow.Author.Needs.{needs}
 use Rattle.cubes.proofs.shift_by_cubes.Statement.{statement}
@@ -47,7 +49,7 @@ add-sum c =
     let v = now (s .args .cube-values) in
     let w = now (s .args .cube-weights) in
     let t = s .args .t in
-    omega (arith, added-step m v w (s .args .count) t q (omega arith), hit-taken m v w t q (c .before .if1 .taken))
+    omega (arith, added-step m v w (s .args .count) t q (omega arith), hit-taken t (cube (at m q) (at v q) (at w q)) (c .before .if1 .taken))
 
 add-q : tie.Need-add-q Inv-loop μ-loop
 add-q c = search needs
@@ -65,8 +67,8 @@ loop-again c =
     let w = now (s .args .cube-weights) in (
       search needs,
       ⊎-elim
-          (λ a. added-more m v w t q (c .if1 .sum) (omega (arith, hit-taken m v w t q (a .0 .taken), a .2)))
-          (λ a. added-more m v w t q (c .if1 .sum) (omega (arith, hit-left m v w t q (a .0 .left), a .1)))
+          (λ a. added-more m v w t q (c .if1 .sum) (omega (arith, hit-taken t (cube (at m q) (at v q) (at w q)) (a .0 .taken), a .2)))
+          (λ a. added-more m v w t q (c .if1 .sum) (omega (arith, hit-left t (cube (at m q) (at v q) (at w q)) (a .0 .left), a .1)))
           (c .if1 .came),
     )
 

@@ -1,66 +1,147 @@
--- `cubes::shift_of_rows` meets its contract: the cubes of disjoint rows add up to R. Assumes nothing.
-use mathlib.Core.Path.{_∙_}
+-- `cubes::shift_of_rows` meets its contract. The invariant of both loops: the sum is what the cubes of the pairs before i, j add. The
+-- measures are the numbers of rows left. Assumes nothing.
+use mathlib.Core.Path.{sym, ap, _∙_}
+use mathlib.Core.Logic.{⊎-elim}
+use Prim.Native.Nat.{_≤_, _<_, _-_}
 use native.Mathlib.Omega.{arith}
 use denote.Ref.{now}
 use Rattle.block.specs.Words.{rowsOf}
-use Rattle.cubes.specs.Stored.{cubes-shift, cubes-small, cubes-few}
+use Rattle.pairs.specs.Symmetric.{added, cubesTo, cubes-none, shift-cubes}
+use Rattle.cubes.specs.Stored.{cubeOf, cubes-put, cubes-pass, mask-fixed, cubes-fit, row-done, rows-done}
+use Rattle.cubes.specs.Summed.{Summed, summed-none, summed-more, summed-same}
+use borrow.Author.Tests.{eqb-true, eqb-false}
 use borrow.Author.Needs.{needs}
 use Rattle.cubes.proofs.shift_of_rows.Statement.{statement}
 use Rattle.cubes.proofs.shift_of_rows.Tie as tie
 
-slice-aggregate-put-cubes : tie.Need-slice-aggregate-put-cubes
-slice-aggregate-put-cubes c = search needs
+abbrev Inv-loop2 : tie.InvT-loop2
+Inv-loop2 n masks values words t p sum₀ i j₀ sum j = (i < p) × (i ≤ j) × (j ≤ p) × Summed t (cubesTo n (rowsOf masks values words) i j) sum
 
-slice-aggregate-put-cubes-2 : tie.Need-slice-aggregate-put-cubes-2
-slice-aggregate-put-cubes-2 c = search needs
+abbrev μ-loop2 : tie.MeasureT-loop2
+μ-loop2 n masks values words t p sum₀ i j₀ sum j = p - j
 
-slice-aggregate-put-cubes-3 : tie.Need-slice-aggregate-put-cubes-3
-slice-aggregate-put-cubes-3 c = search needs
+abbrev Inv-loop : tie.InvT-loop
+Inv-loop n masks values words t p sum₀ i₀ sum i = (i ≤ p) × Summed t (cubesTo n (rowsOf masks values words) i i) sum
 
-put-cubes-requires : tie.Need-put-cubes-requires
-put-cubes-requires c κs =
-    let s = c .before .before .before .before .before .before in
-    ((s .pre .0 .0, s .pre .0 .2), (s .pre .1 .sound, (omega arith, omega arith, omega arith)))
+abbrev μ-loop : tie.MeasureT-loop
+μ-loop n masks values words t p sum₀ i₀ sum i = p - i
 
-slice-aggregate-shift-by-cubes : tie.Need-slice-aggregate-shift-by-cubes
-slice-aggregate-shift-by-cubes c = search needs
+loop-holds : tie.Need-loop-holds Inv-loop2 μ-loop2 Inv-loop μ-loop
+loop-holds c = (search needs, rw (cubes-none _ _) (summed-none _))
 
-slice-aggregate-shift-by-cubes-2 : tie.Need-slice-aggregate-shift-by-cubes-2
-slice-aggregate-shift-by-cubes-2 c = search needs
+loop2-holds : tie.Need-loop2-holds Inv-loop2 μ-loop2 Inv-loop μ-loop
+loop2-holds c = (search needs, search needs, search needs, c .before .loop .inv .1)
 
-slice-aggregate-shift-by-cubes-3 : tie.Need-slice-aggregate-shift-by-cubes-3
-slice-aggregate-shift-by-cubes-3 c = search needs
+mul-same-word : tie.Need-mul-same-word Inv-loop2 μ-loop2 Inv-loop μ-loop
+mul-same-word c = search needs
 
-shift-by-cubes-requires : tie.Need-shift-by-cubes-requires
-shift-by-cubes-requires c κs =
-    let s = c .before .before .before .before .before .before .before .before .before .before .before .before .before in
+shared-slice-read-same-word :
+    tie.Need-shared-slice-read-same-word Inv-loop2 μ-loop2 Inv-loop μ-loop
+shared-slice-read-same-word c = search needs
+
+mul-same-word-2 : tie.Need-mul-same-word-2 Inv-loop2 μ-loop2 Inv-loop μ-loop
+mul-same-word-2 c = search needs
+
+shared-slice-read-same-word-2 :
+    tie.Need-shared-slice-read-same-word-2 Inv-loop2 μ-loop2 Inv-loop μ-loop
+shared-slice-read-same-word-2 c = search needs
+
+same-word-requires : tie.Need-same-word-requires Inv-loop2 μ-loop2 Inv-loop μ-loop
+same-word-requires c κs = search needs
+
+pair-adds-requires : tie.Need-pair-adds-requires Inv-loop2 μ-loop2 Inv-loop μ-loop
+pair-adds-requires c κs =
+    let s = c .before .before .before .before .before .before .before .before .before .before .before in
     let a = s .args in
-    let p = c .before .before .before .before .before .before .put-cubes in
-    let k = p .kept .1 .1 .1 .1 in
-    let few = cubes-few (a .n) (now (a .masks)) (now (a .values)) (now (a .words)) _ _ _ _ _ _ _ (s .pre .0 .2) (p .ensures) in (
-      (omega (arith, k .0), omega (arith, k .1 .0), omega (arith, k .1 .1 .0)),
-      cubes-small (a .n) (rowsOf (now (a .masks)) (now (a .values)) (now (a .words))) (s .pre .1) _ _ _ _ _ _ _ (p .ensures)
-          (a .t) (s .pre .0 .1) (s .pre .0 .0),
+    let l = s .pre .0 .2 in
+    let below = mask-fixed (a .n) (now (a .masks)) (now (a .values)) (now (a .words)) (l .values-too) (l .words-too) (s .pre .1 .sound) in
+    ((search needs, search needs, search needs, l .values-too), (below _ (omega arith), below _ (omega arith)))
+
+add-sum : tie.Need-add-sum Inv-loop2 μ-loop2 Inv-loop μ-loop
+add-sum c =
+    let s = c .before .before .before .before .before .before .before .before .before .before .before .before in
+    let a = s .args in
+    let l = s .pre .0 .2 in
+    omega (
+      arith,
+      c .pair-adds .ensures .1,
+      c .before .before .before .before .before .before .loop2 .inv .3 .small,
+      cubes-fit (a .n) (now (a .masks)) (now (a .values)) (now (a .words)) (l .values-too) (l .words-too) (c .before .before .before .before .before .before .before .before .loop .i) (c .before .before .before .before .before .before .loop2 .j) (omega arith) (omega arith) (l .few),
     )
 
-returns : tie.Need-returns
-returns c =
-    let s = c .before .before .before .before .before .before .before .before .before .before .before .before .before .before in
+add-j : tie.Need-add-j Inv-loop2 μ-loop2 Inv-loop μ-loop
+add-j c = search needs
+
+loop2-less : tie.Need-loop2-less Inv-loop2 μ-loop2 Inv-loop μ-loop
+loop2-less c = search needs
+
+loop2-again : tie.Need-loop2-again Inv-loop2 μ-loop2 Inv-loop μ-loop
+loop2-again c =
+    let s = c .before .before .before .before .before .before .before .before .before .before .before in
     let a = s .args in
-    c .shift-by-cubes .ensures
-    ∙ cubes-shift (a .n) (rowsOf (now (a .masks)) (now (a .values)) (now (a .words))) (s .pre .1) _ _ _ _ _ _ _
-    (c .before .before .before .before .before .before .before .put-cubes .ensures) (a .t) (s .pre .0 .1)
+    let l = s .pre .0 .2 in
+    let i = c .before .before .before .before .before .before .before .loop .i in
+    let o = c .before .before .before .before .before .loop2 in
+    let put = cubes-put (a .n) (now (a .masks)) (now (a .values)) (now (a .words)) (l .values-too) (l .words-too) i (o .j) (omega arith) (omega arith) in
+    let pass = cubes-pass (a .n) (now (a .masks)) (now (a .values)) (now (a .words)) (l .values-too) (l .words-too) i (o .j) (omega arith) (omega arith) in (
+      search needs,
+      search needs,
+      search needs,
+      ⊎-elim
+          (λ w.
+          summed-more _ _ _ _ _ (o .inv .3) (cubeOf (a .n) (now (a .masks)) (now (a .values)) i (o .j)) _
+          (put (omega arith) (eqb-true _ _ (sym (c .before .same-word .ensures) ∙ w .0 .taken)))
+          (w .1 .ensures .0) (w .1 .ensures .1) (w .2))
+          (λ w.
+          summed-same _ _ _ _ _ (o .inv .3) (pass (eqb-false _ _ (sym (c .before .same-word .ensures) ∙ w .0 .left))) (w .1))
+          (c .if1 .came),
+    )
+
+add-i : tie.Need-add-i Inv-loop2 μ-loop2 Inv-loop μ-loop
+add-i c = search needs
+
+loop-less : tie.Need-loop-less Inv-loop2 μ-loop2 Inv-loop μ-loop
+loop-less c = search needs
+
+loop-again : tie.Need-loop-again Inv-loop2 μ-loop2 Inv-loop μ-loop
+loop-again c =
+    let s = c .before .before .before .before .before .before .before in
+    let a = s .args in
+    let l = s .pre .0 .2 in
+    let d = row-done (a .n) (now (a .masks)) (now (a .values)) (now (a .words)) (l .values-too) (l .words-too) (c .before .before .before .loop .i) (c .before .loop2 .j) (omega arith) in
+    (search needs, rw d (c .before .loop2 .inv .3))
+
+returns : tie.Need-returns Inv-loop2 μ-loop2 Inv-loop μ-loop
+returns c =
+    let s = c .before .before .before .before .before in
+    let a = s .args in
+    let l = s .pre .0 .2 in
+    let d = rows-done (a .n) (now (a .masks)) (now (a .values)) (now (a .words)) (l .values-too) (l .words-too) (c .before .loop .i) (omega arith) in
+    c .before .loop .inv .1 .adds
+    ∙ ap (added (a .t)) (sym d)
+    ∙ sym (shift-cubes (a .n) (rowsOf (now (a .masks)) (now (a .values)) (now (a .words))) (a .t) (s .pre .1) (s .pre .0 .1))
 
 pub shift-of-rows-spec : {M : Type 1} → statement M
 shift-of-rows-spec =
     tie.close
     (tie.spec
-    slice-aggregate-put-cubes
-    slice-aggregate-put-cubes-2
-    slice-aggregate-put-cubes-3
-    put-cubes-requires
-    slice-aggregate-shift-by-cubes
-    slice-aggregate-shift-by-cubes-2
-    slice-aggregate-shift-by-cubes-3
-    shift-by-cubes-requires
+    Inv-loop2
+    μ-loop2
+    Inv-loop
+    μ-loop
+    loop-holds
+    loop2-holds
+    mul-same-word
+    shared-slice-read-same-word
+    mul-same-word-2
+    shared-slice-read-same-word-2
+    same-word-requires
+    pair-adds-requires
+    add-sum
+    add-j
+    loop2-less
+    loop2-again
+    add-i
+    loop-less
+    loop-again
     returns)

@@ -1,69 +1,92 @@
--- `filling::fill_rows` meets its contract. The loop's invariant: the first x entries hold their words, and the rest what they
--- held. The measure is what is left. Assumes nothing.
-use mathlib.Core.Path.{_≡_}
+-- `filling::fill_rows` meets its contract. The loop's invariant: the rows from i on are put, on a table that was cleared. The measure is
+-- the number of rows left. Assumes nothing.
+use mathlib.Core.Path.{_≡_, sym}
 use Prim.Native.Nat.{_≤_, _-_, _^_}
 use native.Mathlib.Omega.{arith}
 use denote.Ref.{now}
 use lib.ListN.{length}
-use lib.Pow.{pow-mono}
-use Rattle.slices.specs.Places.{tab, over}
-use Rattle.slices.specs.Filled.{over-none, over-more}
-use Rattle.block.specs.Words.{ofRows, rowsOf}
-use Rattle.block.specs.Lists.{filled}
+use Rattle.block.specs.Words.{rowsOf}
+use Rattle.filling.specs.Points.{TableFrom, table-none, table-all, sound-row, table-row}
+use Rattle.listing.specs.Listing.{rows-count}
 use borrow.Author.Needs.{needs}
 use Rattle.filling.proofs.fill_rows.Statement.{statement}
 use Rattle.filling.proofs.fill_rows.Tie as tie
 
 abbrev Inv-loop : tie.InvT-loop
-Inv-loop n masks values words out₀ size x₀ out x =
-    (x ≤ size) × (size ≡ 2 ^ n) × (length out ≡ length out₀) × (out ≡ over (tab x (ofRows (rowsOf masks values words))) out₀)
+Inv-loop n masks values words out₀ i₀ out i =
+    (i ≤ length masks) × (2 ^ n ≤ length out₀) × (length out ≡ length out₀) × TableFrom n (rowsOf masks values words) i out₀ out
 
 abbrev μ-loop : tie.MeasureT-loop
-μ-loop n masks values words out₀ size x₀ out x = size - x
+μ-loop n masks values words out₀ i₀ out i = i
 
 size-requires : tie.Need-size-requires Inv-loop μ-loop
 size-requires c κs = search needs
 
+clear-requires : tie.Need-clear-requires Inv-loop μ-loop
+clear-requires c κs = search needs
+
 loop-holds : tie.Need-loop-holds Inv-loop μ-loop
-loop-holds c = (search needs, c .size .ensures, search needs, over-none _ _)
+loop-holds c =
+    let s = c .before .before .before .before .before .before .before .before .before in
+    let l = s .pre .0 .2 in (
+      search needs,
+      search needs,
+      search needs,
+      table-none _ _ _ (length (now (s .args .masks))) _ _ (c .before .before .before .before .size .ensures) (sym (rows-count (now (s .args .masks)) (now (s .args .values)) (now (s .args .words)) (l .values-too) (l .words-too)))
+          (c .before .before .clear .ensures),
+    )
 
-cast-word-over : tie.Need-cast-word-over Inv-loop μ-loop
-cast-word-over c =
-    let small = pow-mono (c .before .before .before .before .before .before .before .pre .0 .0) in
-    omega arith
+sub-i : tie.Need-sub-i Inv-loop μ-loop
+sub-i c = search needs
 
-word-over-requires : tie.Need-word-over-requires Inv-loop μ-loop
-word-over-requires c κs =
-    let s = c .before .before .before .before .before .before .before in
-    (s .pre .0 .2, s .pre .1)
+mul-put-row : tie.Need-mul-put-row Inv-loop μ-loop
+mul-put-row c = search needs
 
-mul-out : tie.Need-mul-out Inv-loop μ-loop
-mul-out c = search needs
+shared-slice-read-put-row : tie.Need-shared-slice-read-put-row Inv-loop μ-loop
+shared-slice-read-put-row c = search needs
 
-slice-write-out : tie.Need-slice-write-out Inv-loop μ-loop
-slice-write-out c = search needs
+mul-put-row-2 : tie.Need-mul-put-row-2 Inv-loop μ-loop
+mul-put-row-2 c = search needs
 
-add-x : tie.Need-add-x Inv-loop μ-loop
-add-x c = search needs
+shared-slice-read-put-row-2 : tie.Need-shared-slice-read-put-row-2 Inv-loop μ-loop
+shared-slice-read-put-row-2 c = search needs
+
+mul-put-row-3 : tie.Need-mul-put-row-3 Inv-loop μ-loop
+mul-put-row-3 c = search needs
+
+shared-slice-read-put-row-3 : tie.Need-shared-slice-read-put-row-3 Inv-loop μ-loop
+shared-slice-read-put-row-3 c = search needs
+
+cast-put-row : tie.Need-cast-put-row Inv-loop μ-loop
+cast-put-row c =
+    let s = c .before .before .before .before .before .before .before .before .before .before .before .before .before .before in
+    omega (arith, s .pre .1 .1 (c .before .before .before .before .loop .i - 1) (omega arith))
+
+put-row-requires : tie.Need-put-row-requires Inv-loop μ-loop
+put-row-requires c κs =
+    let s = c .before .before .before .before .before .before .before .before .before .before .before .before .before .before .before in
+    (search needs, search needs, sound-row (s .args .n) 512 (now (s .args .masks)) (now (s .args .values)) (now (s .args .words)) (s .pre .0 .2) _ (omega arith) (s .pre .1 .0))
 
 loop-less : tie.Need-loop-less Inv-loop μ-loop
 loop-less c = search needs
 
 loop-again : tie.Need-loop-again Inv-loop μ-loop
 loop-again c =
-    let a = c .before .before .before .before .before .before .before .before .args in
-    let f = ofRows (rowsOf (now (a .masks)) (now (a .values)) (now (a .words))) in
-    let i = c .before .before .loop .inv .3 in
-    (search needs, search needs, search needs, over-more _ f _ _ _ i (c .word-over .ensures) (omega arith))
+    let s = c .before .before .before .before .before .before .before .before .before .before .before .before .before .before .before .before .before .before in
+    let i = c .before .before .before .before .before .before .before .before .loop .inv in (
+      search needs,
+      search needs,
+      search needs,
+      table-row (s .args .n) 512 (now (s .args .masks)) (now (s .args .values)) (now (s .args .words)) (s .pre .0 .2) (c .before .before .before .before .before .before .before .before .loop .i - 1) (omega arith)
+          (c .before .before .before .before .before .before .before .before .loop .i) _ _ _ (omega arith) (i .1) (i .3) (c .before .before .put-row .ensures),
+    )
 
 same-length : tie.Need-same-length Inv-loop μ-loop
 same-length c = search needs
 
 returns : tie.Need-returns Inv-loop μ-loop
-unfolding filled
 returns c =
-    let end : c .before .loop .x ≡ 2 ^ (c .before .before .before .before .before .before .before .args .n) = omega arith in
-    rw end at (c .before .loop .inv .3)
+    table-all _ _ _ (c .before .loop .i) _ _ _ (c .before .before .before .before .before .before .size .ensures) (omega arith) (c .before .before .before .before .clear .ensures) (c .before .loop .inv .3)
 
 pub fill-rows-spec : {M : Type 1} → statement M
 fill-rows-spec =
@@ -72,12 +95,17 @@ fill-rows-spec =
     Inv-loop
     μ-loop
     size-requires
+    clear-requires
     loop-holds
-    cast-word-over
-    word-over-requires
-    mul-out
-    slice-write-out
-    add-x
+    sub-i
+    mul-put-row
+    shared-slice-read-put-row
+    mul-put-row-2
+    shared-slice-read-put-row-2
+    mul-put-row-3
+    shared-slice-read-put-row-3
+    cast-put-row
+    put-row-requires
     loop-less
     loop-again
     same-length

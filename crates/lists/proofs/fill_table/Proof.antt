@@ -1,5 +1,5 @@
--- `lists::fill_table` meets its contract. A refusal leaves the table alone; on 0 every check passed, so that the table has room
--- and each word fits an entry. Assumes nothing.
+-- `lists::fill_table` meets its contract. A refusal leaves the table alone; on 0 every check passed, so that the table has room,
+-- each row is well formed and each word fits an entry. Assumes nothing.
 use borrow.Author.Tests.{eq-eqb, ne-eqb}
 use denote.Ref.{now}
 use lib.ListN.{length}
@@ -22,7 +22,7 @@ fill-rows-requires c κs =
     let w = fill-checked (a .n) (a .k) (now (a .masks)) (now (a .values)) (now (a .words)) (length (now (a .table))) _
     (c .before .before .before .fill-verdict .ensures) (c .before .if1 .left) in (
       (w .0 .size .1, w .1, w .0 .listed),
-      checked-words 12 512 (a .n) (a .k) (now (a .masks)) (now (a .values)) (now (a .words)) (w .0),
+      (w .0 .disjoint .sound, checked-words 12 512 (a .n) (a .k) (now (a .masks)) (now (a .values)) (now (a .words)) (w .0)),
     )
 
 same-length : tie.Need-same-length

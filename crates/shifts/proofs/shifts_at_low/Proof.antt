@@ -1,25 +1,25 @@
--- `shifts::shifts_at_low` meets its contract. The loop's invariant: the places of this low part before high hold R, and the others what
--- they held. The measure is what is left. Assumes nothing.
-use mathlib.Core.Path.{_≡_}
+-- `shifts::shifts_at_low` meets its contract. The loop's invariant: the places of this low part before high hold R, where they have at
+-- most w one-bits, and those of other low parts what they held. The measure is what is left. Assumes nothing.
+use mathlib.Core.Path.{_≡_, sym, _∙_}
+use mathlib.Core.Logic.{⊎-elim}
 use Prim.Native.Nat.{_≤_, _<_, _-_, _+_, _*_, _/_, _^_}
 use native.Mathlib.Omega.{arith}
 use lib.ListN.{length, replicate}
 use lib.Pow.{pow-mono}
 use denote.Ref.{now}
-use Rattle.slices.specs.Placed.{Placed, placed-none, placed-more}
 use Rattle.block.specs.Words.{ofTable}
 use Rattle.block.specs.Measure.{shift}
 use Rattle.shifts.specs.Blocks.{number-of-blocks, point-lt, whole, copy-made}
-use Rattle.shifts.specs.Order.{atLow, at-low-none, at-low-more}
+use Rattle.shifts.specs.Light.{LowPut, low-none, low-more, low-skip}
 use borrow.Author.Needs.{needs}
 use Rattle.shifts.proofs.shifts_at_low.Statement.{statement}
 use Rattle.shifts.proofs.shifts_at_low.Tie as tie
 
 abbrev Inv-loop : tie.InvT-loop
-Inv-loop table n low out₀ copy end high₀ out high = (high ≤ 2 ^ (n - 6)) × Placed (atLow low (high * 64)) (shift (ofTable table) n) out₀ out
+Inv-loop table n w low out₀ copy end high₀ out high = (high ≤ 2 ^ (n - 6)) × LowPut (shift (ofTable table) n) w low (high * 64) out₀ out
 
 abbrev μ-loop : tie.MeasureT-loop
-μ-loop table n low out₀ copy end high₀ out high = end - high
+μ-loop table n w low out₀ copy end high₀ out high = end - high
 
 number : (c : tie.At-loop Inv-loop μ-loop)
     → length (now (c .before .before .before .before .before .before .args .table)) / 64 ≡ 2 ^ (c .before .before .before .before .before .before .args .n - 6)
@@ -43,29 +43,32 @@ put-copy-requires c κs =
     (h .0 .entries, omega (arith, pow-mono (h .0 .least)), pow-mono (h .0 .most))
 
 loop-holds : tie.Need-loop-holds Inv-loop μ-loop
-loop-holds c = (search needs, placed-none _ _ _ (at-low-none _))
+loop-holds c = (search needs, low-none _ _ _ _)
+
+mul-t : tie.Need-mul-t Inv-loop μ-loop
+mul-t c = omega (arith, within c)
+
+add-t : tie.Need-add-t Inv-loop μ-loop
+add-t c = omega (arith, within c)
+
+has-few-requires : tie.Need-has-few-requires Inv-loop μ-loop
+has-few-requires c κs = omega (arith, within c, pow-mono (c .before .before .before .before .before .before .before .pre .0 .most))
 
 slice-aggregate-shift-by-blocks : tie.Need-slice-aggregate-shift-by-blocks Inv-loop μ-loop
 slice-aggregate-shift-by-blocks c = search needs
 
 shift-by-blocks-requires : tie.Need-shift-by-blocks-requires Inv-loop μ-loop
 shift-by-blocks-requires c κs =
-    let s = c .before .before .before .before .before .before .before .before in (
-      copy-made _ _ (replicate 4096 0) _ _ (s .pre .0) (s .pre .1) (pow-mono (s .pre .0 .most)) (c .before .before .before .before .put-copy .ensures),
-      omega (arith, number (c .before .before)),
+    let s = c .before .before .before .before .before .before .before .before .before .before in (
+      copy-made _ _ (replicate 4096 0) _ _ (s .pre .0) (s .pre .1) (pow-mono (s .pre .0 .most)) (c .before .before .before .before .before .before .put-copy .ensures),
+      omega (arith, number (c .before .before .before .before)),
     )
 
 mul-out : tie.Need-mul-out Inv-loop μ-loop
-mul-out c = omega (arith, within (c .before .before))
-
-add-out : tie.Need-add-out Inv-loop μ-loop
-add-out c = omega (arith, within (c .before .before))
-
-mul-out-2 : tie.Need-mul-out-2 Inv-loop μ-loop
-mul-out-2 c = omega (arith, within (c .before .before))
+mul-out c = omega (arith, within (c .before .before .before .before))
 
 slice-write-out : tie.Need-slice-write-out Inv-loop μ-loop
-slice-write-out c = omega (arith, within (c .before .before))
+slice-write-out c = omega (arith, within (c .before .before .before .before), c .before .before .before .before .before .loop .inv .1 .size)
 
 add-high : tie.Need-add-high Inv-loop μ-loop
 add-high c = search needs
@@ -75,14 +78,19 @@ loop-less c = search needs
 
 loop-again : tie.Need-loop-again Inv-loop μ-loop
 loop-again c =
-    let s = c .before .before .before .before .before .before .before .before .before in (
+    let s = c .before .before .before .before .before .before .before .before .before in
+    let o = c .before .before .before .loop in (
       omega (arith, number (c .before .before .before)),
-      placed-more (atLow (s .args .low) (c .before .before .before .loop .high * 64)) _ _ _ _ _ _ (c .before .before .before .loop .inv .1) (c .shift-by-blocks .ensures) (omega (arith, within (c .before .before)))
-          (λ i. at-low-more (s .args .low) (c .before .before .before .loop .high) i (s .pre .1)),
+      ⊎-elim
+          (λ a.
+          low-more _ (s .args .w) (s .args .low) (o .high) _ _ _ (s .pre .1) (o .inv .1) _ (omega (arith, within (c .before .before)))
+          (a .2 .ensures) (a .3))
+          (λ a. low-skip _ (s .args .w) (s .args .low) (o .high) _ _ _ (s .pre .1) (o .inv .1) (sym (c .before .has-few .ensures) ∙ a .0 .left) (a .1))
+          (c .if1 .came),
     )
 
 same-length : tie.Need-same-length Inv-loop μ-loop
-same-length c = search needs
+same-length c = c .before .loop .inv .1 .size
 
 returns : tie.Need-returns Inv-loop μ-loop
 returns c =
@@ -100,11 +108,12 @@ shifts-at-low-spec =
     slice-aggregate-put-copy
     put-copy-requires
     loop-holds
+    mul-t
+    add-t
+    has-few-requires
     slice-aggregate-shift-by-blocks
     shift-by-blocks-requires
     mul-out
-    add-out
-    mul-out-2
     slice-write-out
     add-high
     loop-less

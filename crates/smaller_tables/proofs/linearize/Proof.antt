@@ -1,11 +1,11 @@
--- `smaller_tables::linearize` meets its contract: R of every t, laid by the places of the walk, the choice by it, and the smaller table
--- are the work. Assumes nothing.
+-- `smaller_tables::linearize` meets its contract: R at the numbers of few one-bits, laid by the places of the walk, the choice by it,
+-- and the smaller table are the work. Assumes nothing.
 use native.Mathlib.Omega.{arith}
 use lib.ListN.{replicate}
 use lib.Pow.{pow-mono}
 use denote.Ref.{now}
 use Rattle.block.specs.Words.{ofTable}
-use Rattle.choosing.specs.Walk.{walked, walked-lt}
+use Rattle.choosing.specs.Walk.{walked, walked-lt, walk-below}
 use Rattle.smaller_tables.specs.Work.{laid-agree, column-lt, worked}
 use borrow.Author.Needs.{needs}
 use Rattle.smaller_tables.proofs.linearize.Statement.{statement}
@@ -25,7 +25,7 @@ slice-aggregate-put-walk c = search needs
 put-walk-requires : tie.Need-put-walk-requires
 put-walk-requires c κs =
     let s = c .before .before .before .before .before .before .before .before in
-    (pow-mono (s .pre .1), omega arith, s .pre .3)
+    (omega (arith, walk-below (s .args .n) (s .args .w), pow-mono (s .pre .1)), omega arith, s .pre .3)
 
 slice-aggregate-put-values : tie.Need-slice-aggregate-put-values
 slice-aggregate-put-values c = search needs
@@ -41,7 +41,7 @@ put-values-requires c κs =
     let s = c .before .before .before .before .before .before .before .before .before .before .before .before .before in
     let a = s .args in
     let e = c .before .before .before .before .put-walk .kept .1 .1 .0 in
-    let d = c .before .before .before .before .before .before .before .shifts-of .kept .1 .1 .0 in
+    let d = c .before .before .before .before .before .before .before .shifts-of .kept .1 .1 .1 .0 in
     let h = walked (a .n) (a .w) (replicate 4096 0) _ _ (c .before .before .before .before .put-walk .ensures .0) (c .before .before .before .before .put-walk .ensures .1) in
     let small = pow-mono (s .pre .1) in
     (omega (arith, e, h .short, small), omega (arith, h .short, small), λ i b. omega (arith, walked-lt _ _ _ _ h i b, d, small))
@@ -58,13 +58,15 @@ choose-basis-requires c κs =
     let a = s .args in
     let e = c .before .before .before .before .before .before .before .before .before .before .put-walk .kept .1 .1 .0 in
     let d = c .before .before .before .before .before .put-values .kept .1 .1 .1 .0 in
+    let count = c .before .before .before .before .before .before .before .before .before .before .put-walk .ensures .1 in
+    let below = walk-below (a .n) (a .w) in
     let small = pow-mono (s .pre .1) in (
-      (omega (arith, e, small), omega (arith, d, small), search needs, search needs, search needs, s .pre .2),
+      (omega (arith, e, count, below, small), omega (arith, d, count, below, small), search needs, search needs, search needs, s .pre .2),
       walked (a .n) (a .w) (replicate 4096 0) _ _ (c .before .before .before .before .before .before .before .before .before .before .put-walk .ensures .0) (c .before .before .before .before .before .before .before .before .before .before .put-walk .ensures .1),
     )
 
-put-smaller-requires : tie.Need-put-smaller-requires
-put-smaller-requires c κs =
+put-through-requires : tie.Need-put-through-requires
+put-through-requires c κs =
     let s = c .before .before .before .before .before .before .before .before .before .before .before .before .before .before .before .before .before .before .before .before .before .before .before .before .before .before in
     let a = s .args in (
       s .pre .0,
@@ -72,7 +74,7 @@ put-smaller-requires c κs =
       search needs,
       search needs,
       column-lt (ofTable (now (a .table))) (a .n) (a .w) (s .pre .2) _
-          (laid-agree (ofTable (now (a .table))) (a .n) (a .w) _ _ _ _ _ _ (c .before .before .before .before .before .before .before .before .before .before .before .before .before .before .before .before .before .before .before .before .shifts-of .ensures) (walked (a .n) (a .w) (replicate 4096 0) _ _ (c .before .before .before .before .before .before .before .before .before .before .before .before .before .before .before .before .before .put-walk .ensures .0) (c .before .before .before .before .before .before .before .before .before .before .before .before .before .before .before .before .before .put-walk .ensures .1)) (c .before .before .before .before .before .before .before .before .before .before .before .before .put-values .ensures))
+          (laid-agree (ofTable (now (a .table))) (a .n) (a .w) _ _ _ _ _ (c .before .before .before .before .before .before .before .before .before .before .before .before .before .before .before .before .before .before .before .before .shifts-of .ensures) (walked (a .n) (a .w) (replicate 4096 0) _ _ (c .before .before .before .before .before .before .before .before .before .before .before .before .before .before .before .before .before .put-walk .ensures .0) (c .before .before .before .before .before .before .before .before .before .before .before .before .before .before .before .before .before .put-walk .ensures .1)) (c .before .before .before .before .before .before .before .before .before .before .before .before .put-values .ensures))
           _ _ (c .before .before .before .before .before .before .choose-basis .ensures .basis),
     )
 
@@ -90,8 +92,8 @@ returns c =
     let s = c .before .before .before .before .before .before .before .before .before .before .before .before .before .before .before .before .before .before .before .before .before .before .before .before .before .before .before .before .before in
     let a = s .args in
     worked (ofTable (now (a .table))) (a .n) (a .w) (s .pre .2) _
-    (laid-agree (ofTable (now (a .table))) (a .n) (a .w) _ _ _ _ _ _ (c .before .before .before .before .before .before .before .before .before .before .before .before .before .before .before .before .before .before .before .before .before .before .before .shifts-of .ensures) (walked (a .n) (a .w) (replicate 4096 0) _ _ (c .before .before .before .before .before .before .before .before .before .before .before .before .before .before .before .before .before .before .before .before .put-walk .ensures .0) (c .before .before .before .before .before .before .before .before .before .before .before .before .before .before .before .before .before .before .before .before .put-walk .ensures .1)) (c .before .before .before .before .before .before .before .before .before .before .before .before .before .before .before .put-values .ensures))
-    _ _ _ _ _ _ _ (c .before .before .before .before .before .before .before .before .before .choose-basis .ensures) (c .before .before .put-smaller .ensures)
+    (laid-agree (ofTable (now (a .table))) (a .n) (a .w) _ _ _ _ _ (c .before .before .before .before .before .before .before .before .before .before .before .before .before .before .before .before .before .before .before .before .before .before .before .shifts-of .ensures) (walked (a .n) (a .w) (replicate 4096 0) _ _ (c .before .before .before .before .before .before .before .before .before .before .before .before .before .before .before .before .before .before .before .before .put-walk .ensures .0) (c .before .before .before .before .before .before .before .before .before .before .before .before .before .before .before .before .before .before .before .before .put-walk .ensures .1)) (c .before .before .before .before .before .before .before .before .before .before .before .before .before .before .before .put-values .ensures))
+    _ _ _ _ _ _ _ (c .before .before .before .before .before .before .before .before .before .choose-basis .ensures) (c .before .before .put-through .ensures)
 
 pub linearize-spec : {M : Type 1} → statement M
 linearize-spec =
@@ -108,7 +110,7 @@ linearize-spec =
     slice-aggregate-choose-basis
     slice-aggregate-choose-basis-2
     choose-basis-requires
-    put-smaller-requires
+    put-through-requires
     same-length
     same-length-2
     same-length-3
