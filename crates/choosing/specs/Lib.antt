@@ -4,3 +4,4 @@ pub mod Steps
 pub mod Walk
 pub mod Found
 pub mod Few
+pub mod Fresh

@@ -59,12 +59,19 @@ pub fn is_before(value: u32, a: u32, other: u32, b: u32) -> bool
     false
 }
 
-// Whether t is no XOR of the k numbers that the matrix s sends to 1, 2, 4, ..
+// Whether t is no XOR of the k numbers that the matrix s sends to 1, 2, 4, ..: whether s sends it to something at position k or above.
 pub fn is_fresh(s: &[u32], n: usize, k: usize, t: u32) -> bool
     requires { ⌜ (n ≤ length (now s)) × (n ≤ 24) × (k ≤ n) ⌝ }
     ensures { λ r. ⌜ r ≡ leb (2 ^ k) (apply (at (now (s .entry))) n t) ⌝ }
 {
-    numbers::power(k) <= matrices::apply_rows(s, n, t)
+    let mut j = k;
+    while j < n {
+        if numbers::parity_of(s[j] & t) == 1 {
+            return true;
+        }
+        j += 1;
+    }
+    false
 }
 
 // Whether t, of the walk, takes the place of b, the best so far or 0 for none. The order is asked first, since most numbers fail it.
