@@ -1,9 +1,9 @@
--- `reading::closed` meets its contract: each return is the case of `closedOf` that its test leads to. Assumes nothing.
+-- `read_work::closed` meets its contract: each return is the case of `closedOf` that its test leads to. Assumes nothing.
 use borrow.Author.Tests.{eq-eqb, ne-eqb}
 use borrow.Author.Needs.{needs}
 use Rattle.lines.specs.ByPlace.{closedOf}
-use Rattle.reading.proofs.closed.Tie as tie
-use Rattle.reading.proofs.closed.Statement.{statement}
+use Rattle.read_work.proofs.closed.Tie as tie
+use Rattle.read_work.proofs.closed.Statement.{statement}
 
 add-if1 : tie.Need-add-if1
 add-if1 c = search needs
