@@ -14,8 +14,8 @@ use Rattle.block.specs.Words.{row}
 use Rattle.block.specs.Refusals.{answered, carried, stored, rowAt}
 use Rattle.block.specs.declared.Row.{Row}
 use Rattle.block.specs.declared.Answer.{Answer}
-use Rattle.records.specs.declared.FlatRows.{FlatRows}
-use Rattle.records.specs.Flat.{Scattered, Sized, flatAt, zeroRow, maskOf, valuesOf, wordOf}
+use Rattle.record_work.specs.declared.FlatRows.{FlatRows}
+use Rattle.record_work.specs.Flat.{Scattered, Sized, flatAt, zeroRow, maskOf, valuesOf, wordOf}
 
 -- with the verdict v and the rows s: on 0 the first `count` rows of the arrays are s, and there is room for them; with a refusal there
 -- are none

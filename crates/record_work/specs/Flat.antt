@@ -11,8 +11,8 @@ use Rattle.block.specs.Words.{row, rowsOf}
 use Rattle.block.specs.Refusals.{rowAt}
 use Rattle.block.specs.declared.Row.{Row}
 use Rattle.listing.specs.Listing.{rows-count, row-at}
-use Rattle.records.specs.declared.FlatRows.{FlatRows}
-use Rattle.records.specs.Copied.{Copied}
+use Rattle.record_work.specs.declared.FlatRows.{FlatRows}
+use Rattle.record_work.specs.Copied.{Copied}
 
 abbrev pub zeros : List ℕ
 zeros = replicate 513 0

@@ -18,10 +18,10 @@ use Rattle.block.specs.declared.ReadAnswer.{ReadAnswer}
 use Rattle.block.specs.declared.Reading.{Reading}
 use Rattle.verdicts.specs.Verdicts.{answered-clear}
 use Rattle.checks.specs.Sizes.{inside}
-use Rattle.records.specs.declared.FlatRows.{FlatRows}
-use Rattle.records.specs.Flat.{Sized, maskOf, valuesOf, wordOf}
-use Rattle.records.specs.Cut.{past}
-use Rattle.records.specs.Yielded.{Yielded, yields}
+use Rattle.record_work.specs.declared.FlatRows.{FlatRows}
+use Rattle.record_work.specs.Flat.{Sized, maskOf, valuesOf, wordOf}
+use Rattle.record_work.specs.Cut.{past}
+use Rattle.record_work.specs.Yielded.{Yielded, yields}
 
 -- ---- the room counts only up to 128 places
 

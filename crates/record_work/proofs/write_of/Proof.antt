@@ -1,8 +1,8 @@
--- `records::write_of` meets its contract: the first m entries of each array are lent to the operation on flat slices. Assumes nothing.
+-- `record_work::write_of` meets its contract: the first m entries of each array are lent to the operation on flat slices. Assumes nothing.
 use borrow.Author.Needs.{needs}
-use Rattle.records.specs.Flat.{lent}
-use Rattle.records.proofs.write_of.Statement.{statement}
-use Rattle.records.proofs.write_of.Tie as tie
+use Rattle.record_work.specs.Flat.{lent}
+use Rattle.record_work.proofs.write_of.Statement.{statement}
+use Rattle.record_work.proofs.write_of.Tie as tie
 
 array-share-prefix-masks : tie.Need-array-share-prefix-masks
 array-share-prefix-masks c = search needs

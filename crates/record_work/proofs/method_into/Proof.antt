@@ -1,14 +1,14 @@
--- `records::method_into` meets its contract: the first places of each array are lent to the operation on flat slices, and what it stores
+-- `record_work::method_into` meets its contract: the first places of each array are lent to the operation on flat slices, and what it stores
 -- there are the smaller rows. Assumes nothing.
 use native.Mathlib.Omega.{arith}
 use borrow.Author.Needs.{needs}
 use denote.Ref.{now}
 use lib.ListN.{length, take}
 use Rattle.reading.specs.Storage.{shortest}
-use Rattle.records.specs.Flat.{lent, listed}
-use Rattle.records.specs.Method.{method-yields}
-use Rattle.records.proofs.method_into.Statement.{statement}
-use Rattle.records.proofs.method_into.Tie as tie
+use Rattle.record_work.specs.Flat.{lent, listed}
+use Rattle.record_work.specs.Method.{method-yields}
+use Rattle.record_work.proofs.method_into.Statement.{statement}
+use Rattle.record_work.proofs.method_into.Tie as tie
 
 array-share-prefix-masks : tie.Need-array-share-prefix-masks
 array-share-prefix-masks c = search needs

@@ -1,9 +1,9 @@
--- `records::read_of` meets its contract: no more than 513 places are looked at, and the room counts only up to 128. Assumes nothing.
+-- `record_work::read_of` meets its contract: no more than 513 places are looked at, and the room counts only up to 128. Assumes nothing.
 use borrow.Author.Needs.{needs}
 use denote.Ref.{now}
-use Rattle.records.specs.Reading.{read-whole}
-use Rattle.records.proofs.read_of.Statement.{statement}
-use Rattle.records.proofs.read_of.Tie as tie
+use Rattle.record_work.specs.Reading.{read-whole}
+use Rattle.record_work.proofs.read_of.Statement.{statement}
+use Rattle.record_work.proofs.read_of.Tie as tie
 
 fits-requires : tie.Need-fits-requires
 fits-requires c κs = search needs

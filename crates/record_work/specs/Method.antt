@@ -21,9 +21,9 @@ use Rattle.block.specs.declared.Answer.{Answer}
 use Rattle.block.specs.declared.RowMethodAnswer.{RowMethodAnswer}
 use Rattle.verdicts.specs.Verdicts.{answered-clear}
 use Rattle.checks.specs.Sizes.{inside}
-use Rattle.records.specs.declared.FlatRows.{FlatRows}
-use Rattle.records.specs.Flat.{Sized, maskOf, valuesOf, wordOf}
-use Rattle.records.specs.Yielded.{Yielded, yields}
+use Rattle.record_work.specs.declared.FlatRows.{FlatRows}
+use Rattle.record_work.specs.Flat.{Sized, maskOf, valuesOf, wordOf}
+use Rattle.record_work.specs.Yielded.{Yielded, yields}
 
 -- ---- the room counts only up to 512 places
 

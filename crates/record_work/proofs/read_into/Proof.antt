@@ -1,14 +1,14 @@
--- `records::read_into` meets its contract: the first m places of each array are lent to the operation on flat slices, and what it stores
+-- `record_work::read_into` meets its contract: the first m places of each array are lent to the operation on flat slices, and what it stores
 -- there are the rows. Assumes nothing.
 use native.Mathlib.Omega.{arith}
 use borrow.Author.Needs.{needs}
 use denote.Ref.{now}
 use lib.ListN.{take}
 use Rattle.reading.specs.Storage.{shortest}
-use Rattle.records.specs.Flat.{lent}
-use Rattle.records.specs.Reading.{read-yields}
-use Rattle.records.proofs.read_into.Statement.{statement}
-use Rattle.records.proofs.read_into.Tie as tie
+use Rattle.record_work.specs.Flat.{lent}
+use Rattle.record_work.specs.Reading.{read-yields}
+use Rattle.record_work.proofs.read_into.Statement.{statement}
+use Rattle.record_work.proofs.read_into.Tie as tie
 
 array-borrow-prefix-masks : tie.Need-array-borrow-prefix-masks
 array-borrow-prefix-masks c = search needs
