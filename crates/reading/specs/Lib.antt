@@ -1,3 +1,2 @@
--- Reading row text: `Storage` has what the contract cites beside block's definitions, `Cursor` the law of the text from the cursor on.
+-- Reading row text: `Storage` has what the contract cites beside block's definitions.
 pub mod Storage
-pub mod Cursor

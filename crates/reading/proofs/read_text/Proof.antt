@@ -1,22 +1,18 @@
 -- `reading::read_text` meets its contract: the answer by place, and the slices after it, are the meaning's by the laws of the crate lines.
 -- Assumes nothing.
-use Prim.Native.Nat.{min}
 use mathlib.Core.Path.{_≡_, ap, _∙_}
 use native.Mathlib.Omega.{arith}
 use borrow.Author.Needs.{needs}
 use denote.Ref.{now}
-use lib.ListN.{length}
 use Rattle.block.specs.Text.{numbers}
 use Rattle.lines.specs.ByPlace.{maskPart, valuesPart, wordPart}
 use Rattle.lines.specs.Answers.{numbers-read, after-read}
+use Rattle.reading.specs.Storage.{shortest}
 use Rattle.reading.proofs.read_text.Statement.{statement}
 use Rattle.reading.proofs.read_text.Tie as tie
 
-least-requires : tie.Need-least-requires
-least-requires c κs = search needs
-
-least-requires-2 : tie.Need-least-requires-2
-least-requires-2 c κs = search needs
+least-room-requires : tie.Need-least-room-requires
+least-room-requires c κs = search needs
 
 read-from-requires : tie.Need-read-from-requires
 read-from-requires c κs = omega arith
@@ -32,9 +28,9 @@ same-length-3 c = search needs
 
 returns : tie.Need-returns
 returns c =
-    let a = c .before .before .before .before .before .before .before .before .before .before .before .before .before .before .before .before .args in
+    let a = c .before .before .before .before .before .before .before .before .before .before .before .before .before .before .before .args in
     let r = c .before .before .before .before .before .before .read-from .ensures in
-    let e : c .before .before .before .before .before .before .before .before .before .before .least2 .result ≡ min (length (now (a .masks))) (min (length (now (a .values))) (length (now (a .words)))) = omega arith in
+    let e : c .before .before .before .before .before .before .before .before .before .before .least-room .result ≡ shortest (now (a .masks)) (now (a .values)) (now (a .words)) = omega arith in
     rw (← e) (
       ap numbers (r .0) ∙ numbers-read (now (a .text)) _,
       (
@@ -50,8 +46,7 @@ pub read-text-spec : {M : Type 1} → statement M
 read-text-spec =
     tie.close
     (tie.spec
-    least-requires
-    least-requires-2
+    least-room-requires
     read-from-requires
     same-length
     same-length-2

@@ -1,25 +1,25 @@
--- `records::row_method` meets its contract: a walk of its MIR, by hand, over the laws of `Walk.antt` and `Calls.antt`. It is four calls
--- in a row. Assumes nothing.
-use Rattle.records.proofs.Thin.{refl, List, [], _∷_, _≡_, length, fullShare, named, w64, Val, vint, id⊢, fat, givenOf, ‵, _$_, !, rewrite, whole, sub, of-opd, and-then, no-more, uint-makes, u32, now, slice-vals, only, cited, Lfts, typesAt, Knowns, a-num, a-slice, a-mut-slice, B, framing, concludes, valsOf, made, held, none, arg, field-of, puts, puts-over, keeps, lends, asks, ends, so, both-so, both-heard, asks-fits, asks-gather, asks-scatter}
+-- `records::row_method` meets its contract: a walk of its MIR, by hand, over the laws of `Walk.antt` and `Calls.antt` of crate record_work.
+-- It is four calls in a row. Assumes nothing.
+use Rattle.record_work.proofs.Thin.{refl, List, [], _∷_, _≡_, length, fullShare, named, w64, Val, vint, id⊢, fat, givenOf, ‵, _$_, !, rewrite, whole, sub, of-opd, and-then, no-more, uint-makes, u32, now, slice-vals, only, cited, Lfts, typesAt, Knowns, a-num, a-slice, a-mut-slice, B, framing, concludes, valsOf, made, held, none, arg, field-of, puts, puts-over, keeps, lends, asks, ends, so, both-so, both-heard, asks-fits, asks-gather, asks-scatter}
 use native.Mathlib.Omega.{arith}
 use denote.Struct.Laws as LL
 use Rattle.block.specs.Words.{ofRows}
 use Rattle.block.specs.Basis.{basisOf, sigmaOf}
 use Rattle.block.specs.Refusals.{stored}
 use Rattle.block.specs.Lists.{rowMethod, rowMethodVerdict, smallerList}
-use Rattle.records.specs.Flat.{listed, gathered-sized, as-records}
-use Rattle.records.specs.Yielded.{Yielded, yielded-stored}
-use Rattle.records.specs.Cut.{method-cut, method-stored-cut}
+use Rattle.record_work.specs.Flat.{listed, gathered-sized, as-records}
+use Rattle.record_work.specs.Yielded.{Yielded, yielded-stored}
+use Rattle.record_work.specs.Cut.{method-cut, method-stored-cut}
 use Rattle.block.proofs.Row as T
 use Rattle.block.proofs.RowMethodAnswer as An
 use Rattle.block.proofs.RowMethodAnswer.Laws as An′
-use Rattle.records.proofs.FlatRows as F
-use Rattle.records.proofs.FlatRows.Laws as F′
-use Rattle.records.proofs.SmallerRows as D
-use Rattle.records.proofs.SmallerRows.Laws as D′
-use Rattle.records.proofs.method_of as work
-use Rattle.records.proofs.method_of.Symbol as work-def
-use Rattle.records.proofs.method_of.Met as work-thm
+use Rattle.record_work.proofs.FlatRows as F
+use Rattle.record_work.proofs.FlatRows.Laws as F′
+use Rattle.record_work.proofs.SmallerRows as D
+use Rattle.record_work.proofs.SmallerRows.Laws as D′
+use Rattle.record_work.proofs.method_of as work
+use Rattle.record_work.proofs.method_of.Symbol as work-def
+use Rattle.record_work.proofs.method_of.Met as work-thm
 use Rattle.records.proofs.row_method.Key.{name as #self}
 use Rattle.records.proofs.row_method as f
 use Rattle.records.proofs.row_method.Statement as stated
@@ -49,12 +49,12 @@ row-method-spec 𝓤 H 𝓜 𝓖 𝓡 =
     let is₀ = are .1 .1 .1 .0 .0 .1 .0 in
     let is₃ = are .1 .1 .1 .1 .1 .1 .0 .0 .1 .0 in
     puts ! (of-opd ! (field-of ! refl (sub ! 1 refl (whole !)))) refl (tt, record { fits = is₀ }) $
-    asks-fits 𝓤 H 𝓜 𝓖 𝓡 code.env ! code.calls-records·fits (length rs) is₀ (arg ! refl (no-more !)) (λ m fit m<. keeps ! refl (tt, record { fits = m< }) $
-    asks-gather 𝓤 H 𝓜 𝓖 𝓡 code.env ! code.calls-records·gather (κs .0) (qs .0) (a .1 .1 .1 .0) m fit m< (arg ! refl (arg ! refl (no-more !))) (38 ∷ 45 ∷ []) refl (λ v₂ z e₂ is-z. keeps ! refl (LL.lawful F.the-type F′.the-laws 𝓤 H A W .typed z _ is-z .0) $
+    asks-fits 𝓤 H 𝓜 𝓖 𝓡 code.env ! code.calls-record-work·fits (length rs) is₀ (arg ! refl (no-more !)) (λ m fit m<. keeps ! refl (tt, record { fits = m< }) $
+    asks-gather 𝓤 H 𝓜 𝓖 𝓡 code.env ! code.calls-record-work·gather (κs .0) (qs .0) (a .1 .1 .1 .0) m fit m< (arg ! refl (arg ! refl (no-more !))) (38 ∷ 45 ∷ []) refl (λ v₂ z e₂ is-z. keeps ! refl (LL.lawful F.the-type F′.the-laws 𝓤 H A W .typed z _ is-z .0) $
     puts-over ! (of-opd ! (field-of ! refl (sub ! 1 refl (whole !)))) refl (tt, record { fits = is₃ }) $
     lends ! refl (sub ! 0 refl (whole !)) refl (tt, tt) refl refl (sub ! 1 refl (whole !)) refl (tt, (tt, (record { fits = are .1 .1 .1 .1 .0 .0 .1 .0 }, tt))) $
     lends ! refl (sub ! 0 refl (whole !)) refl (tt, tt) refl refl (sub ! 1 refl (whole !)) refl (tt, (tt, (record { fits = are .1 .1 .1 .1 .1 .0 .0 .1 .0 }, tt))) $
-    asks ! (framing 𝓤 H 𝓜 𝓖 𝓡 code.env) work.ended asked (cited 𝓤 H (B 𝓤 H A W work.ended asked) 𝓜 𝓡 code.env work-def.name work-def.routine code.calls-records·method-of (work-thm.met 𝓤 H 𝓜 𝓖 𝓡))
+    asks ! (framing 𝓤 H 𝓜 𝓖 𝓡 code.env) work.ended asked (cited 𝓤 H (B 𝓤 H A W work.ended asked) 𝓜 𝓡 code.env work-def.name work-def.routine code.calls-record-work·method-of (work-thm.met 𝓤 H 𝓜 𝓖 𝓡))
     (((κs .1 .0, (κs .1 .1 .0, tt)), (qs .1 .0, (qs .1 .1 .0, tt)), tt, (n, (k, (w, (z, (m, (room, (x₁, (x₂, tt)))))))), (vint w64 n ∷ [], (vint w64 k ∷ [], (vint w64 w ∷ [], (v₂ ∷ [], (vint w64 m ∷ [], (vint w64 room ∷ [], (slice-vals x₁, (slice-vals x₂, tt))))))))), tt)
     (arg ! refl (arg ! refl (arg ! refl (arg ! refl (arg ! refl (arg ! refl (arg ! refl (arg ! refl (no-more !))))))))) (38 ∷ 39 ∷ 44 ∷ 45 ∷ [])
     (made ! (uint-makes 𝓤 H A W w64) (are .0) (made ! (uint-makes 𝓤 H A W w64) (are .1 .0) (made ! (uint-makes 𝓤 H A W w64) (are .1 .1 .0) (made ! ((LL.makes F.the-type F′.the-plain) 𝓤 H A) is-z (made ! (uint-makes 𝓤 H A W w64) (refl, m<) (made ! (uint-makes 𝓤 H A W w64) (refl, is₃) (held ! (held ! (none !))))))))) refl
@@ -66,7 +66,7 @@ row-method-spec 𝓤 H 𝓜 𝓖 𝓡 =
     keeps ! refl (LL.lawful D.the-type D′.the-laws 𝓤 H A W .typed d _ is-d .0) $
     rewrite ! 10 (λ (us : List Val). ‵ (fat fullShare D′.mir (bs .1 .1 .1 .1 .1 .1 .1 .1 .1 .1 .0) 0 (only us))) (LL.tells D.the-type D′.the-laws d (v₃ ∷ []) is-d) refl $
     lends ! refl (sub ! 0 refl (whole !)) refl (tt, tt) refl refl (sub ! 1 refl (whole !)) refl (tt, (tt, (record { fits = is₃ }, tt))) $
-    asks-scatter 𝓤 H 𝓜 𝓖 𝓡 code.env ! code.calls-records·scatter (κs .1 .1 .1 .0) (qs .1 .1 .1 .0) (d .flat) _ (fields .0) (d .count) (fields .1 .0 .1) x₃ (y .within) (y .most)
+    asks-scatter 𝓤 H 𝓜 𝓖 𝓡 code.env ! code.calls-record-work·scatter (κs .1 .1 .1 .0) (qs .1 .1 .1 .0) (d .flat) _ (fields .0) (d .count) (fields .1 .0 .1) x₃ (y .within) (y .most)
     (and-then ! (field-of ! refl (sub ! 0 refl (whole !))) (and-then ! (field-of ! refl (sub ! 1 refl (whole !))) (arg ! refl (no-more !)))) (38 ∷ 42 ∷ []) refl (λ zs e₄. keeps ! refl (tt, tt) $
     puts ! (of-opd ! (field-of ! refl (sub ! 2 refl (whole !)))) refl (LL.lawful An.the-type An′.the-laws 𝓤 H A W .typed (d .answer) _ (fields .1 .1 .0) .0) $
     ends ! f.ended clauses ((κs, qs, bounds, a, valsOf 𝓤 H A W f.ended clauses known κs a), g) _ _ (_ ∷ _ ∷ _ ∷ _ ∷ _ ∷ _ ∷ _ ∷ _ ∷ _ ∷ _ ∷ _ ∷ _ ∷ _ ∷ _ ∷ _ ∷ _ ∷ _ ∷ _ ∷ []) tt refl (4 ∷ 7 ∷ 8 ∷ 17 ∷ 3 ∷ 5 ∷ 6 ∷ 9 ∷ 15 ∷ 16 ∷ 20 ∷ [])

@@ -1,21 +1,21 @@
--- `records::write_text` meets its contract: a walk of its MIR, by hand, over the laws of `Walk.antt` and `Calls.antt`. It is three calls
--- in a row. Assumes nothing.
-use Rattle.records.proofs.Thin.{refl, [], _∷_, _≡_, length, named, w64, vint, givenOf, _$_, !, whole, sub, of-opd, no-more, uint-makes, u8, now, slice-vals, cited, Lfts, typesAt, Knowns, a-num, a-slice, a-mut-slice, B, framing, concludes, valsOf, made, held, none, arg, field-of, puts, keeps, lends, asks, ends, so, both-so, both-heard, id⊢, asks-fits, asks-gather}
+-- `records::write_text` meets its contract: a walk of its MIR, by hand, over the laws of `Walk.antt` and `Calls.antt` of crate record_work.
+-- It is three calls in a row. Assumes nothing.
+use Rattle.record_work.proofs.Thin.{refl, [], _∷_, _≡_, length, named, w64, vint, givenOf, _$_, !, whole, sub, of-opd, no-more, uint-makes, u8, now, slice-vals, cited, Lfts, typesAt, Knowns, a-num, a-slice, a-mut-slice, B, framing, concludes, valsOf, made, held, none, arg, field-of, puts, keeps, lends, asks, ends, so, both-so, both-heard, id⊢, asks-fits, asks-gather}
 use native.Mathlib.Omega.{arith}
 use denote.Struct.Laws as LL
 use Rattle.block.specs.Refusals.{stored}
 use Rattle.block.specs.Text.{writeText, writeVerdict, textOf}
 use Rattle.block.specs.declared.Row.{Row}
-use Rattle.records.specs.Flat.{listed, gathered-sized, as-records}
-use Rattle.records.specs.Cut.{write-cut, written-cut}
+use Rattle.record_work.specs.Flat.{listed, gathered-sized, as-records}
+use Rattle.record_work.specs.Cut.{write-cut, written-cut}
 use Rattle.block.proofs.Row as T
 use Rattle.block.proofs.TextAnswer as An
 use Rattle.block.proofs.TextAnswer.Laws as An′
-use Rattle.records.proofs.FlatRows as F
-use Rattle.records.proofs.FlatRows.Laws as F′
-use Rattle.records.proofs.write_of as work
-use Rattle.records.proofs.write_of.Symbol as work-def
-use Rattle.records.proofs.write_of.Met as work-thm
+use Rattle.record_work.proofs.FlatRows as F
+use Rattle.record_work.proofs.FlatRows.Laws as F′
+use Rattle.record_work.proofs.write_of as work
+use Rattle.record_work.proofs.write_of.Symbol as work-def
+use Rattle.record_work.proofs.write_of.Met as work-thm
 use Rattle.records.proofs.write_text.Key.{name as #self}
 use Rattle.records.proofs.write_text as f
 use Rattle.records.proofs.write_text.Statement as stated
@@ -38,10 +38,10 @@ write-text-spec 𝓤 H 𝓜 𝓖 𝓡 =
     let x₁ = a .1 .1 .1 .0 in
     let is₀ = are .1 .1 .0 .0 .1 .0 in
     puts ! (of-opd ! (field-of ! refl (sub ! 1 refl (whole !)))) refl (tt, record { fits = is₀ }) $
-    asks-fits 𝓤 H 𝓜 𝓖 𝓡 code.env ! code.calls-records·fits (length rs) is₀ (arg ! refl (no-more !)) (λ m fit m<. keeps ! refl (tt, record { fits = m< }) $
-    asks-gather 𝓤 H 𝓜 𝓖 𝓡 code.env ! code.calls-records·gather (κs .0) (qs .0) (a .1 .1 .0) m fit m< (arg ! refl (arg ! refl (no-more !))) (20 ∷ 24 ∷ []) refl (λ v₂ z e₂ is-z. keeps ! refl (LL.lawful F.the-type F′.the-laws 𝓤 H A W .typed z _ is-z .0) $
+    asks-fits 𝓤 H 𝓜 𝓖 𝓡 code.env ! code.calls-record-work·fits (length rs) is₀ (arg ! refl (no-more !)) (λ m fit m<. keeps ! refl (tt, record { fits = m< }) $
+    asks-gather 𝓤 H 𝓜 𝓖 𝓡 code.env ! code.calls-record-work·gather (κs .0) (qs .0) (a .1 .1 .0) m fit m< (arg ! refl (arg ! refl (no-more !))) (20 ∷ 24 ∷ []) refl (λ v₂ z e₂ is-z. keeps ! refl (LL.lawful F.the-type F′.the-laws 𝓤 H A W .typed z _ is-z .0) $
     lends ! refl (sub ! 0 refl (whole !)) refl (tt, tt) refl refl (sub ! 1 refl (whole !)) refl (tt, (tt, (record { fits = are .1 .1 .1 .0 .0 .1 .0 }, tt))) $
-    asks ! (framing 𝓤 H 𝓜 𝓖 𝓡 code.env) work.ended asked (cited 𝓤 H (B 𝓤 H A W work.ended asked) 𝓜 𝓡 code.env work-def.name work-def.routine code.calls-records·write-of (work-thm.met 𝓤 H 𝓜 𝓖 𝓡))
+    asks ! (framing 𝓤 H 𝓜 𝓖 𝓡 code.env) work.ended asked (cited 𝓤 H (B 𝓤 H A W work.ended asked) 𝓜 𝓡 code.env work-def.name work-def.routine code.calls-record-work·write-of (work-thm.met 𝓤 H 𝓜 𝓖 𝓡))
     (((κs .1 .0, tt), (qs .1 .0, tt), tt, (n, (k, (z, (m, (x₁, tt))))), (vint w64 n ∷ [], (vint w64 k ∷ [], (v₂ ∷ [], (vint w64 m ∷ [], (slice-vals x₁, tt)))))), tt)
     (arg ! refl (arg ! refl (arg ! refl (arg ! refl (arg ! refl (no-more !)))))) (20 ∷ 23 ∷ [])
     (made ! (uint-makes 𝓤 H A W w64) (are .0) (made ! (uint-makes 𝓤 H A W w64) (are .1 .0) (made ! ((LL.makes F.the-type F′.the-plain) 𝓤 H A) is-z (made ! (uint-makes 𝓤 H A W w64) (refl, m<) (held ! (none !)))))) refl

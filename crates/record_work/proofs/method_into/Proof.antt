@@ -1,0 +1,75 @@
+-- `record_work::method_into` meets its contract: the first places of each array are lent to the operation on flat slices, and what it stores
+-- there are the smaller rows. Assumes nothing.
+use native.Mathlib.Omega.{arith}
+use borrow.Author.Needs.{needs}
+use denote.Ref.{now}
+use lib.ListN.{length, take}
+use Rattle.reading.specs.Storage.{shortest}
+use Rattle.record_work.specs.Flat.{lent, listed}
+use Rattle.record_work.specs.Method.{method-yields}
+use Rattle.record_work.proofs.method_into.Statement.{statement}
+use Rattle.record_work.proofs.method_into.Tie as tie
+
+array-share-prefix-masks : tie.Need-array-share-prefix-masks
+array-share-prefix-masks c = search needs
+
+slice-aggregate-row-method : tie.Need-slice-aggregate-row-method
+slice-aggregate-row-method c = lent _ _ (c .before .before .before .before .before .before .before .before .before .pre .0 .masks) (c .before .before .before .before .before .before .before .before .before .pre .1)
+
+array-share-prefix-values : tie.Need-array-share-prefix-values
+array-share-prefix-values c = search needs
+
+slice-aggregate-row-method-2 : tie.Need-slice-aggregate-row-method-2
+slice-aggregate-row-method-2 c = lent _ _ (c .before .before .before .before .before .before .before .before .before .before .pre .0 .values) (c .before .before .before .before .before .before .before .before .before .before .pre .1)
+
+array-share-prefix-words : tie.Need-array-share-prefix-words
+array-share-prefix-words c = search needs
+
+slice-aggregate-row-method-3 : tie.Need-slice-aggregate-row-method-3
+slice-aggregate-row-method-3 c = lent _ _ (c .before .before .before .before .before .before .before .before .before .before .before .pre .0 .words) (c .before .before .before .before .before .before .before .before .before .before .before .pre .1)
+
+array-borrow-prefix-new-masks : tie.Need-array-borrow-prefix-new-masks
+array-borrow-prefix-new-masks c = search needs
+
+slice-aggregate-row-method-4 : tie.Need-slice-aggregate-row-method-4
+slice-aggregate-row-method-4 c = lent _ _ (c .before .before .before .before .before .before .before .before .before .before .before .before .before .before .pre .2 .masks) (c .before .before .before .before .before .before .before .before .before .before .before .before .before .before .pre .3)
+
+array-borrow-prefix-new-values : tie.Need-array-borrow-prefix-new-values
+array-borrow-prefix-new-values c = search needs
+
+slice-aggregate-row-method-5 : tie.Need-slice-aggregate-row-method-5
+slice-aggregate-row-method-5 c = lent _ _ (c .before .before .before .before .before .before .before .before .before .before .before .before .before .before .before .pre .2 .values) (c .before .before .before .before .before .before .before .before .before .before .before .before .before .before .before .pre .3)
+
+array-borrow-prefix-new-words : tie.Need-array-borrow-prefix-new-words
+array-borrow-prefix-new-words c = search needs
+
+slice-aggregate-row-method-6 : tie.Need-slice-aggregate-row-method-6
+slice-aggregate-row-method-6 c = lent _ _ (c .before .before .before .before .before .before .before .before .before .before .before .before .before .before .before .before .pre .2 .words) (c .before .before .before .before .before .before .before .before .before .before .before .before .before .before .before .before .pre .3)
+
+row-method-requires : tie.Need-row-method-requires
+row-method-requires c κs = search needs
+
+same-length : tie.Need-same-length
+same-length c = search needs
+
+same-length-2 : tie.Need-same-length-2
+same-length-2 c = search needs
+
+returns : tie.Need-returns
+returns c =
+    let start = c .before .before .before .before .before .before .before .before .before .before .before .before .before .before .before .before .before .before .before .before .before .before .before .before in
+    let arg = start .args in
+    let f = arg .smaller in
+    let sized = start .pre .2 in
+    let few = start .pre .3 in
+    let done = c .before .before .before .before .before .before .before .row-method in
+    method-yields (arg .n) (arg .k) (arg .w) (listed (arg .flat) (arg .m)) (length (now (arg .basis))) (length (now (arg .sigma))) (arg .room)
+    (shortest (take (arg .room) (f .masks)) (take (arg .room) (f .values)) (take (arg .room) (f .words))) f (done .result)
+    (now (arg .basis)) (done .last .1 .1 .1 .1 .1 .1 .0) (now (arg .sigma)) (done .last .1 .1 .1 .1 .1 .1 .1 .0)
+    (done .last .1 .1 .1 .1 .1 .1 .1 .1 .0) (done .last .1 .1 .1 .1 .1 .1 .1 .1 .1 .0) (done .last .1 .1 .1 .1 .1 .1 .1 .1 .1 .1 .0) sized few
+    (omega (arith, lent (arg .room) (f .masks) (sized .masks) few, lent (arg .room) (f .values) (sized .values) few, lent (arg .room) (f .words) (sized .words) few))
+    (done .ensures .0) (done .ensures .1 .0) (done .ensures .1 .1 .0) (done .ensures .1 .1 .1 .0) (done .ensures .1 .1 .1 .1 .0) (done .ensures .1 .1 .1 .1 .1)
+
+pub method-into-spec : {M : Type 1} → statement M
+method-into-spec =
+    tie.close (tie.spec array-share-prefix-masks slice-aggregate-row-method array-share-prefix-values slice-aggregate-row-method-2 array-share-prefix-words slice-aggregate-row-method-3 array-borrow-prefix-new-masks slice-aggregate-row-method-4 array-borrow-prefix-new-values slice-aggregate-row-method-5 array-borrow-prefix-new-words slice-aggregate-row-method-6 row-method-requires same-length same-length-2 returns)

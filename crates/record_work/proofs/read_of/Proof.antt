@@ -1,0 +1,25 @@
+-- `record_work::read_of` meets its contract: no more than 513 places are looked at, and the room counts only up to 128. Assumes nothing.
+use borrow.Author.Needs.{needs}
+use denote.Ref.{now}
+use Rattle.record_work.specs.Reading.{read-whole}
+use Rattle.record_work.proofs.read_of.Statement.{statement}
+use Rattle.record_work.proofs.read_of.Tie as tie
+
+fits-requires : tie.Need-fits-requires
+fits-requires c κs = search needs
+
+blank-requires : tie.Need-blank-requires
+blank-requires c κs = search needs
+
+read-into-requires : tie.Need-read-into-requires
+read-into-requires c κs = search needs
+
+returns : tie.Need-returns
+returns c =
+    let start = c .before .before .before .before in
+    let read = c .read-into in
+    read-whole (now (start .args .text)) (start .args .room) (c .before .before .fits2 .result) (read .result .answer) (read .result .flat)
+    (read .result .count) (c .before .before .fits2 .ensures) (read .ensures .0) (read .ensures .1)
+
+pub read-of-spec : {M : Type 1} → statement M
+read-of-spec = tie.close (tie.spec fits-requires blank-requires read-into-requires returns)
