@@ -139,13 +139,14 @@ pub fn write_sheet(name: &[u8], sheet: &[u8]) -> i32
     settle_file(name, made.k, filled)
 }
 
-// Whether no file has this name, not even a link that leads nowhere.
+// Whether no file has this name, not even a link that leads nowhere. A name that is too long for the folder is no file's.
 pub fn is_free(path: &[u8; 4096]) -> bool
     requires { ⌜ Ended (now path) ⌝ }
 {
     let mut link = [0u8; 1];
     if libc::readlink(path, &mut link) < 0 {
-        return os::errno() == libc::ENOENT;
+        let error = os::errno();
+        return error == libc::ENOENT || error == libc::ENAMETOOLONG;
     }
     false
 }

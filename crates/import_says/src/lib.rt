@@ -28,7 +28,7 @@ pub fn say_file_error(error: i32) {
     } else if error == libc::ELOOP {
         say(b"Too many levels of symbolic links");
     } else {
-        say(b"The system gives no name for it");
+        say(b"Another error");
     }
 }
 
@@ -46,6 +46,10 @@ pub fn say_error(error: i32) {
         say(b"Too many open files");
     } else if error == libc::EPERM {
         say(b"Operation not permitted");
+    } else if error == libc::EINVAL {
+        say(b"Invalid argument");
+    } else if error == libc::ENOMEM {
+        say(b"Cannot allocate memory");
     } else {
         say_file_error(error);
     }
