@@ -10,6 +10,7 @@ use saying::is_same;
 use saying::say;
 ghost use Prim.Native.Nat.{_≤_};
 ghost use lib.ListN.{length};
+ghost use Rattle.io.specs.Counts.{Counts};
 
 // Ends a line with what became of an older sheet, which must not look current.
 pub fn end_line(name: &[u8])
@@ -58,6 +59,7 @@ pub fn say_unread(name: &[u8], error: i32) {
 pub fn import_file(name: &[u8]) -> usize
     ensures { λ r. ⌜ r ≤ 4 ⌝ }
 {
+    // the names beside it must fit a path too
     if name.len() > 4060 {
         say_unread(name, libc::ENAMETOOLONG);
         return 2;
@@ -77,7 +79,7 @@ pub fn is_repeated(i: usize, name: &[u8]) -> bool {
     let mut j = 1;
     while j < i {
         let length = os::arg(j, &mut earlier);
-        if is_same(&earlier[..length], name) {
+        if os::errno() == 0 && is_same(&earlier[..length], name) {
             return true;
         }
         j += 1;
@@ -85,12 +87,36 @@ pub fn is_repeated(i: usize, name: &[u8]) -> bool {
     false
 }
 
-// Whether a name ends as a sheet's does. Such a file is no list, and a list of that name would be overwritten by another's sheet.
-pub fn is_sheet_name(name: &[u8]) -> bool {
-    if name.len() < 6 {
+// Whether a name ends in these bytes.
+pub fn ends_in(name: &[u8], ending: &[u8]) -> bool {
+    if name.len() < ending.len() {
         return false;
     }
-    is_same(&name[name.len() - 6..], b".sheet")
+    is_same(&name[name.len() - ending.len()..], ending)
+}
+
+// How long a name is without the digits at its end.
+pub fn before_digits(name: &[u8]) -> usize
+    ensures { λ r. ⌜ Counts r (now (name .entry)) ⌝ }
+{
+    let mut end = name.len();
+    while 0 < end {
+        if name[end - 1] < b'0' || b'9' < name[end - 1] {
+            break;
+        }
+        end -= 1;
+    }
+    end
+}
+
+// Whether a name is one that an import gives: FILE.sheet, or that of a sheet that was set aside or not finished. Such a file is no list,
+// and a list of that name could be overwritten by another's sheet.
+pub fn is_sheet_name(name: &[u8]) -> bool {
+    if ends_in(name, b".sheet") {
+        return true;
+    }
+    let part = &name[..before_digits(name)];
+    ends_in(part, b".sheet.old") || ends_in(part, b".sheet.new")
 }
 
 // Imports the file that argument i names.

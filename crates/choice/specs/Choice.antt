@@ -45,19 +45,10 @@ module _ (ahead : ℕ → ℕ → Bool) (ok : ℕ → Bool) where
 
   -- ---- the search
 
-  -- nothing seen yet
-  pub best-zero : best ahead ok 0 ≡ 0
-  unfolding best
-  best-zero = refl
-
   -- one number more
   pub best-more : (m : ℕ) → best ahead ok (m + 1) ≡ better ahead ok (best ahead ok m) m
   unfolding best
   best-more m = rw add-one
-
-  -- a turn of the search
-  pub best-turn : (t b x : ℕ) → b ≡ best ahead ok t → x ≡ better ahead ok b t → x ≡ best ahead ok (t + 1)
-  best-turn t b x h e = rw (best-more, ← h) e
 
   better-of : (b t : ℕ) (x : Bool) → (cond x t b ≡ t) ⊎ (cond x t b ≡ b)
   better-of b t true = inl refl

@@ -67,11 +67,6 @@ module _ (n : ℕ) (r : Row) (s : Sound n r) where
     over-point : bitAnd (r .mask) (bitXor (r .values) part) ≡ r .values
     over-point = and-beside (r .mask) (r .values) part (s .inside) (and-apart (r .mask) free part apart p)
 
-    part-of : bitAnd free (bitXor (r .values) part) ≡ part
-    part-of =
-        ap (bitAnd free) (xor-comm (r .values) part)
-        ∙ and-beside free part (r .values) p (and-apart free (r .mask) (r .values) (and-comm free (r .mask) ∙ apart) (s .inside))
-
     pub point-lt : bitXor (r .values) part < 2 ^ n
     point-lt =
         xor-lt n (r .values) part (sound-values n r s) (omega (arith, p, and-le-l free part, free-lt))

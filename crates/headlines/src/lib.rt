@@ -2,7 +2,7 @@
 // `read_text` of the crate reading.
 use lines::Number;
 ghost use mathlib.Core.Path.{_≡_};
-ghost use Prim.Native.Nat.{_+_, _≤_, _<_};
+ghost use Prim.Native.Nat.{_≤_, _<_};
 ghost use Rattle.slices.specs.Places.{at};
 ghost use Rattle.lines.specs.ByPlace.{numberOf, numberAt, widthOf, leadOf, headAt};
 

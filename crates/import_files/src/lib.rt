@@ -2,14 +2,10 @@
 // no contract says, so these functions promise no more than that they are safe and end; the gate runs them (crate run_imports). All
 // functions here are inner. An error is the system's number for it, 0 for none.
 use import_paths::put_path;
-ghost use mathlib.Core.Path.{_≡_};
-ghost use Prim.Native.Nat.{_+_, _≤_};
+ghost use Prim.Native.Nat.{_≤_};
 ghost use lib.ListN.{length};
 ghost use Rattle.io.specs.Counts.{Counts};
 ghost use Rattle.libc.specs.Io.{Ended};
-
-// The longest name of a list that leaves room for the names beside it.
-pub const NAME_MAX: usize = 4060;
 
 // Why the last call failed: some error, even where the system names none.
 pub fn reason() -> i32 {
@@ -107,7 +103,7 @@ pub fn make_file(name: &[u8]) -> Made
     }
 }
 
-// Renames a file that was filled to FILE.sheet. Where it was not filled or that fails, its name is gone again.
+// Renames a file that was filled to FILE.sheet. Where it was not filled or that fails, it is removed.
 pub fn settle_file(name: &[u8], k: usize, filled: i32) -> i32
     requires { ⌜ length (now name) ≤ 4060 ⌝ }
 {

@@ -36,6 +36,8 @@ pub fn say_file_error(error: i32) {
 pub fn say_error(error: i32) {
     if error == libc::ENOSPC {
         say(b"No space left on device");
+    } else if error == 122 {
+        say(b"Disk quota exceeded");
     } else if error == libc::EFBIG {
         say(b"File too large");
     } else if error == libc::EIO {

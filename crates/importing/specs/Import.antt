@@ -10,6 +10,13 @@ use Rattle.importing.specs.declared.Imported.{Imported}
 unfoldable pub lineOf : List ℕ → List ℕ → List ℕ
 lineOf name text = importLine (take 4096 name) (textWork text)
 
--- the answer: the verdict's number, the bytes of the sheet and the bytes of the line
+-- the answer: the verdict's number and places, the bytes of the sheet and the bytes of the line
 unfoldable pub imported : List ℕ → List ℕ → Imported
-imported name text = record { number = textVerdict text .number; count = textWork text .count; length = length (lineOf name text) }
+imported name text =
+    record {
+      number = textVerdict text .number;
+      a = textVerdict text .a;
+      b = textVerdict text .b;
+      count = textWork text .count;
+      length = length (lineOf name text);
+    }

@@ -17,7 +17,7 @@ use Rattle.importing.specs.declared.Imported.{Imported}
 
 pub line-made : (name text part l l′ : List ℕ) (r : SheetWork) (c : ℕ) → part ≡ take 4096 name → r ≡ textWork text
     → Put l 0 (importLine part r) l′ c → c ≤ length l
-    → (record { number = r .number; count = r .count; length = c } ≡ imported name text) × (l′ ≡ over (lineOf name text) l)
+    → (record { number = r .number; a = r .a; b = r .b; count = r .count; length = c } ≡ imported name text) × (l′ ≡ over (lineOf name text) l)
 unfolding imported lineOf textWork
 line-made name text part l l′ r c first e p h =
     let q : Put l 0 (lineOf name text) l′ c = rw (← first, ← e) p in

@@ -6,9 +6,11 @@ ghost use Rattle.block.specs.Refusals.{stored};
 ghost use Rattle.text_work.specs.Work.{textVerdict, sheetIn};
 ghost use Rattle.importing.specs.Import.{lineOf, imported};
 
-// The answer: its number, the bytes of the sheet (0 with a refusal), and the bytes of the line.
+// The answer: its number and places, the bytes of the sheet (0 with a refusal), and the bytes of the line.
 pub struct Imported {
     pub number: u32,
+    pub a: usize,
+    pub b: usize,
     pub count: usize,
     pub length: usize,
 }
@@ -27,10 +29,14 @@ pub fn import_text(
 {
     let r = text_work::work_text(text, sheet);
     let number = r.number;
+    let a = r.a;
+    let b = r.b;
     let count = r.count;
     let length = import_lines::put_line(line, text_work::first_bytes(name, 4096), r);
     Imported {
         number,
+        a,
+        b,
         count,
         length,
     }

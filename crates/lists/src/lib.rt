@@ -1,6 +1,6 @@
 // The operations on lists of rows (01, Numbers that come back), for rows in three flat slices: `row_value` answers a single shift value,
-// `row_method` gives T, sigma and the smaller rows, and `fill_table` fills a table. Each answers for every input, and on a refusal what was lent holds what it held. This crate holds
-// nothing else: what the operations are made of stands in the crates below it.
+// `row_method` gives T, sigma and the smaller rows, and `fill_table` fills a table. Each answers for every input, and on a refusal what was
+// lent holds what it held. This crate holds nothing else: what the operations are made of stands in the crates below it.
 use block::Answer;
 use block::RowMethodAnswer;
 use block::ValueAnswer;

@@ -1,7 +1,7 @@
 // Matrices over GF(2) in slices, n numbers of n bits: a matrix at a point and at every point, and the two row operations that a step is
 // made of. Every function here is inner.
 ghost use mathlib.Core.Path.{_≡_};
-ghost use Prim.Native.Nat.{ℕ, _+_, _≤_, _<_, _^_};
+ghost use Prim.Native.Nat.{_+_, _≤_, _<_, _^_};
 ghost use lib.Bits.{bitXor};
 ghost use lib.ListN.{length};
 ghost use Rattle.slices.specs.Places.{at, tab, over};

@@ -57,13 +57,6 @@ module _ (f : ℕ → ℕ) (l : Linear f) where
   linear-times x (suc zero) h = rw (mul-one x, mul-one (f x))
   linear-times x (suc (suc d)) h = absurd (omega arith)
 
-  -- where it sends only 0 to 0, it sends two numbers to one only if they are equal
-  pub linear-inj : (n : ℕ) → ((t : ℕ) → t < 2 ^ n → f t ≡ 0 → t ≡ 0) → (x y : ℕ) → x < 2 ^ n → y < 2 ^ n → f x ≡ f y → x ≡ y
-  linear-inj n inj x y hx hy e =
-      sym (xor-cancel-r x y)
-      ∙ ap (λ (d : ℕ). bitXor d y)
-      (inj (bitXor x y) (xor-lt n x y hx hy) (l x y ∙ ap (λ (d : ℕ). bitXor d (f y)) e ∙ xor-self (f y)))
-
 -- ---- the matrix by rows
 
 -- of no rows

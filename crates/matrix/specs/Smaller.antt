@@ -34,7 +34,3 @@ module _ (f c : ℕ → ℕ) (n : ℕ) (i : Independent c n n) where
   measure-smaller =
       sum-cong (λ j. shift (smaller f c n) n (2 ^ j)) (λ j. shift f n (c j)) n
       (λ j l. shift-smaller (2 ^ j) ∙ ap (shift f n) (columns-unit c n j l))
-
-  -- at sigma x it is the block at x
-  pub smaller-sigma : (x : ℕ) → x < 2 ^ n → smaller f c n (apply (at (inverse c n)) n x) ≡ f x
-  smaller-sigma x h = ap f (columns-sigma c n i x h)

@@ -145,14 +145,6 @@ highest-bit (suc m) k y l h = go (λ u. highest-bit m k y l u) (ℕ-discrete (bi
         let w = ih (bit-top m y h (omega (arith, bit-lt y m))) in
         rw (ne-eqb (bit y m) 1 n) (w .0, omega (arith, w .1), w .2)
 
--- above k, where bit k is 0
-pub highest-above : (m k y : ℕ) → 2 ^ k ≤ y → y < 2 ^ m → bit y k ≡ 0 → k < highest m y
-highest-above m k y l h b = go (ℕ-discrete (highest m y) k)
-  where
-    go : Dec (highest m y ≡ k) → k < highest m y
-    go (yes e) = absurd (omega (arith, ap (bit y) e, highest-bit m k y l h .2))
-    go (no n) = omega (arith, highest-bit m k y l h .0)
-
 -- the position that step k + 1 exchanges with k stands at k or above, below n, and the chosen number has that bit
 pub partner-bit : (n k y : ℕ) → k < n → 2 ^ k ≤ y → y < 2 ^ n → (k ≤ partner n k y) × (partner n k y < n) × (bit y (partner n k y) ≡ 1)
 unfolding partner

@@ -17,7 +17,7 @@ use Rattle.pairs.specs.Cube.{Sound}
 use Rattle.pairs.specs.Theorem.{Every, Apart, Disjoint}
 use Rattle.matrix.specs.Steps.{partner-bit, rest-lt, rest-own}
 use Rattle.matrix.specs.Reached.{Independent, independent-fewer, reaches, reached-next, reached-cong}
-use Rattle.moves.specs.Step.{Ready, stepRows, stepPoint, step-lt, step-word, step-sound, step-words, step-good, step-apart, step-disjoint, step-length, step-length-le}
+use Rattle.moves.specs.Step.{Ready, stepRows, stepPoint, step-lt, step-word, step-sound, step-words, step-good, step-apart, step-disjoint, step-length}
 
 -- ---- the step of one chosen number
 
@@ -31,17 +31,6 @@ ready n k y hk l h =
 -- each of them is a step
 abbrev pub Steps : ℕ → (ℕ → ℕ) → ℕ → Type 0
 Steps n c k = (j : ℕ) → j < k → Ready n j (partner n j (reached n c j (c j))) (rest n j (reached n c j (c j)))
-
--- no step leaves the point
-pub reached-none : (n : ℕ) (c : ℕ → ℕ) (x : ℕ) → reached n c 0 x ≡ x
-unfolding reached
-reached-none n c x = refl
-
--- one step more for a point
-pub reached-suc : (n : ℕ) (c : ℕ → ℕ) (k x : ℕ)
-    → reached n c (suc k) x ≡ stepPoint k (partner n k (reached n c k (c k))) (rest n k (reached n c k (c k))) (reached n c k x)
-unfolding reached
-reached-suc n c k x = refl
 
 -- no step leaves the rows
 pub moved-none : (n : ℕ) (c : ℕ → ℕ) (rs : List Row) → moved n c 0 rs ≡ rs
@@ -76,11 +65,6 @@ moved-length n c j (suc k) rs h = go (ℕ-discrete j (suc k)) (λ l. moved-lengt
         → length (moved n c j rs) ≤ length (moved n c (suc k) rs)
     go (yes e) ih = rw e (omega arith)
     go (no m) ih = omega (arith, ih (omega arith), moved-length-suc n c k rs)
-
--- one step at most doubles it
-pub moved-length-le : (n : ℕ) (c : ℕ → ℕ) (k : ℕ) (rs : List Row) → length (moved n c (suc k) rs) ≤ length (moved n c k rs) * 2
-unfolding moved
-moved-length-le n c k rs = step-length-le k (partner n k (reached n c k (c k))) (rest n k (reached n c k (c k))) (moved n c k rs)
 
 module _ (n : ℕ) (c : ℕ → ℕ) where
   fewer : (k : ℕ) → Steps n c (suc k) → Steps n c k

@@ -25,11 +25,6 @@ use Rattle.moves.specs.Moved.{Steps, steps, moved-length, moved-word, mo
 pub basis-steps : (f : ℕ → ℕ) (n w : ℕ) → 1 ≤ w → Steps n (at (basisOf f n w)) n
 basis-steps f n w h = steps n (at (basisOf f n w)) n (omega arith) (basis-independent f n w h)
 
--- more steps never lessen the number of rows
-pub rows-after-length : (n w i j : ℕ) (rs : List Row) → i ≤ j → length (rowsAfter n w i rs) ≤ length (rowsAfter n w j rs)
-unfolding rowsAfter
-rows-after-length n w i j rs h = moved-length n (at (basisOf (ofRows rs) n w)) i j rs h
-
 -- the smaller rows are no fewer than the rows
 pub smaller-length : (n w : ℕ) (rs : List Row) → length rs ≤ length (smallerList n w rs)
 unfolding smallerList rowsAfter moved

@@ -185,10 +185,6 @@ split-length k v (r ∷ rs) = go (became-length k v r) (split-length k v rs)
 pub step-length : (k h v : ℕ) (rs : List Row) → length rs ≤ length (stepRows k h v rs)
 step-length k h v rs = omega (arith, split-length k v (map (exchangeRow k h) rs) .0, length-map rs (exchangeRow k h))
 
--- and at most doubles it
-pub step-length-le : (k h v : ℕ) (rs : List Row) → length (stepRows k h v rs) ≤ length rs * 2
-step-length-le k h v rs = omega (arith, split-length k v (map (exchangeRow k h) rs) .1, length-map rs (exchangeRow k h))
-
 module _ (n k h v : ℕ) (d : Ready n k h v) where
   -- a point after the step is within the width
   pub step-lt : (x : ℕ) → x < 2 ^ n → stepPoint k h v x < 2 ^ n

@@ -75,30 +75,6 @@ Clear rs i j = (k : ℕ) → i < k → k < j → demanded (rowAt rs i) (rowAt rs
 abbrev pub ClearBelow : List Row → ℕ → Type 0
 ClearBelow rs i = (k : ℕ) → k < i → Clear rs k (length rs)
 
--- no row lies between i and the next
-pub clear-none : (rs : List Row) (i : ℕ) → Clear rs i (i + 1)
-clear-none rs i k a b e = omega arith
-
--- one row more that shares no point with row i
-pub clear-more : (rs : List Row) (i j : ℕ) → Clear rs i j → (demanded (rowAt rs i) (rowAt rs j) ≡ 0 → ⊥) → Clear rs i (j + 1)
-clear-more rs i j c d k a b = go (ℕ-discrete k j)
-  where
-    go : Dec (k ≡ j) → demanded (rowAt rs i) (rowAt rs k) ≡ 0 → ⊥
-    go (yes e) = rw e d
-    go (no n) = c k a (omega arith)
-
--- no row lies below the first
-pub clear-below-none : (rs : List Row) → ClearBelow rs 0
-clear-below-none rs k h = absurd (omega arith)
-
--- one row more that shares no point with a later one
-pub clear-below-more : (rs : List Row) (i : ℕ) → ClearBelow rs i → Clear rs i (length rs) → ClearBelow rs (i + 1)
-clear-below-more rs i c d k h = go (ℕ-discrete k i)
-  where
-    go : Dec (k ≡ i) → Clear rs k (length rs)
-    go (yes e) = rw e d
-    go (no n) = c k (omega arith)
-
 module _ (n : ℕ) (rs : List Row) (sound : Every (Sound n) rs) where
   -- the test of `second`
   later : ℕ → ℕ → Bool
@@ -152,11 +128,6 @@ module _ (n : ℕ) (rs : List Row) (sound : Every (Sound n) rs) where
       first-is (length rs) (λ i. ltb (second n rs i) (length rs)) i (omega arith)
       (λ k m. le-ltb (second n rs k) (length rs) (omega (arith, second-none k (omega arith) (c k m))))
       (λ m. lt-ltb (second n rs i) (length rs) (omega (arith, second-at i j h l d e)))
-
-  -- and its second row
-  pub second-sharing : (i j : ℕ) → i < j → j < length rs → ClearBelow rs i → Clear rs i j → demanded (rowAt rs i) (rowAt rs j) ≡ 0
-      → second n rs (sharing n rs) ≡ j
-  second-sharing i j h l c d e = ap (second n rs) (sharing-at i j h l c d e) ∙ second-at i j h l d e
 
 -- ---- the checks 6 and 7
 

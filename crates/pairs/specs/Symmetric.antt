@@ -158,10 +158,6 @@ cubes-length n rs m k =
     rw (length-append (cubesBelow n rs (length rs)) (rowCubes n rs (length rs) (length rs)))
     (omega (arith, below-length n rs (length rs) 0 (omega arith), row-length n rs (length rs) (length rs), square-le (length rs) m k))
 
--- the weight of a pair in one order
-pub weight-le : (n : ℕ) (r s : Row) → 2 ^ freeBoth n r s ≤ 2 ^ n
-weight-le n r s = pow-mono (omega arith)
-
 -- ---- the sum over the cubes
 
 module _ (n : ℕ) (rs : List Row) (t : ℕ) where

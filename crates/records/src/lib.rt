@@ -1,7 +1,7 @@
 // The operations on lists of rows for a caller that lends the rows as records, one record a row (01, Words and numbers): a single shift
 // value, the row method, filling a table, row text, written and read, and the sheet. Each takes any numbers and any slices, and answers or
 // refuses as 01 says; its promise speaks of the records themselves. The work is that of the crate record_work: it copies the records out
-// into arrays, does the same on these, and copies what it made in.
+// into arrays, does the same on these, and copies what it made in. This crate holds nothing else.
 use block::Answer;
 use block::ReadAnswer;
 use block::Reading;

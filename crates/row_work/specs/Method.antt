@@ -19,7 +19,7 @@ use Rattle.block.specs.declared.Answer.{Answer}
 use Rattle.block.specs.declared.RowMethodAnswer.{RowMethodAnswer}
 use Rattle.checks.specs.Sizes.{or-left, or-right}
 use Rattle.row_checks.specs.Checked.{methodChecked, method-checks, method-numbered}
-use Rattle.verdicts.specs.Verdicts.{verdict-hit, verdict-miss, verdict-none, part-refuses, part-passes, rows-refused, rows-answered, kept, given}
+use Rattle.verdicts.specs.Verdicts.{verdict-hit, verdict-miss, verdict-none, part-refuses, part-passes, rows-refused, kept, given}
 use Rattle.row_work.specs.Work.{Kept, Made, RowsWorked}
 use Rattle.row_work.specs.declared.RowWork.{RowWork}
 

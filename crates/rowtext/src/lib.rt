@@ -3,7 +3,7 @@
 use block::Answer;
 ghost use mathlib.Core.Path.{_≡_};
 ghost use mathlib.Core.List.{_++_};
-ghost use Prim.Native.Nat.{_+_, _≤_, _<_};
+ghost use Prim.Native.Nat.{_+_, _≤_};
 ghost use lib.ListN.{length};
 ghost use Rattle.block.specs.Words.{rowsOf};
 ghost use Rattle.block.specs.Text.{headLine, textOf, writeVerdict};

@@ -1,7 +1,6 @@
 // The bulk import, run: the arguments are imported, and the files are read back. Of each name that follows it is said whether its file
 // has the bytes that are due, which lie in data/ beside it, or whether it is gone.
 use saying::say;
-ghost use Rattle.io.specs.Counts.{Counts};
 
 // Whether both files can be read and hold the same bytes.
 fn is_as_due(path: &[u8], due: &[u8]) -> bool {

@@ -8,7 +8,6 @@ use saying::say_number;
 use saying::wide16;
 use saying::wide32;
 ghost use mathlib.Core.Path.{_≡_};
-ghost use Prim.Native.Nat.{_≤_};
 ghost use lib.ListN.{length};
 
 // 0, 1, 2, .. 600: the values of rows that are all fixed alike.

@@ -4,7 +4,7 @@ use block::Row;
 use lines::Line;
 use lines::Spelling;
 ghost use mathlib.Core.Path.{_≡_};
-ghost use Prim.Native.Nat.{_+_, _≤_, _<_};
+ghost use Prim.Native.Nat.{_≤_, _<_};
 ghost use Rattle.lines.specs.ByPlace.{maskOf, valuesOf, stepOf, spelledAt, joinedOf, rowFrom, isBroken, rowOr};
 
 // One symbol more, as the lowest input; `free` is the byte of a free one.

@@ -100,9 +100,6 @@ verdict-stop (c ∷ cs) ds e = go (λ h. verdict-stop cs ds h) (c .holds) refl
 pub carried-yes : (v : Answer) (x : ℕ) → v .number ≡ 0 → carried v x ≡ x
 carried-yes v x h = rw (eq-eqb (v .number) 0 h)
 
-pub carried-no : (v : Answer) (x : ℕ) → (v .number ≡ 0 → ⊥) → carried v x ≡ 0
-carried-no v x h = rw (ne-eqb (v .number) 0 h)
-
 pub stored-yes {ℓ} : {A : Type ℓ} (v : Answer) (s l : List A) → v .number ≡ 0 → stored v s l ≡ over s l
 stored-yes v s l h = rw (eq-eqb (v .number) 0 h)
 
@@ -141,10 +138,6 @@ measures-answered v x y h = rw (eq-eqb (v .number) 0 h)
 pub rows-refused : (v : Answer) (x y c : ℕ) → (v .number ≡ 0 → ⊥)
     → record { number = v .number; a = v .a; b = v .b; before = 0; after = 0; count = 0 } ≡ withRows v x y c
 rows-refused v x y c h = rw (ne-eqb (v .number) 0 h)
-
-pub rows-answered : (v : Answer) (x y c : ℕ) → v .number ≡ 0
-    → record { number = v .number; a = v .a; b = v .b; before = x; after = y; count = c } ≡ withRows v x y c
-rows-answered v x y c h = rw (eq-eqb (v .number) 0 h)
 
 -- lent storage, where the verdict v is that of 01: kept with a refusal, with the result at its front on 0
 pub kept {ℓ} : {A : Type ℓ} (v u : Answer) (s l : List A) → v ≡ u → (v .number ≡ 0 → ⊥) → l ≡ stored u s l

@@ -1,8 +1,8 @@
 -- `bulk_import::is_repeated` ends: j goes up to i. Assumes nothing.
 use mathlib.Core.Path.{_≡_}
 use Prim.Native.Nat.{_-_}
-use lib.ListN.{length}
 use native.Mathlib.Omega.{arith}
+use lib.ListN.{length}
 use borrow.Author.Needs.{needs}
 use Rattle.bulk_import.proofs.is_repeated.Statement.{statement}
 use Rattle.bulk_import.proofs.is_repeated.Tie as tie
@@ -24,6 +24,9 @@ slice-aggregate-arg c = search needs
 
 arg-requires : tie.Need-arg-requires Inv-loop μ-loop
 arg-requires c κs = search needs
+
+errno-requires : tie.Need-errno-requires Inv-loop μ-loop
+errno-requires c κs = search needs
 
 array-share-prefix-earlier : tie.Need-array-share-prefix-earlier Inv-loop μ-loop
 array-share-prefix-earlier c = search needs
@@ -59,6 +62,7 @@ is-repeated-spec =
     loop-holds
     slice-aggregate-arg
     arg-requires
+    errno-requires
     array-share-prefix-earlier
     slice-aggregate-is-same
     is-same-requires

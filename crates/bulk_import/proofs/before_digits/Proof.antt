@@ -1,0 +1,65 @@
+-- `bulk_import::before_digits` meets its contract: the end goes down, and is its own measure. Assumes nothing.
+use mathlib.Core.Path.{sym}
+use Prim.Native.Nat.{_≤_}
+use native.Mathlib.Omega.{arith}
+use denote.Ref.{now}
+use lib.ListN.{length}
+use lib.Seq.{length-take-le}
+use borrow.Author.Needs.{needs}
+use Rattle.bulk_import.proofs.before_digits.Statement.{statement}
+use Rattle.bulk_import.proofs.before_digits.Tie as tie
+
+abbrev Inv-loop : tie.InvT-loop
+Inv-loop name end₀ end = end ≤ length name
+
+abbrev μ-loop : tie.MeasureT-loop
+μ-loop name end₀ end = end
+
+loop-holds : tie.Need-loop-holds Inv-loop μ-loop
+loop-holds c = omega arith
+
+sub-if1 : tie.Need-sub-if1 Inv-loop μ-loop
+sub-if1 c = omega arith
+
+shared-slice-read-if1 : tie.Need-shared-slice-read-if1 Inv-loop μ-loop
+shared-slice-read-if1 c = omega arith
+
+sub-if2 : tie.Need-sub-if2 Inv-loop μ-loop
+sub-if2 c = omega arith
+
+shared-slice-read-if2 : tie.Need-shared-slice-read-if2 Inv-loop μ-loop
+shared-slice-read-if2 c = omega arith
+
+sub-end : tie.Need-sub-end Inv-loop μ-loop
+sub-end c = omega arith
+
+loop-less : tie.Need-loop-less Inv-loop μ-loop
+loop-less c = omega arith
+
+loop-again : tie.Need-loop-again Inv-loop μ-loop
+loop-again c = omega arith
+
+returns : tie.Need-returns Inv-loop μ-loop
+returns c =
+    (omega arith, sym (length-take-le (c .before .loop .end) (now (c .before .before .args .name)) (omega arith)))
+
+returns-2 : tie.Need-returns-2 Inv-loop μ-loop
+returns-2 c =
+    (omega arith, sym (length-take-le (c .before .before .before .loop .end) (now (c .before .before .before .before .args .name)) (omega arith)))
+
+pub before-digits-spec : {M : Type 1} → statement M
+before-digits-spec =
+    tie.close
+    (tie.spec
+    Inv-loop
+    μ-loop
+    loop-holds
+    sub-if1
+    shared-slice-read-if1
+    sub-if2
+    shared-slice-read-if2
+    sub-end
+    loop-less
+    loop-again
+    returns
+    returns-2)
