@@ -22,6 +22,13 @@ and-apart a b c h e = ap (bitAnd a) (sym e) ∙ sym (and-assoc a b c) ∙ ap (λ
 pub and-beside : (a b c : ℕ) → bitAnd a b ≡ b → bitAnd a c ≡ 0 → bitAnd a (bitXor b c) ≡ b
 and-beside a b c e h = and-xor a b c ∙ rw (e, h) (xor-zero-r b)
 
+-- a part without its lowest bit, and its lowest bit
+pub part-half : (f s : ℕ) → bitAnd f s ≡ s → bitAnd (f / 2) (s / 2) ≡ s / 2
+part-half f s e = sym (and-half f s) ∙ ap (λ (x : ℕ). x / 2) e
+
+pub part-odd : (f s : ℕ) → bitAnd f s ≡ s → min (f % 2) (s % 2) ≡ s % 2
+part-odd f s e = sym (and-odd f s) ∙ ap (λ (x : ℕ). x % 2) e
+
 -- the greatest part of f below its part s is f AND (s - 1)
 pub part-below : (f s t : ℕ) → bitAnd f s ≡ s → bitAnd f t ≡ t → t < s → t ≤ bitAnd f (s - 1)
 part-below f s t =
@@ -29,12 +36,6 @@ part-below f s t =
     (λ s t e d h. absurd (omega arith)) step
     f s t
   where
-    half : (f s : ℕ) → bitAnd f s ≡ s → bitAnd (f / 2) (s / 2) ≡ s / 2
-    half f s e = sym (and-half f s) ∙ ap (λ (x : ℕ). x / 2) e
-
-    odd : (f s : ℕ) → bitAnd f s ≡ s → min (f % 2) (s % 2) ≡ s % 2
-    odd f s e = sym (and-odd f s) ∙ ap (λ (x : ℕ). x % 2) e
-
     step : (f : ℕ) → ((s t : ℕ) → bitAnd (f / 2) s ≡ s → bitAnd (f / 2) t ≡ t → t < s → t ≤ bitAnd (f / 2) (s - 1))
         → (s t : ℕ) → bitAnd f s ≡ s → bitAnd f t ≡ t → t < s → t ≤ bitAnd f (s - 1)
     step f ih s t e d h = go (decLt 0 (s % 2))
@@ -42,13 +43,13 @@ part-below f s t =
         go : Dec (0 < s % 2) → t ≤ bitAnd f (s - 1)
         go (yes o) =
             let q : (s - 1) / 2 ≡ s / 2 = omega arith in
-            omega (arith, and-step f (s - 1), ap (bitAnd (f / 2)) q, half f s e)
+            omega (arith, and-step f (s - 1), ap (bitAnd (f / 2)) q, part-half f s e)
         go (no o) =
             let q : (s - 1) / 2 ≡ s / 2 - 1 = omega arith in
             omega (
               arith,
               and-step f (s - 1),
               ap (bitAnd (f / 2)) q,
-              odd f t d,
-              ih (s / 2) (t / 2) (half f s e) (half f t d) (omega arith),
+              part-odd f t d,
+              ih (s / 2) (t / 2) (part-half f s e) (part-half f t d) (omega arith),
             )

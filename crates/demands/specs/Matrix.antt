@@ -18,7 +18,7 @@ use Rattle.block.specs.Basis.{span, columns, apply, basisOf, sigmaOf}
 use Rattle.block.specs.Refusals.{dependent}
 use Rattle.matrix.specs.Linear.{apply-bit}
 use Rattle.matrix.specs.Candidate.{basis-independent}
-use Rattle.matrix.specs.Inverse.{length-inverse, columns-kernel, inverse-lt, sigma-columns, columns-sigma, inverse-unique, inverse-unique-right}
+use Rattle.matrix.specs.Inverse.{length-sigma, columns-kernel, inverse-lt, sigma-columns, columns-sigma, inverse-unique, inverse-unique-right}
 
 -- a row that is an XOR of earlier rows has parity 0 wherever they all have
 span-parity : (s : ℕ → ℕ) (k t x : ℕ) → span s k t ≡ true → ((i : ℕ) → i < k → parity (bitAnd (s i) x) ≡ 0) → parity (bitAnd t x) ≡ 0
@@ -45,8 +45,7 @@ module _ (f : ℕ → ℕ) (n w : ℕ) (hw : 1 ≤ w) where
 
   -- sigma has n rows of n bits
   pub sigma-length : length (sigmaOf f n w) ≡ n
-  unfolding sigmaOf
-  sigma-length = length-inverse (at (basisOf f n w)) n
+  sigma-length = length-sigma f n w
 
   pub sigma-lt : (j : ℕ) → j < n → at (sigmaOf f n w) j < 2 ^ n
   unfolding sigmaOf

@@ -11,7 +11,8 @@ use lib.Dec.{eqb}
 use lib.ListN.{length, getD, drop, length-append}
 use lib.Seq.{drop-drop, getD-append-seam}
 use Rattle.slices.specs.Places.{at}
-use Rattle.block.specs.Text.{lines, onto, lineAt, every}
+use Rattle.slices.specs.Filled.{length-tab}
+use Rattle.block.specs.Text.{lines, onto, lineAt, every, headNumber, rowsIn}
 use Rattle.lines.specs.Tests.{both}
 
 -- the first line, with its LF where it has one
@@ -119,3 +120,8 @@ front-rest (b ∷ bs) = go (eqb b 10) refl (front-rest bs)
 
 pub front-le : (s : List ℕ) → length (front s) ≤ length s
 front-le s = omega (arith, length-append (front s) (drop (length (front s)) s), ap length (front-rest s))
+
+-- a text says as many rows as its third heading
+pub rows-count : (text : List ℕ) → length (rowsIn text) ≡ headNumber text 2
+unfolding rowsIn
+rows-count text = length-tab (headNumber text 2) _

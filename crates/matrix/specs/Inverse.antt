@@ -16,7 +16,7 @@ use Rattle.slices.specs.Least.{first-is}
 use Rattle.block.specs.Measure.{shift}
 use Rattle.block.specs.Basis.{columns, apply, inverse, basisOf, sigmaOf}
 use Rattle.block.specs.Rows.{reached}
-use Rattle.choice.specs.Chosen.{pick, basis-at}
+use Rattle.choice.specs.Chosen.{pick, basis-at, length-chosen}
 use Rattle.matrix.specs.Linear.{digits-below, digits-bit, linear-zero, linear-undoes, apply-lt, apply-cong, apply-unit, rows-unique, columns-lt}
 use Rattle.matrix.specs.Reached.{Independent, Coordinates, reached-linear, returned, reaches}
 use Rattle.matrix.specs.Reach.{reachRows, reach-apply, reach-cong, reach-lt}
@@ -26,6 +26,15 @@ use Rattle.matrix.specs.Candidate.{basis-independent}
 pub length-inverse : (c : ℕ → ℕ) (n : ℕ) → length (inverse c n) ≡ n
 unfolding inverse
 length-inverse c n = length-tab n _
+
+-- the basis of a block has n numbers, and so has sigma
+pub length-basis : (f : ℕ → ℕ) (n w : ℕ) → length (basisOf f n w) ≡ n
+unfolding basisOf
+length-basis f n w = length-chosen (shift f n) n w n
+
+pub length-sigma : (f : ℕ → ℕ) (n w : ℕ) → length (sigmaOf f n w) ≡ n
+unfolding sigmaOf
+length-sigma f n w = length-inverse (at (basisOf f n w)) n
 
 module _ (c : ℕ → ℕ) (n : ℕ) (i : Independent c n n) where
   all : Coordinates n c n

@@ -12,6 +12,7 @@ use lib.Dec.{eqb, T, eqb→eq}
 use lib.Arith.{lt-one}
 use lib.Bits.{bitAnd, bitXor, and-le-l}
 use Rattle.bits.specs.Xor.{dig-ext, xor-half, and-half, xor-odd, and-odd}
+use Rattle.bits.specs.Parts.{part-half, part-odd}
 use Rattle.sums.specs.Sums.{sum, one, count}
 use Rattle.sums.specs.Laws.{sum-cong, sum-mul, sum-pairs, one-and}
 use Rattle.block.specs.Words.{under}
@@ -132,12 +133,6 @@ fits-position m₁ v₁ m₂ v₂ t a b c d e p q =
 
 -- ---- a pair is a count of points
 
-halves-in : (m v : ℕ) → bitAnd m v ≡ v → bitAnd (m / 2) (v / 2) ≡ v / 2
-halves-in m v h = sym (and-half m v) ∙ ap (λ (x : ℕ). x / 2) h
-
-digits-in : (m v : ℕ) → bitAnd m v ≡ v → min (m % 2) (v % 2) ≡ v % 2
-digits-in m v h = sym (and-odd m v) ∙ ap (λ (x : ℕ). x % 2) h
-
 even-half : (y : ℕ) → y * 2 / 2 ≡ y
 even-half y = omega arith
 
@@ -159,7 +154,7 @@ above m₁ v₁ m₂ v₂ t y h k =
     (sym (mul-add _ _ _)
     ∙ ap (λ (x : ℕ). one (both (m₁ / 2) (v₁ / 2) (m₂ / 2) (v₂ / 2) (t / 2) y) * x)
     (fits-position (m₁ % 2) (v₁ % 2) (m₂ % 2) (v₂ % 2) (t % 2) (omega arith) (omega arith) (omega arith) (omega arith) (omega arith)
-    (digits-in m₁ v₁ h) (digits-in m₂ v₂ k)))
+    (part-odd m₁ v₁ h) (part-odd m₂ v₂ k)))
 
 positions-count : (n m₁ v₁ m₂ v₂ t : ℕ) → m₁ < 2 ^ n → m₂ < 2 ^ n → t < 2 ^ n → bitAnd m₁ v₁ ≡ v₁ → bitAnd m₂ v₂ ≡ v₂
     → count (both m₁ v₁ m₂ v₂ t) (2 ^ n) ≡ positions n m₁ v₁ m₂ v₂ t
@@ -172,8 +167,8 @@ positions-count (suc n) m₁ v₁ m₂ v₂ t a b c h k =
     ∙ sum-mul (λ y. one (both (m₁ / 2) (v₁ / 2) (m₂ / 2) (v₂ / 2) (t / 2) y)) (position (m₁ % 2) (v₁ % 2) (m₂ % 2) (v₂ % 2) (t % 2))
     (2 ^ n)
     ∙ ap (λ (x : ℕ). x * position (m₁ % 2) (v₁ % 2) (m₂ % 2) (v₂ % 2) (t % 2))
-    (positions-count n (m₁ / 2) (v₁ / 2) (m₂ / 2) (v₂ / 2) (t / 2) (omega arith) (omega arith) (omega arith) (halves-in m₁ v₁ h)
-    (halves-in m₂ v₂ k)))
+    (positions-count n (m₁ / 2) (v₁ / 2) (m₂ / 2) (v₂ / 2) (t / 2) (omega arith) (omega arith) (omega arith) (part-half m₁ v₁ h)
+    (part-half m₂ v₂ k)))
 
 -- what a pair adds is the number of points x under the first row with x XOR t under the second
 pub pair-count : (n : ℕ) (r s : Row) (t : ℕ) → Sound n r → Sound n s → t < 2 ^ n → count (meets r s t) (2 ^ n) ≡ pair n r s t

@@ -20,16 +20,6 @@ zeros = replicate 513 0
 abbrev pub zeroRow : Row
 zeroRow = row 0 0 0
 
--- the parts of a row
-abbrev pub maskOf : Row → ℕ
-maskOf r = r .mask
-
-abbrev pub valuesOf : Row → ℕ
-valuesOf r = r .values
-
-abbrev pub wordOf : Row → ℕ
-wordOf r = r .word
-
 -- the first m records of a list, copied out
 pub record Gathered (rs : List Row) (m : ℕ) (f : FlatRows) : Type 0 where
   pub of-masks : Copied 0 (λ k. rowAt rs k .mask) m zeros (f .masks)

@@ -22,7 +22,8 @@ use Rattle.block.specs.declared.RowMethodAnswer.{RowMethodAnswer}
 use Rattle.verdicts.specs.Verdicts.{answered-clear}
 use Rattle.checks.specs.Sizes.{inside}
 use Rattle.record_work.specs.declared.FlatRows.{FlatRows}
-use Rattle.record_work.specs.Flat.{Sized, maskOf, valuesOf, wordOf}
+use Rattle.lines.specs.ByPlace.{maskPart, valuesPart, wordPart}
+use Rattle.record_work.specs.Flat.{Sized}
 use Rattle.record_work.specs.Yielded.{Yielded, yields}
 
 -- ---- the room counts only up to 512 places
@@ -84,9 +85,9 @@ pub method-yields : (n k w : ℕ) (rs : List Row) (a b room least : ℕ) (f : Fl
     (basis basis′ sigma sigma′ masks values words : List ℕ) → Sized f → room ≤ 513 → least ≡ room → r ≡ rowMethod n k w rs a b least
     → basis′ ≡ stored (rowMethodVerdict n k w rs a b least) (basisOf (ofRows rs) n w) basis
     → sigma′ ≡ stored (rowMethodVerdict n k w rs a b least) (sigmaOf (ofRows rs) n w) sigma
-    → masks ≡ stored (rowMethodVerdict n k w rs a b least) (map maskOf (smallerList n w rs)) (take room (f .masks))
-    → values ≡ stored (rowMethodVerdict n k w rs a b least) (map valuesOf (smallerList n w rs)) (take room (f .values))
-    → words ≡ stored (rowMethodVerdict n k w rs a b least) (map wordOf (smallerList n w rs)) (take room (f .words))
+    → masks ≡ stored (rowMethodVerdict n k w rs a b least) (map maskPart (smallerList n w rs)) (take room (f .masks))
+    → values ≡ stored (rowMethodVerdict n k w rs a b least) (map valuesPart (smallerList n w rs)) (take room (f .values))
+    → words ≡ stored (rowMethodVerdict n k w rs a b least) (map wordPart (smallerList n w rs)) (take room (f .words))
     → (r ≡ rowMethod n k w rs a b room)
     × ((basis′ ≡ stored (rowMethodVerdict n k w rs a b room) (basisOf (ofRows rs) n w) basis)
     × ((sigma′ ≡ stored (rowMethodVerdict n k w rs a b room) (sigmaOf (ofRows rs) n w) sigma)
@@ -98,9 +99,9 @@ method-yields n k w rs a b room least f r basis basis′ sigma sigma′ masks va
     (
       e₂ ∙ ap (λ (q : ℕ). stored (verdictAt q) (sigmaOf (ofRows rs) n w) sigma) same,
       yields (verdictAt room) (smallerList n w rs) room (r .count) f masks values words z h (ap (λ (x : RowMethodAnswer). x .count) told ∙ method-count n k w rs a b room)
-          (smaller-fits n k w rs a b room) (e₃ ∙ ap (λ (q : ℕ). stored (verdictAt q) (map maskOf (smallerList n w rs)) (take room (f .masks))) same)
-          (e₄ ∙ ap (λ (q : ℕ). stored (verdictAt q) (map valuesOf (smallerList n w rs)) (take room (f .values))) same)
-          (e₅ ∙ ap (λ (q : ℕ). stored (verdictAt q) (map wordOf (smallerList n w rs)) (take room (f .words))) same),
+          (smaller-fits n k w rs a b room) (e₃ ∙ ap (λ (q : ℕ). stored (verdictAt q) (map maskPart (smallerList n w rs)) (take room (f .masks))) same)
+          (e₄ ∙ ap (λ (q : ℕ). stored (verdictAt q) (map valuesPart (smallerList n w rs)) (take room (f .values))) same)
+          (e₅ ∙ ap (λ (q : ℕ). stored (verdictAt q) (map wordPart (smallerList n w rs)) (take room (f .words))) same),
     ),
   ),
 )

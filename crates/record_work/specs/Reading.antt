@@ -9,17 +9,18 @@ use native.Mathlib.Omega.{arith}
 use borrow.Author.Tests.{lt-ltb, le-ltb, ltb-false}
 use lib.Dec.{ltb}
 use lib.ListN.{length, take, drop}
-use Rattle.slices.specs.Filled.{length-tab}
 use Rattle.block.specs.Limits.{listInputs, givenRows}
 use Rattle.block.specs.Refusals.{Check, check, verdict, answered, carried, stored, outside, sizeChecks}
-use Rattle.block.specs.Text.{headNumber, faulty, readVerdict, readText, rowsIn, rowOn, lineAt, numbers}
+use Rattle.block.specs.Text.{headNumber, faulty, readVerdict, readText, rowsIn, numbers}
 use Rattle.block.specs.declared.Answer.{Answer}
 use Rattle.block.specs.declared.ReadAnswer.{ReadAnswer}
 use Rattle.block.specs.declared.Reading.{Reading}
 use Rattle.verdicts.specs.Verdicts.{answered-clear}
 use Rattle.checks.specs.Sizes.{inside}
 use Rattle.record_work.specs.declared.FlatRows.{FlatRows}
-use Rattle.record_work.specs.Flat.{Sized, maskOf, valuesOf, wordOf}
+use Rattle.lines.specs.Front.{rows-count}
+use Rattle.lines.specs.ByPlace.{maskPart, valuesPart, wordPart}
+use Rattle.record_work.specs.Flat.{Sized}
 use Rattle.record_work.specs.Cut.{past}
 use Rattle.record_work.specs.Yielded.{Yielded, yields}
 
@@ -76,10 +77,6 @@ read-text-cut text room = ap (answerOf text) (read-cut text room)
 
 -- ---- on 0 there is room for the rows
 
-rows-in : (text : List ℕ) → length (rowsIn text) ≡ headNumber text 2
-unfolding rowsIn
-rows-in text = length-tab (headNumber text 2) (λ i. rowOn (headNumber text 0) (headNumber text 1) (lineAt text (3 + i)))
-
 room-enough : (text : List ℕ) (room : ℕ) → answered (readVerdict text room) ≡ true → length (rowsIn text) ≤ room
 unfolding readVerdict
 room-enough text room e =
@@ -93,27 +90,27 @@ room-enough text room e =
     ∷ check (ltb (faulty text (5 + p)) (5 + p)) 10 (suc (faulty text (5 + p))) 0
     ∷ [])) (refl, (refl, (refl, (refl, (refl, (refl, tt)))))) e in
     let l : p ≤ room = ltb-false room p (clear 4 (omega arith)) in
-    omega (arith, rows-in text)
+    omega (arith, rows-count text)
 
 count-of : (text : List ℕ) (room : ℕ) → readText text room .count ≡ carried (readVerdict text room) (length (rowsIn text))
 unfolding readText
-count-of text room = ap (λ (p : ℕ). carried (readVerdict text room) p) (sym (rows-in text))
+count-of text room = ap (λ (p : ℕ). carried (readVerdict text room) p) (sym (rows-count text))
 
 -- ---- from flat slices; `room` is theirs
 
 pub read-yields : (text : List ℕ) (m room : ℕ) (f : FlatRows) (r : Reading) (count : ℕ) (masks values words : List ℕ)
     → Sized f → m ≤ 513 → room ≡ m → numbers r ≡ readText text room → count ≡ numbers r .count
-    → masks ≡ stored (readVerdict text room) (map maskOf (rowsIn text)) (take m (f .masks))
-    → values ≡ stored (readVerdict text room) (map valuesOf (rowsIn text)) (take m (f .values))
-    → words ≡ stored (readVerdict text room) (map wordOf (rowsIn text)) (take m (f .words))
+    → masks ≡ stored (readVerdict text room) (map maskPart (rowsIn text)) (take m (f .masks))
+    → values ≡ stored (readVerdict text room) (map valuesPart (rowsIn text)) (take m (f .values))
+    → words ≡ stored (readVerdict text room) (map wordPart (rowsIn text)) (take m (f .words))
     → (numbers r ≡ readText text m)
     × Yielded (readVerdict text m) (rowsIn text) m (record { masks = masks ++ drop m (f .masks); values = values ++ drop m (f .values); words = words ++ drop m (f .words) }) count
 read-yields text m room f r count masks values words z h same e c e₁ e₂ e₃ = (
   told,
   yields (readVerdict text m) (rowsIn text) m count f masks values words z h (c ∙ ap (λ (x : ReadAnswer). x .count) told ∙ count-of text m)
-      (room-enough text m) (e₁ ∙ ap (λ (q : ℕ). stored (readVerdict text q) (map maskOf (rowsIn text)) (take m (f .masks))) same)
-      (e₂ ∙ ap (λ (q : ℕ). stored (readVerdict text q) (map valuesOf (rowsIn text)) (take m (f .values))) same)
-      (e₃ ∙ ap (λ (q : ℕ). stored (readVerdict text q) (map wordOf (rowsIn text)) (take m (f .words))) same),
+      (room-enough text m) (e₁ ∙ ap (λ (q : ℕ). stored (readVerdict text q) (map maskPart (rowsIn text)) (take m (f .masks))) same)
+      (e₂ ∙ ap (λ (q : ℕ). stored (readVerdict text q) (map valuesPart (rowsIn text)) (take m (f .values))) same)
+      (e₃ ∙ ap (λ (q : ℕ). stored (readVerdict text q) (map wordPart (rowsIn text)) (take m (f .words))) same),
 )
   where
     told : numbers r ≡ readText text m

@@ -15,7 +15,8 @@ use Rattle.block.specs.Refusals.{answered, carried, stored, rowAt}
 use Rattle.block.specs.declared.Row.{Row}
 use Rattle.block.specs.declared.Answer.{Answer}
 use Rattle.record_work.specs.declared.FlatRows.{FlatRows}
-use Rattle.record_work.specs.Flat.{Scattered, Sized, flatAt, zeroRow, maskOf, valuesOf, wordOf}
+use Rattle.lines.specs.ByPlace.{maskPart, valuesPart, wordPart}
+use Rattle.record_work.specs.Flat.{Scattered, Sized, flatAt, zeroRow}
 
 -- with the verdict v and the rows s: on 0 the first `count` rows of the arrays are s, and there is room for them; with a refusal there
 -- are none
@@ -59,8 +60,8 @@ stored-at p s m l after z e h few d k b =
 
 -- where the answer is 0, there is room for the rows
 pub yields : (v : Answer) (s : List Row) (m count : ℕ) (f : FlatRows) (masks values words : List ℕ) → Sized f → m ≤ 513
-    → count ≡ carried v (length s) → (answered v ≡ true → length s ≤ m) → masks ≡ stored v (map maskOf s) (take m (f .masks))
-    → values ≡ stored v (map valuesOf s) (take m (f .values)) → words ≡ stored v (map wordOf s) (take m (f .words))
+    → count ≡ carried v (length s) → (answered v ≡ true → length s ≤ m) → masks ≡ stored v (map maskPart s) (take m (f .masks))
+    → values ≡ stored v (map valuesPart s) (take m (f .values)) → words ≡ stored v (map wordPart s) (take m (f .words))
     → Yielded v s m (record { masks = masks ++ drop m (f .masks); values = values ++ drop m (f .values); words = words ++ drop m (f .words) }) count
 yields v s m count f masks values words z h n fits e₁ e₂ e₃ = go (answered v) refl
   where
@@ -76,9 +77,9 @@ yields v s m count f masks values words z h n fits e₁ e₂ e₃ = go (answered
           most = omega arith;
           within = omega arith;
           rows = λ k b i.
-              row (stored-at maskOf s m (f .masks) masks refl (z .masks) h few (e₁ ∙ ap (λ (b : Bool). cond b (over (map maskOf s) (take m (f .masks))) (take m (f .masks))) e) k (omega arith) i)
-              (stored-at valuesOf s m (f .values) values refl (z .values) h few (e₂ ∙ ap (λ (b : Bool). cond b (over (map valuesOf s) (take m (f .values))) (take m (f .values))) e) k (omega arith) i)
-              (stored-at wordOf s m (f .words) words refl (z .words) h few (e₃ ∙ ap (λ (b : Bool). cond b (over (map wordOf s) (take m (f .words))) (take m (f .words))) e) k (omega arith) i);
+              row (stored-at maskPart s m (f .masks) masks refl (z .masks) h few (e₁ ∙ ap (λ (b : Bool). cond b (over (map maskPart s) (take m (f .masks))) (take m (f .masks))) e) k (omega arith) i)
+              (stored-at valuesPart s m (f .values) values refl (z .values) h few (e₂ ∙ ap (λ (b : Bool). cond b (over (map valuesPart s) (take m (f .values))) (take m (f .values))) e) k (omega arith) i)
+              (stored-at wordPart s m (f .words) words refl (z .words) h few (e₃ ∙ ap (λ (b : Bool). cond b (over (map wordPart s) (take m (f .words))) (take m (f .words))) e) k (omega arith) i);
         }
     go false e =
         let none : count ≡ 0 = n ∙ ap (λ (b : Bool). cond b (length s) 0) e in

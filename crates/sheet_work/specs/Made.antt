@@ -27,8 +27,7 @@ use Rattle.block.specs.declared.RowMethodAnswer.{RowMethodAnswer}
 use Rattle.verdicts.specs.Verdicts.{answered-clear, carried-yes, stored-yes, stored-no}
 use Rattle.checks.specs.Sizes.{inside}
 use Rattle.pairs.specs.Theorem.{shift-le}
-use Rattle.choice.specs.Chosen.{length-chosen}
-use Rattle.matrix.specs.Inverse.{length-inverse}
+use Rattle.matrix.specs.Inverse.{length-basis, length-sigma}
 use Rattle.listing.specs.Listing.{rowsFrom}
 use Rattle.puts.specs.Puts.{Put, put-over}
 use Rattle.row_work.specs.Method.{MethodDone}
@@ -90,15 +89,6 @@ rows-over rs m v d =
       over-map-at (λ (r : Row). r .word) rs d (row 0 0 0) i h,
     ))
     ∙ tab-list (row 0 0 0) rs
-
-module _ (f : ℕ → ℕ) (n w : ℕ) where
-  pub length-basis : length (basisOf f n w) ≡ n
-  unfolding basisOf
-  length-basis = length-chosen (shift f n) n w n
-
-  pub length-sigma : length (sigmaOf f n w) ≡ n
-  unfolding sigmaOf
-  length-sigma = length-inverse (at (basisOf f n w)) n
 
 -- a sheet of equal parts
 same-sheet : (n k w : ℕ) {x x′ y y′ : ℕ} {cs cs′ ss ss′ : List ℕ} {rs rs′ : List Row} → x ≡ x′ → y ≡ y′ → cs ≡ cs′ → ss ≡ ss′ → rs ≡ rs′

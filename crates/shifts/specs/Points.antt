@@ -2,7 +2,7 @@
 use mathlib.Core.Path.{_≡_, refl, sym, ap, _∙_}
 use mathlib.Core.Bool.{Bool, true, false, not, _&&_, and-false}
 use mathlib.Core.List.{List}
-use Prim.Native.Nat.{ℕ, _^_, _≤_, _<_}
+use Prim.Native.Nat.{ℕ, _<_}
 use native.Mathlib.Omega.{arith}
 use borrow.Author.Tests.{eq-eqb, ne-eqb}
 use lib.Bits.{bitXor}
@@ -12,9 +12,8 @@ use lib.Pow.{pow-mono}
 use Rattle.slices.specs.Places.{at}
 use Rattle.slices.specs.Filled.{getD-any}
 use Rattle.sums.specs.Sums.{one}
-use Rattle.sums.specs.Laws.{count-le}
 use Rattle.block.specs.Words.{none, ofTable}
-use Rattle.block.specs.Measure.{same, shift}
+use Rattle.block.specs.Measure.{same}
 
 module _ (table : List ℕ) (t x : ℕ) (hx : x < length table) where
   -- no output at x
@@ -35,8 +34,3 @@ module _ (table : List ℕ) (t x : ℕ) (hx : x < length table) where
     unfolding same
     same-hit h e =
         rw (getD-any table none 0 x hx, getD-any table none 0 (bitXor x t) hy, e, ne-eqb (at table x) none h, eq-eqb (at table x) (at table x) refl)
-
--- R is at most the number of points
-pub shift-le : (f : ℕ → ℕ) (n t : ℕ) → shift f n t ≤ 2 ^ n
-unfolding shift
-shift-le f n t = count-le (same f t) (2 ^ n)

@@ -9,7 +9,7 @@ use borrow.Author.Tests.{eq-eqb, ne-eqb, le-ltb}
 use lib.ListN.{length, getD, take, drop, length-map, List·getD-map}
 use lib.Seq.{take-at}
 use Rattle.slices.specs.Places.{at}
-use Rattle.slices.specs.Filled.{length-tab, tab-cong, tab-list}
+use Rattle.slices.specs.Filled.{tab-cong, tab-list}
 use Rattle.block.specs.Limits.{sheetRoom, givenRows}
 use Rattle.block.specs.Words.{row, rowsOf}
 use Rattle.block.specs.Refusals.{answer, verdict, stored}
@@ -28,6 +28,7 @@ use Rattle.block.specs.declared.Reading.the-variants.{Accepted, Refused}
 use Rattle.verdicts.specs.Verdicts.{answered-clear, carried-yes, stored-yes, stored-no}
 use Rattle.checks.specs.Sizes.{inside}
 use Rattle.listing.specs.Listing.{rowsFrom, rows-of}
+use Rattle.lines.specs.Front.{rows-count}
 use Rattle.sheet_work.specs.Work.{withSheet, sheetWork}
 use Rattle.sheet_work.specs.declared.SheetWork.{SheetWork}
 use Rattle.text_work.specs.Work.{textVerdict, sheetIn, textWork}
@@ -65,10 +66,6 @@ rows-parts rs =
       List·getD-map (λ (r : Row). r .word) rs i (row 0 0 0),
     ))
     ∙ tab-list (row 0 0 0) rs
-
-count-rows : (text : List ℕ) → length (rowsIn text) ≡ headNumber text 2
-unfolding rowsIn
-count-rows text = length-tab (headNumber text 2) _
 
 -- the verdict of a room that is long enough
 enough : (n k w : ℕ) (rs : List Row) (room : ℕ) → 17518 ≤ room → sheetVerdict n k w rs room ≡ sheetVerdict n k w rs sheetRoom
@@ -139,7 +136,7 @@ module _ (input text : List ℕ) (reading : Reading) (cut : text ≡ take 8192 i
     front f l l′ q =
         ap (take (h .count)) (q ∙ stored-yes u (map f (rowsIn text)) l zero)
         ∙ take-at (map f (rowsIn text)) (drop (length (map f (rowsIn text))) l) (h .count)
-        (length-map (rowsIn text) f ∙ count-rows text ∙ sym counted)
+        (length-map (rowsIn text) f ∙ rows-count text ∙ sym counted)
 
     -- the work of the rows in storage
     pub reader-accepted : (m v d m′ v′ d′ : List ℕ) → m′ ≡ stored u (map (λ (r : Row). r .mask) (rowsIn text)) m
