@@ -9,6 +9,7 @@ use lib.Dec.{T, eqb, eqb→eq}
 use lib.ListN.{length}
 use Rattle.bits.specs.Digits.{parity}
 use Rattle.slices.specs.Places.{tab, first}
+use Rattle.slices.specs.Tests.{and-left, and-right}
 use Rattle.sums.specs.Sums.{sum, count}
 use Rattle.block.specs.Words.{wordAt, ofTable, ofRows, row}
 use Rattle.block.specs.Measure.{same, shift, measure}
@@ -20,14 +21,6 @@ use Rattle.block.specs.Lists.{rowValueVerdict, rowValue, rowsAfter, passing, me
 use Rattle.block.specs.Text.{equal}
 use Rattle.block.specs.declared.Row.{Row}
 use Rattle.block.specs.declared.Answer.{Answer}
-
-and-left : (p q : Bool) → T (p && q) → T p
-and-left true q h = tt
-and-left false q h = h
-
-and-right : (p q : Bool) → T (p && q) → T q
-and-right true q h = h
-and-right false q h = absurd h
 
 -- lists that the test finds equal are equal
 equal-same : (a b : List ℕ) → T (equal a b) → a ≡ b

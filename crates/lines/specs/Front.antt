@@ -1,10 +1,10 @@
 -- The lines of a text by its first line: `front` cuts it off, and every line is the front of what follows those before it. A list
--- that stands in a text, and a line that does is its front. Assumes nothing.
+-- that stands in a text, and a line that does is its front. How many rows a text says, and how many bytes rows have. Assumes nothing.
 use mathlib.Core.Path.{_≡_, refl, sym, ap, _∙_}
 use mathlib.Core.Bool.{Bool, true, false, not, cond}
 use mathlib.Core.List.{List, [], _∷_, _++_}
-use Prim.Native.Nat.{ℕ, zero, suc, _+_, _≤_, _<_}
-use native.Mathlib.Nat.{zero-add}
+use Prim.Native.Nat.{ℕ, zero, suc, _+_, _*_, _≤_, _<_}
+use native.Mathlib.Nat.{zero-add, mul-le-mul}
 use native.Mathlib.Omega.{arith}
 use borrow.Author.Tests.{eq-eqb, eqb-true, not-true}
 use lib.Dec.{eqb}
@@ -12,8 +12,8 @@ use lib.ListN.{length, getD, drop, length-append}
 use lib.Seq.{drop-drop, getD-append-seam}
 use Rattle.slices.specs.Places.{at}
 use Rattle.slices.specs.Filled.{length-tab}
+use Rattle.slices.specs.Tests.{and-both}
 use Rattle.block.specs.Text.{lines, onto, lineAt, every, headNumber, rowsIn}
-use Rattle.lines.specs.Tests.{both}
 
 -- the first line, with its LF where it has one
 unfoldable pub front : List ℕ → List ℕ
@@ -101,7 +101,7 @@ stands-front b [] e h =
     absurd (omega arith)
 stands-front [] (x ∷ s) e h = rw (eq-eqb x 10 (h 0 (omega arith)))
 stands-front (y ∷ b) (x ∷ s) e h =
-    let t = both (not (eqb y 10)) (noLF b) e in
+    let t = and-both (not (eqb y 10)) (noLF b) e in
     let f : x ≡ y = h 0 (omega arith) in
     rw (f, not-true (eqb y 10) (t .0))
     (ap (λ (l : List ℕ). y ∷ l)
@@ -125,3 +125,7 @@ front-le s = omega (arith, length-append (front s) (drop (length (front s)) s), 
 pub rows-count : (text : List ℕ) → length (rowsIn text) ≡ headNumber text 2
 unfolding rowsIn
 rows-count text = length-tab (headNumber text 2) _
+
+-- so many rows of a list within the ranges have so many bytes
+pub rows-bytes-le : (n k p : ℕ) → n ≤ 16 → k ≤ 15 → p ≤ 512 → p * (n + k + 2) ≤ 16896
+rows-bytes-le n k p hn hk hp = let h : n + k + 2 ≤ 33 = omega arith in mul-le-mul hp h

@@ -12,11 +12,12 @@ use lib.Dec.{eqb, ltb}
 use lib.ListN.{length, getD, take, drop, length-append, length-take, length-drop, take-append-drop, List·getD-append}
 use lib.Seq.{take-suc, take-all, take-at, getD-drop, getD-append-seam}
 use Rattle.slices.specs.Places.{at}
+use Rattle.slices.specs.Tests.{and-both}
 use Rattle.block.specs.Text.{decimal, headLine, every, equal, numeral, numberPart, headForm}
 use Rattle.lines.specs.declared.Number.{Number}
 use Rattle.lines.specs.declared.Number.the-variants.{Value, Formless}
 use Rattle.lines.specs.ByPlace.{numberOf, numberAt, widened, leadOf, headAt}
-use Rattle.lines.specs.Tests.{both, not-both, equal-true, equal-same}
+use Rattle.lines.specs.Tests.{not-both, equal-true, equal-same}
 use Rattle.lines.specs.Front.{front, Stands, front-stands, stands-front, noLF}
 use Rattle.lines.specs.Numerals.{valueOf, one-digit, two-digits, three-digits, numeral-written, written-numeral, numeral-noLF, numeral-length}
 
@@ -30,8 +31,8 @@ pub form-written : (letter : ℕ) (l : List ℕ) → headForm letter l ≡ true
     → (l ≡ headLine letter (valueOf (numberPart l))) × (valueOf (numberPart l) < 1000)
 unfolding headForm headLine
 form-written letter l e =
-    let h = both (equal (take 3 l) (46 ∷ letter ∷ 32 ∷ [])) (numeral (numberPart l) && eqb (getD l (length l - 1) 0) 10) e in
-    let d = both (numeral (numberPart l)) (eqb (getD l (length l - 1) 0) 10) (h .1) in
+    let h = and-both (equal (take 3 l) (46 ∷ letter ∷ 32 ∷ [])) (numeral (numberPart l) && eqb (getD l (length l - 1) 0) 10) e in
+    let d = and-both (numeral (numberPart l)) (eqb (getD l (length l - 1) 0) 10) (h .1) in
     let w = numeral-written (numberPart l) (d .0) in
     let n = numeral-length (numberPart l) (d .0) in
     let a = length-take (length l - 4) (drop 3 l) in

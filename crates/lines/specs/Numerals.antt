@@ -10,8 +10,9 @@ use borrow.Author.Tests.{lt-ltb, le-ltb, le-leb, leb-true, eqb-false, ne-eqb, no
 use lib.Dec.{eqb, leb}
 use lib.ListN.{length}
 use Rattle.slices.specs.Places.{at}
+use Rattle.slices.specs.Tests.{and-both}
 use Rattle.block.specs.Text.{digits, decimal, every, numeral, spelled}
-use Rattle.lines.specs.Tests.{both, every-at, every-all}
+use Rattle.lines.specs.Tests.{every-at, every-all}
 use Rattle.lines.specs.Front.{noLF}
 
 -- the number that digits spell
@@ -45,15 +46,15 @@ parts : (ds : List ℕ) → numeral ds ≡ true
     → (1 ≤ length ds) × (length ds ≤ 3) × (every digit ds ≡ true) × (eqb (length ds) 1 || not (eqb (at ds 0) 48) ≡ true)
 unfolding numeral digit
 parts ds e =
-    let h = both (leb 1 (length ds) && leb (length ds) 3) (every digit ds && (eqb (length ds) 1 || not (eqb (at ds 0) 48))) e in
-    let l = both (leb 1 (length ds)) (leb (length ds) 3) (h .0) in
-    let d = both (every digit ds) (eqb (length ds) 1 || not (eqb (at ds 0) 48)) (h .1) in
+    let h = and-both (leb 1 (length ds) && leb (length ds) 3) (every digit ds && (eqb (length ds) 1 || not (eqb (at ds 0) 48))) e in
+    let l = and-both (leb 1 (length ds)) (leb (length ds) 3) (h .0) in
+    let d = and-both (every digit ds) (eqb (length ds) 1 || not (eqb (at ds 0) 48)) (h .1) in
     (leb-true 1 (length ds) (l .0), leb-true (length ds) 3 (l .1), d .0, d .1)
 
 digit-at : (ds : List ℕ) → numeral ds ≡ true → (i : ℕ) → i < length ds → (48 ≤ at ds i) × (at ds i ≤ 57)
 unfolding digit
 digit-at ds e i h =
-    let d = both (leb 48 (at ds i)) (leb (at ds i) 57) (every-at digit ds (parts ds e .2) i h) in
+    let d = and-both (leb 48 (at ds i)) (leb (at ds i) 57) (every-at digit ds (parts ds e .2) i h) in
     (leb-true 48 (at ds i) (d .0), leb-true (at ds i) 57 (d .1))
 
 -- a numeral is what is written for its number

@@ -13,13 +13,14 @@ use lib.ListN.{length, take, drop, length-append, length-drop, List·getD-append
 use lib.Seq.{take-suc, length-take-le, take-append-le, drop-append-le, getD-drop, getD-take, getD-at, drop-drop}
 use Rattle.sums.specs.Sums.{one}
 use Rattle.slices.specs.Places.{at}
+use Rattle.slices.specs.Tests.{and-both}
 use Rattle.block.specs.Words.{row}
 use Rattle.block.specs.Text.{every, spelled, rowForm, rowOn}
 use Rattle.lines.specs.declared.Spelling.{Spelling}
 use Rattle.lines.specs.declared.Spelling.the-variants.{Good, Bad}
 use Rattle.lines.specs.declared.Line.the-variants.{Sound, Broken}
 use Rattle.lines.specs.ByPlace.{stepOf, spelledAt, bothOf, joinedOf, rowFrom}
-use Rattle.lines.specs.Tests.{both, every-at, every-all}
+use Rattle.lines.specs.Tests.{every-at, every-all}
 use Rattle.lines.specs.Front.{front, Stands, front-rest, front-le, stands-front, noLF}
 
 -- ---- symbols
@@ -241,9 +242,9 @@ bit-symbol b e = go (eqb b 48) (eqb b 49) (eqb b 45) e
 
 row-noLF : (s : List ℕ) (n k : ℕ) → n + 1 + k + 1 ≤ length s → rowTest n k s ≡ true → noLF (take (n + 1 + k) s) ≡ true
 row-noLF s n k h e =
-    let a = both (every symbolTest (take n s)) (eqb (at s n) 32 && (every bitTest (take k (drop (n + 1) s)) && eqb (at s (n + 1 + k)) 10)) e in
-    let b = both (eqb (at s n) 32) (every bitTest (take k (drop (n + 1) s)) && eqb (at s (n + 1 + k)) 10) (a .1) in
-    let c = both (every bitTest (take k (drop (n + 1) s))) (eqb (at s (n + 1 + k)) 10) (b .1) in
+    let a = and-both (every symbolTest (take n s)) (eqb (at s n) 32 && (every bitTest (take k (drop (n + 1) s)) && eqb (at s (n + 1 + k)) 10)) e in
+    let b = and-both (eqb (at s n) 32) (every bitTest (take k (drop (n + 1) s)) && eqb (at s (n + 1 + k)) 10) (a .1) in
+    let c = and-both (every bitTest (take k (drop (n + 1) s))) (eqb (at s (n + 1 + k)) 10) (b .1) in
     let l = length-take-le (n + 1 + k) s (omega arith) in
     every-all (λ b. not (eqb b 10)) (take (n + 1 + k) s)
     (λ i p. ap (λ (b : ℕ). not (eqb b 10)) (getD-take (n + 1 + k) s i 0 (omega arith)) ∙ go (a .0) (b .0) (c .0) i (omega arith) (decLt i n) (decLt n i))
@@ -269,9 +270,9 @@ row-noLF s n k h e =
 -- so the line is the front
 row-front : (s : List ℕ) (n k : ℕ) → n + 1 + k + 1 ≤ length s → rowTest n k s ≡ true → length (front s) ≡ n + 1 + k + 1
 row-front s n k h e =
-    let a = both (every symbolTest (take n s)) (eqb (at s n) 32 && (every bitTest (take k (drop (n + 1) s)) && eqb (at s (n + 1 + k)) 10)) e in
-    let b = both (eqb (at s n) 32) (every bitTest (take k (drop (n + 1) s)) && eqb (at s (n + 1 + k)) 10) (a .1) in
-    let c = both (every bitTest (take k (drop (n + 1) s))) (eqb (at s (n + 1 + k)) 10) (b .1) in
+    let a = and-both (every symbolTest (take n s)) (eqb (at s n) 32 && (every bitTest (take k (drop (n + 1) s)) && eqb (at s (n + 1 + k)) 10)) e in
+    let b = and-both (eqb (at s n) 32) (every bitTest (take k (drop (n + 1) s)) && eqb (at s (n + 1 + k)) 10) (a .1) in
+    let c = and-both (every bitTest (take k (drop (n + 1) s))) (eqb (at s (n + 1 + k)) 10) (b .1) in
     let l = length-take-le (n + 1 + k) s (omega arith) in
     ap length (stands-front (take (n + 1 + k) s) s (row-noLF s n k h e) (stand (eqb-true (at s (n + 1 + k)) 10 (c .1))))
     ∙ length-append (take (n + 1 + k) s) (10 ∷ [])
@@ -337,4 +338,4 @@ row-at-place s n k from =
 -- a line of row form is as long as a row
 pub row-length : (n k : ℕ) (l : List ℕ) → rowForm n k l ≡ true → length l ≡ n + 1 + k + 1
 unfolding rowForm
-row-length n k l e = eqb-true (length l) (n + 1 + k + 1) (both (eqb (length l) (n + 1 + k + 1)) (rowTest n k l) e .0)
+row-length n k l e = eqb-true (length l) (n + 1 + k + 1) (and-both (eqb (length l) (n + 1 + k + 1)) (rowTest n k l) e .0)

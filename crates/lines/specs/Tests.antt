@@ -1,4 +1,4 @@
--- What tests say together: both of two, each of a list's bytes, equal lists. Assumes nothing.
+-- What tests say together: each of a list's bytes, equal lists. Of two tests: slices' `Tests`. Assumes nothing.
 use mathlib.Core.Path.{_≡_, refl, ap₂}
 use mathlib.Core.Bool.{Bool, true, false, _&&_}
 use mathlib.Core.List.{List, [], _∷_, _++_}
@@ -8,11 +8,8 @@ use borrow.Author.Tests.{eq-eqb, eqb-true}
 use lib.Dec.{eqb}
 use lib.ListN.{length}
 use Rattle.slices.specs.Places.{at}
+use Rattle.slices.specs.Tests.{and-both}
 use Rattle.block.specs.Text.{every, equal}
-
-pub both : (a b : Bool) → a && b ≡ true → (a ≡ true) × (b ≡ true)
-both true b e = (refl, e)
-both false b e = let z : _≡_ {A = ℕ} 0 1 = cc in absurd (omega arith)
 
 -- no test is both
 pub not-both : {A : Type 0} (b : Bool) → b ≡ true → b ≡ false → A
@@ -21,8 +18,8 @@ not-both b p q = let z : _≡_ {A = ℕ} 0 1 = cc in absurd (omega arith)
 pub every-at : (p : ℕ → Bool) (l : List ℕ) → every p l ≡ true → (i : ℕ) → i < length l → p (at l i) ≡ true
 unfolding every
 every-at p [] e i h = absurd (omega arith)
-every-at p (x ∷ l) e zero h = both (p x) (every p l) e .0
-every-at p (x ∷ l) e (suc i) h = every-at p l (both (p x) (every p l) e .1) i (omega arith)
+every-at p (x ∷ l) e zero h = and-both (p x) (every p l) e .0
+every-at p (x ∷ l) e (suc i) h = every-at p l (and-both (p x) (every p l) e .1) i (omega arith)
 
 pub every-all : (p : ℕ → Bool) (l : List ℕ) → ((i : ℕ) → i < length l → p (at l i) ≡ true) → every p l ≡ true
 unfolding every
@@ -33,7 +30,7 @@ pub every-append : (p : ℕ → Bool) (a b : List ℕ) → every p a ≡ true �
 unfolding every
 every-append p [] b e f = f
 every-append p (x ∷ a) b e f =
-    let h = both (p x) (every p a) e in
+    let h = and-both (p x) (every p a) e in
     rw (h .0) (every-append p a b (h .1) f)
 
 pub equal-true : (a b : List ℕ) → equal a b ≡ true → a ≡ b
@@ -42,7 +39,7 @@ equal-true [] [] e = refl
 equal-true [] (y ∷ b) e = let z : _≡_ {A = ℕ} 0 1 = cc in absurd (omega arith)
 equal-true (x ∷ a) [] e = let z : _≡_ {A = ℕ} 0 1 = cc in absurd (omega arith)
 equal-true (x ∷ a) (y ∷ b) e =
-    let h = both (eqb x y) (equal a b) e in
+    let h = and-both (eqb x y) (equal a b) e in
     ap₂ _∷_ (eqb-true x y (h .0)) (equal-true a b (h .1))
 
 pub equal-same : (a : List ℕ) → equal a a ≡ true

@@ -15,6 +15,7 @@ use Rattle.bits.specs.Xor.{dig-ext, xor-half, and-half, xor-odd, and-odd}
 use Rattle.bits.specs.Parts.{part-half, part-odd}
 use Rattle.sums.specs.Sums.{sum, one, count}
 use Rattle.sums.specs.Laws.{sum-cong, sum-mul, sum-pairs, one-and}
+use Rattle.slices.specs.Tests.{and-left, and-right}
 use Rattle.block.specs.Words.{under}
 use Rattle.block.specs.declared.Row.{Row}
 
@@ -83,14 +84,6 @@ both-dig m₁ v₁ m₂ v₂ t x =
     rw (one-and (fit m₁ v₁ x), fit-dig m₁ v₁ x, fit-dig m₂ v₂ (bitXor x t), xor-half, xor-odd, one-and) (mul4 _ _ _ _)
 
 -- ---- facts on single digits, by trying each
-
-and-left : (p q : Bool) → T (p && q) → T p
-and-left true q h = tt
-and-left false q h = h
-
-and-right : (p q : Bool) → T (p && q) → T q
-and-right true q h = h
-and-right false q h = absurd h
 
 -- the test passes at both digits
 abbrev pub all2 : (ℕ → Bool) → Bool

@@ -15,6 +15,7 @@ use lib.Pow.{pow-pos, pow-mono}
 use Rattle.bits.specs.Xor.{eqb-turn}
 use Rattle.slices.specs.Places.{first}
 use Rattle.slices.specs.Least.{first-is, first-found, first-passes}
+use Rattle.slices.specs.Tests.{and-both}
 use Rattle.sums.specs.Sums.{count}
 use Rattle.sums.specs.Laws.{count-none, count-some}
 use Rattle.block.specs.Limits.{outputs}
@@ -27,11 +28,6 @@ use Rattle.pairs.specs.Closed.{demanded, freeBoth, pair-closed}
 use Rattle.pairs.specs.Theorem.{Every, Apart, Disjoint}
 
 -- ---- two rows
-
-and-both : (p q : Bool) → p && q ≡ true → (p ≡ true) × (q ≡ true)
-and-both true true e = (refl, refl)
-and-both true false e = absurd (false≢true e)
-and-both false q e = absurd (false≢true e)
 
 -- a point under both says that they share one
 pub share-at : (n : ℕ) (r s : Row) (x : ℕ) → x < 2 ^ n → under r x ≡ true → under s x ≡ true → share n r s ≡ true

@@ -12,6 +12,7 @@ use Rattle.block.specs.declared.Row.{Row}
 use Rattle.puts.specs.Digits.{length-bits, places-le}
 use Rattle.rowtext.specs.Length.{length-rows}
 use Rattle.sheetlines.specs.Lines.{sizesText, frontText, sheet-parts}
+use Rattle.lines.specs.Front.{rows-bytes-le}
 
 pub length-section : (name : List ℕ) (c : ℕ) → length (section name c) ≡ length name + length (decimal c) + 2
 unfolding section
@@ -78,10 +79,6 @@ columns-le name n vs h e f =
 pub table-le : (p : ℕ) → p ≤ 512 → length (section tableName p) ≤ 10
 table-le p h = omega (arith, section-le tableName p 2 (omega arith) (omega arith))
 
--- and its rows
-pub table-rows-le : (n k p : ℕ) → n ≤ 16 → k ≤ 15 → p ≤ 512 → p * (n + k + 2) ≤ 16896
-table-rows-le n k p hn hk hp = let h : n + k + 2 ≤ 33 = omega arith in mul-le-mul hp h
-
 -- a sheet within the ranges is at most 17,518 bytes
 pub sheet-le : (n k w earlier later : ℕ) (cs ss : List ℕ) (rs : List Row) → n ≤ 16 → k ≤ 15 → w ≤ 16 → earlier ≤ 1048576
     → later ≤ 1048576 → length cs ≡ n → length ss ≡ n → length rs ≤ 512 → length (sheetOf n k w earlier later cs ss rs) ≤ sheetRoom
@@ -102,5 +99,5 @@ sheet-le n k w earlier later cs ss rs hn hk hw he hl ec es hp =
       columns-le sigmaName n ss hn refl es,
       table-le (length rs) hp,
       length-rows n k rs,
-      table-rows-le n k (length rs) hn hk hp,
+      rows-bytes-le n k (length rs) hn hk hp,
     )

@@ -1,4 +1,5 @@
--- Lists by place. `Places` has the definitions; `Least` and `Filled` the laws.
+-- Lists by place. `Places` has the definitions; `Least` and `Filled` the laws; `Tests` what a test of two says.
 pub mod Places
 pub mod Least
 pub mod Filled
+pub mod Tests

@@ -18,12 +18,13 @@ use Rattle.bits.specs.Digits.{bit}
 use Rattle.bits.specs.Bit.{bit-lt, bit-ext, bit-and, bit-low, bit-high}
 use Rattle.sums.specs.Sums.{one}
 use Rattle.slices.specs.Places.{at}
+use Rattle.slices.specs.Tests.{and-both}
 use Rattle.block.specs.Refusals.{badRow}
 use Rattle.block.specs.Text.{symbols, bits, rowLine, every, spelled, rowForm, rowOn}
 use Rattle.block.specs.declared.Row.{Row}
 use Rattle.puts.specs.Digits.{length-bits, length-symbols}
 use Rattle.rowtext.specs.Length.{length-row}
-use Rattle.lines.specs.Tests.{both, every-at, every-all, every-append}
+use Rattle.lines.specs.Tests.{every-at, every-all, every-append}
 use Rattle.lines.specs.Front.{noLF}
 use Rattle.lines.specs.HeadLines.{last-apart}
 use Rattle.lines.specs.RowLines.{symbolTest, bitTest, symbol-noLF, bit-symbol, row-length}
@@ -123,7 +124,7 @@ symbols-back : (l : List ℕ) → every symbolTest l ≡ true → symbols (lengt
 unfolding symbols every
 symbols-back [] e = refl
 symbols-back (x ∷ l) e =
-    let t = both (symbolTest x) (every symbolTest l) e in
+    let t = and-both (symbolTest x) (every symbolTest l) e in
     rw (spelled-high fixed (λ b. one-lt (not (eqb b 45))) x l, spelled-high value (λ b. one-lt (eqb b 49)) x l, symbol-back x (t .0))
     (ap (λ (k : List ℕ). x ∷ k)
     (symbols-cong (length l) _ _ _ _ (spelled-low fixed x l) (spelled-low value x l) ∙ symbols-back l (t .1)))
@@ -132,7 +133,7 @@ bits-back : (l : List ℕ) → every bitTest l ≡ true → bits (length l) (spe
 unfolding bits every
 bits-back [] e = refl
 bits-back (x ∷ l) e =
-    let t = both (bitTest x) (every bitTest l) e in
+    let t = and-both (bitTest x) (every bitTest l) e in
     rw (spelled-high value (λ b. one-lt (eqb b 49)) x l, bit-back x (t .0))
     (ap (λ (k : List ℕ). x ∷ k) (bits-cong (length l) _ _ (spelled-low value x l) ∙ bits-back l (t .1)))
 
@@ -171,10 +172,10 @@ unfolding rowForm rowLine rowOn badRow
 form-row n k l e =
     let len = row-length n k l e in
     let d = length-drop (n + 1) l in
-    let a = both (eqb (length l) (n + 1 + k + 1)) (every symbolTest (take n l) && (eqb (at l n) 32 && (every bitTest (take k (drop (n + 1) l)) && eqb (at l (n + 1 + k)) 10))) e .1 in
-    let b = both (every symbolTest (take n l)) (eqb (at l n) 32 && (every bitTest (take k (drop (n + 1) l)) && eqb (at l (n + 1 + k)) 10)) a in
-    let c = both (eqb (at l n) 32) (every bitTest (take k (drop (n + 1) l)) && eqb (at l (n + 1 + k)) 10) (b .1) in
-    let f = both (every bitTest (take k (drop (n + 1) l))) (eqb (at l (n + 1 + k)) 10) (c .1) in
+    let a = and-both (eqb (length l) (n + 1 + k + 1)) (every symbolTest (take n l) && (eqb (at l n) 32 && (every bitTest (take k (drop (n + 1) l)) && eqb (at l (n + 1 + k)) 10))) e .1 in
+    let b = and-both (every symbolTest (take n l)) (eqb (at l n) 32 && (every bitTest (take k (drop (n + 1) l)) && eqb (at l (n + 1 + k)) 10)) a in
+    let c = and-both (eqb (at l n) 32) (every bitTest (take k (drop (n + 1) l)) && eqb (at l (n + 1 + k)) 10) (b .1) in
+    let f = and-both (every bitTest (take k (drop (n + 1) l))) (eqb (at l (n + 1 + k)) 10) (c .1) in
     let lx : length (take n l) ≡ n = length-take-le n l (omega arith) in
     let ly : length (take k (drop (n + 1) l)) ≡ k = length-take-le k (drop (n + 1) l) (omega arith) in
     let sx : symbols n (spelled 2 fixed 0 (take n l)) (spelled 2 value 0 (take n l)) ≡ take n l =

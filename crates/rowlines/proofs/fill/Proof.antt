@@ -6,7 +6,7 @@ use native.Mathlib.Omega.{arith}
 use borrow.Author.Needs.{needs}
 use denote.Ref.{now}
 use lib.ListN.{length, length-set}
-use Rattle.rowlines.specs.Bounds.{place-below}
+use Rattle.lines.specs.Front.{rows-bytes-le}
 use Rattle.slices.specs.Filled.{over-none, over-more}
 use Rattle.lines.specs.ByPlace.{rowFrom, rowOr, lineOf, fieldOf, maskPart, valuesPart, wordPart}
 use Rattle.slices.specs.Places.{tab, over}
@@ -34,7 +34,7 @@ loop-holds : tie.Need-loop-holds Inv-loop μ-loop
 loop-holds c = (search needs, omega arith, over-none _ _, over-none _ _, over-none _ _, refl, refl, refl)
 
 read-row-requires : tie.Need-read-row-requires Inv-loop μ-loop
-read-row-requires c κs = let a = c .before .before .before .before .before .before .args in omega (arith, place-below (a .n) (a .k) (c .before .loop .i) (omega arith) (omega arith) (omega arith))
+read-row-requires c κs = let a = c .before .before .before .before .before .before .args in omega (arith, rows-bytes-le (a .n) (a .k) (c .before .loop .i) (omega arith) (omega arith) (omega arith))
 
 row-or-requires : tie.Need-row-or-requires Inv-loop μ-loop
 row-or-requires c κs = search needs
@@ -58,7 +58,7 @@ slice-write-words : tie.Need-slice-write-words Inv-loop μ-loop
 slice-write-words c = omega arith
 
 add-from : tie.Need-add-from Inv-loop μ-loop
-add-from c = let a = c .before .before .before .before .before .before .before .before .args in omega (arith, place-below (a .n) (a .k) (c .before .before .before .loop .i) (omega arith) (omega arith) (omega arith))
+add-from c = let a = c .before .before .before .before .before .before .before .before .args in omega (arith, rows-bytes-le (a .n) (a .k) (c .before .before .before .loop .i) (omega arith) (omega arith) (omega arith))
 
 add-i : tie.Need-add-i Inv-loop μ-loop
 add-i c = omega arith

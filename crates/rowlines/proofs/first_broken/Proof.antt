@@ -7,7 +7,7 @@ use native.Mathlib.Omega.{arith}
 use borrow.Author.Needs.{needs}
 use borrow.Author.Count.{below-more}
 use denote.Ref.{now}
-use Rattle.rowlines.specs.Bounds.{place-below}
+use Rattle.lines.specs.Front.{rows-bytes-le}
 use Rattle.lines.specs.ByPlace.{lineOf, brokenLine}
 use Rattle.slices.specs.Least.{first-is}
 use Rattle.rowlines.proofs.first_broken.Tie as tie
@@ -30,7 +30,7 @@ loop-holds : tie.Need-loop-holds Inv-loop μ-loop
 loop-holds c = (search needs, omega arith, λ j h. absurd (omega arith))
 
 read-row-requires : tie.Need-read-row-requires Inv-loop μ-loop
-read-row-requires c κs = let a = c .before .before .before .args in omega (arith, place-below (a .n) (a .k) (c .before .loop .i) (omega arith) (omega arith) (omega arith))
+read-row-requires c κs = let a = c .before .before .before .args in omega (arith, rows-bytes-le (a .n) (a .k) (c .before .loop .i) (omega arith) (omega arith) (omega arith))
 
 is-broken-requires : tie.Need-is-broken-requires Inv-loop μ-loop
 is-broken-requires c κs = search needs
@@ -43,7 +43,7 @@ returns c =
     sym (first-is (a .p) (brokenLine (now (a .s)) (a .n) (a .k)) (l .i) (omega arith) (l .inv .2) (λ h. rw (← (c .before .before .before .before .loop .inv .1), ← (c .before .before .read-row .ensures), ← (c .before .is-broken .ensures)) (c .if1 .taken)))
 
 add-from : tie.Need-add-from Inv-loop μ-loop
-add-from c = let a = c .before .before .before .before .before .before .args in omega (arith, place-below (a .n) (a .k) (c .before .before .before .before .loop .i) (omega arith) (omega arith) (omega arith))
+add-from c = let a = c .before .before .before .before .before .before .args in omega (arith, rows-bytes-le (a .n) (a .k) (c .before .before .before .before .loop .i) (omega arith) (omega arith) (omega arith))
 
 add-i : tie.Need-add-i Inv-loop μ-loop
 add-i c = omega arith

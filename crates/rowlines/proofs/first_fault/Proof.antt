@@ -2,7 +2,7 @@
 use native.Mathlib.Omega.{arith}
 use borrow.Author.Needs.{needs}
 use borrow.Author.Tests.{lt-ltb, le-ltb}
-use Rattle.rowlines.specs.Bounds.{place-below}
+use Rattle.lines.specs.Front.{rows-bytes-le}
 use Rattle.lines.specs.ByPlace.{faultOf}
 use Rattle.rowlines.proofs.first_fault.Tie as tie
 use Rattle.rowlines.proofs.first_fault.Statement.{statement}
@@ -21,25 +21,25 @@ add-e-2 : tie.Need-add-e-2
 add-e-2 c = search needs
 
 mul-e : tie.Need-mul-e
-mul-e c = let a = c .before .before .before .args in omega (arith, place-below (a .n) (a .k) (a .p) (omega arith) (omega arith) (omega arith))
+mul-e c = let a = c .before .before .before .args in omega (arith, rows-bytes-le (a .n) (a .k) (a .p) (omega arith) (omega arith) (omega arith))
 
 byte-requires : tie.Need-byte-requires
 byte-requires c κs = search needs
 
 add-byte : tie.Need-add-byte
-add-byte c = let a = c .before .before .before .before .args in omega (arith, place-below (a .n) (a .k) (a .p) (omega arith) (omega arith) (omega arith))
+add-byte c = let a = c .before .before .before .before .args in omega (arith, rows-bytes-le (a .n) (a .k) (a .p) (omega arith) (omega arith) (omega arith))
 
 byte-requires-2 : tie.Need-byte-requires-2
 byte-requires-2 c κs = search needs
 
 add-byte-2 : tie.Need-add-byte-2
-add-byte-2 c = let a = c .before .before .before .before .before .args in omega (arith, place-below (a .n) (a .k) (a .p) (omega arith) (omega arith) (omega arith))
+add-byte-2 c = let a = c .before .before .before .before .before .args in omega (arith, rows-bytes-le (a .n) (a .k) (a .p) (omega arith) (omega arith) (omega arith))
 
 byte-requires-3 : tie.Need-byte-requires-3
 byte-requires-3 c κs = search needs
 
 add-end-of : tie.Need-add-end-of
-add-end-of c = let a = c .before .before .before .before .before .before .args in omega (arith, place-below (a .n) (a .k) (a .p) (omega arith) (omega arith) (omega arith))
+add-end-of c = let a = c .before .before .before .before .before .before .args in omega (arith, rows-bytes-le (a .n) (a .k) (a .p) (omega arith) (omega arith) (omega arith))
 
 end-of-requires : tie.Need-end-of-requires
 end-of-requires c κs = search needs

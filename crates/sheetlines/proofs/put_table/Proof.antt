@@ -2,7 +2,8 @@
 -- Assumes nothing.
 use Rattle.puts.specs.Puts.{then}
 use native.Mathlib.Omega.{arith}
-use Rattle.sheetlines.specs.Length.{table-le, table-rows-le}
+use Rattle.lines.specs.Front.{rows-bytes-le}
+use Rattle.sheetlines.specs.Length.{table-le}
 use borrow.Author.Needs.{needs}
 use Rattle.sheetlines.proofs.put_table.Statement.{statement}
 use Rattle.sheetlines.proofs.put_table.Tie as tie
@@ -17,7 +18,7 @@ put-rows-requires : tie.Need-put-rows-requires
 put-rows-requires c κs =
     let a = c .before .before .before .before .before .before .before .before .before .before .args in
     let h = table-le (a .count) (omega arith) in
-    let r = table-rows-le (a .n) (a .k) (a .count) (omega arith) (omega arith) (omega arith) in
+    let r = rows-bytes-le (a .n) (a .k) (a .count) (omega arith) (omega arith) (omega arith) in
     omega (arith, c .before .before .before .put-section .ensures .0 .place)
 
 same-length : tie.Need-same-length
