@@ -1,2 +1,2 @@
--- The lines after the headings: `Bounds` has the bounds that the reader's sums need, and what a refusal leaves.
-pub mod Bounds
+-- The lines after the headings: `Kept` has what a refusal leaves.
+pub mod Kept

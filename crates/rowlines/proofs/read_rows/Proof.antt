@@ -1,7 +1,7 @@
 -- `rowlines::read_rows` meets its contract: a faulty line leaves the slices alone, and where there is none they are filled. Assumes nothing.
 use borrow.Author.Needs.{needs}
 use borrow.Author.Tests.{eq-eqb}
-use Rattle.rowlines.specs.Bounds.{filled-not}
+use Rattle.rowlines.specs.Kept.{filled-not}
 use Rattle.lines.specs.ByPlace.{filledOf}
 use Rattle.rowlines.proofs.read_rows.Statement.{statement}
 use Rattle.rowlines.proofs.read_rows.Tie as tie
