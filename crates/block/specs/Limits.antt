@@ -1,5 +1,6 @@
 -- The ranges (01, Words and numbers) and the rooms (01, Numbers that come back, 5), each number once. The byte counts are sums over
--- n, k and the number of rows. Not here: how many bytes a text has, which follows from `Text` and `Sheet`. Assumes nothing.
+-- n, k and the number of rows. src/lib.rt has the same limits as constants of the code. Not here: how many bytes a text has, which
+-- follows from `Text` and `Sheet`. Assumes nothing.
 use Prim.Native.Nat.{ℕ, _+_, _*_}
 
 -- inputs of a list, of row text and of a sheet
@@ -34,3 +35,7 @@ textRoom = 6 + 6 + 7 + givenRows * rowBytes listInputs outputs + 3
 abbrev pub sheetRoom : ℕ
 sheetRoom =
     8 + (7 + 3 * 3) + (10 + 2 * 8) + 2 * (9 + listInputs * (listInputs + 1)) + (10 + smallerRows * rowBytes listInputs outputs)
+
+-- the bytes that the program reads
+abbrev pub readBytes : ℕ
+readBytes = 8192

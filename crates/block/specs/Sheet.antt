@@ -5,7 +5,7 @@ use mathlib.Core.List.{List, [], _∷_, _++_}
 use Prim.Native.Nat.{ℕ, zero, suc, min}
 use lib.Dec.{ltb}
 use lib.ListN.{length, take}
-use Rattle.block.specs.Limits.{sheetRoom, givenRows}
+use Rattle.block.specs.Limits.{sheetRoom, givenRows, readBytes}
 use Rattle.block.specs.Words.{ofRows}
 use Rattle.block.specs.Measure.{measure}
 use Rattle.block.specs.Basis.{basisOf, sigmaOf, smallerOf}
@@ -90,5 +90,5 @@ printedList n k rs = orRefused (sheetVerdict n k (min 3 n) rs sheetRoom) (sheetT
 -- what is printed for the text read, at most 8,192 bytes of it
 unfoldable pub printed : List ℕ → List ℕ
 printed input =
-    let text : List ℕ = take 8192 input in
+    let text : List ℕ = take readBytes input in
     orRefused (readVerdict text givenRows) (printedList (headNumber text 0) (headNumber text 1) (rowsIn text))

@@ -1,6 +1,30 @@
 // The meaning of 01: the types that callers and answers share, and in specs/ every definition that a contract cites, one file for
 // each section of 01. This crate has no functions. What is proved about the definitions stands in the crates above it.
 
+// ---- the limits of specs/Limits.antt, for code: arrays have these lengths, and a proof holds each beside the limit that a contract cites
+
+pub const LIST_INPUTS: usize = 16;
+
+pub const TABLE_INPUTS: usize = 12;
+
+pub const OUTPUTS: usize = 15;
+
+pub const GIVEN_ROWS: usize = 128;
+
+pub const SMALLER_ROWS: usize = 512;
+// 2^16 and 2^12
+pub const LIST_POINTS: usize = 65536;
+
+pub const TABLE_POINTS: usize = 4096;
+
+pub const TEXT_ROOM: usize = 4246;
+
+pub const SHEET_ROOM: usize = 17518;
+// the bytes that the program reads
+pub const READ_BYTES: usize = 8192;
+
+// ---- rows and answers
+
 // A row: the mask of its fixed inputs, their values, and its output word.
 #[repr(C)]
 pub struct Row {
