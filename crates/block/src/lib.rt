@@ -12,6 +12,7 @@ pub const OUTPUTS: usize = 15;
 pub const GIVEN_ROWS: usize = 128;
 
 pub const SMALLER_ROWS: usize = 512;
+
 // 2^16 and 2^12
 pub const LIST_POINTS: usize = 65536;
 
@@ -20,6 +21,7 @@ pub const TABLE_POINTS: usize = 4096;
 pub const TEXT_ROOM: usize = 4246;
 
 pub const SHEET_ROOM: usize = 17518;
+
 // the bytes that the program reads
 pub const READ_BYTES: usize = 8192;
 
