@@ -2,6 +2,10 @@
 // the counts at the end. What is said of a list and written for it is promised by `import_text` of the crate importing; what the system
 // does no contract says. All functions here are inner: a program calls `import_all`. What became of a file is a number: 0 for a sheet,
 // 1 refused, 2 can't be read, 3 can't be written, 4 passed over.
+use block::READ_BYTES;
+use block::SHEET_ROOM;
+use import_lines::LINE_ROOM;
+use import_paths::NAME_MOST;
 use import_says::say_name;
 use import_says::say_why;
 use libc::STDERR_FILENO;
@@ -11,10 +15,11 @@ use saying::say;
 ghost use Prim.Native.Nat.{_≤_};
 ghost use lib.ListN.{length};
 ghost use Rattle.io.specs.Counts.{Counts};
+ghost use Rattle.import_paths.specs.Path.{nameMost};
 
 // Ends a line with what became of an older sheet, which must not look current.
 pub fn end_line(name: &[u8])
-    requires { ⌜ length (now name) ≤ 4060 ⌝ }
+    requires { ⌜ length (now name) ≤ nameMost ⌝ }
 {
     let aside = import_files::set_aside(name);
     import_says::say_aside(name, aside.error, aside.k);
@@ -23,11 +28,11 @@ pub fn end_line(name: &[u8])
 
 // Works out the list that a file held.
 pub fn import_list(name: &[u8], text: &[u8]) -> usize
-    requires { ⌜ length (now name) ≤ 4060 ⌝ }
+    requires { ⌜ length (now name) ≤ nameMost ⌝ }
     ensures { λ r. ⌜ r ≤ 4 ⌝ }
 {
-    let mut sheet = [0u8; 17518];
-    let mut line = [0u8; 4176];
+    let mut sheet = [0u8; SHEET_ROOM];
+    let mut line = [0u8; LINE_ROOM];
     let r = importing::import_text(name, text, &mut sheet, &mut line);
     if r.number != 0 {
         say(&line[..r.length]);
@@ -60,11 +65,11 @@ pub fn import_file(name: &[u8]) -> usize
     ensures { λ r. ⌜ r ≤ 4 ⌝ }
 {
     // the names beside it must fit a path too
-    if name.len() > 4060 {
+    if name.len() > NAME_MOST {
         say_unread(name, libc::ENAMETOOLONG);
         return 2;
     }
-    let mut text = [0u8; 8192];
+    let mut text = [0u8; READ_BYTES];
     let input = import_files::read_file(name, &mut text);
     if input.error != 0 {
         say_unread(name, input.error);

@@ -1,11 +1,16 @@
 // Files of a bulk import: a list is read, its sheet is written whole or not at all, an older sheet is set aside. What the system does
 // no contract says, so these functions promise no more than that they are safe and end; the gate runs them (crate run_imports). All
 // functions here are inner. An error is the system's number for it, 0 for none.
+use import_paths::PATH_ROOM;
 use import_paths::put_path;
 ghost use Prim.Native.Nat.{_≤_};
 ghost use lib.ListN.{length};
 ghost use Rattle.io.specs.Counts.{Counts};
 ghost use Rattle.libc.specs.Io.{Ended};
+ghost use Rattle.import_paths.specs.Path.{nameMost};
+
+// How many names are tried for one file.
+pub const NAMES_TRIED: usize = 1000;
 
 // Why the last call failed: some error, even where the system names none.
 pub fn reason() -> i32 {
@@ -80,11 +85,11 @@ pub struct Made {
 
 // Makes a file under the first name of FILE.sheet.new, .new2 and so on that is not taken.
 pub fn make_file(name: &[u8]) -> Made
-    requires { ⌜ length (now name) ≤ 4060 ⌝ }
+    requires { ⌜ length (now name) ≤ nameMost ⌝ }
 {
-    let mut path = [0u8; 4096];
+    let mut path = [0u8; PATH_ROOM];
     let mut k = 1;
-    while k < 1000 {
+    while k < NAMES_TRIED {
         let length = put_path(&mut path, name, b".sheet.new", k);
         let fd = os::create(&path[..length]);
         if fd >= 0 {
@@ -105,10 +110,10 @@ pub fn make_file(name: &[u8]) -> Made
 
 // Renames a file that was filled to FILE.sheet. Where it was not filled or that fails, it is removed.
 pub fn settle_file(name: &[u8], k: usize, filled: i32) -> i32
-    requires { ⌜ length (now name) ≤ 4060 ⌝ }
+    requires { ⌜ length (now name) ≤ nameMost ⌝ }
 {
-    let mut new = [0u8; 4096];
-    let mut path = [0u8; 4096];
+    let mut new = [0u8; PATH_ROOM];
+    let mut path = [0u8; PATH_ROOM];
     let from = put_path(&mut new, name, b".sheet.new", k);
     let to = put_path(&mut path, name, b".sheet", 1);
     let mut error = filled;
@@ -125,7 +130,7 @@ pub fn settle_file(name: &[u8], k: usize, filled: i32) -> i32
 
 // Writes the sheet beside its list as FILE.sheet: to a new name first, then renamed.
 pub fn write_sheet(name: &[u8], sheet: &[u8]) -> i32
-    requires { ⌜ length (now name) ≤ 4060 ⌝ }
+    requires { ⌜ length (now name) ≤ nameMost ⌝ }
 {
     let made = make_file(name);
     if made.error != 0 {
@@ -136,7 +141,7 @@ pub fn write_sheet(name: &[u8], sheet: &[u8]) -> i32
 }
 
 // Whether no file has this name, not even a link that leads nowhere. A name that is too long for the folder is no file's.
-pub fn is_free(path: &[u8; 4096]) -> bool
+pub fn is_free(path: &[u8; PATH_ROOM]) -> bool
     requires { ⌜ Ended (now path) ⌝ }
 {
     let mut link = [0u8; 1];
@@ -165,11 +170,11 @@ pub struct Aside {
 
 // Gives an older sheet the first name of FILE.sheet.old, .old2 and so on that is not taken.
 pub fn rename_older(name: &[u8], path: &[u8]) -> Aside
-    requires { ⌜ length (now name) ≤ 4060 ⌝ }
+    requires { ⌜ length (now name) ≤ nameMost ⌝ }
 {
-    let mut older = [0u8; 4096];
+    let mut older = [0u8; PATH_ROOM];
     let mut k = 1;
-    while k < 1000 {
+    while k < NAMES_TRIED {
         let length = put_path(&mut older, name, b".sheet.old", k);
         if is_free(&older) {
             let mut error = 0;
@@ -188,10 +193,10 @@ pub fn rename_older(name: &[u8], path: &[u8]) -> Aside
 
 // Sets an older sheet of the list aside, so that it does not look current.
 pub fn set_aside(name: &[u8]) -> Aside
-    requires { ⌜ length (now name) ≤ 4060 ⌝ }
+    requires { ⌜ length (now name) ≤ nameMost ⌝ }
 {
     let none = Aside { error: 0, k: 0 };
-    let mut path = [0u8; 4096];
+    let mut path = [0u8; PATH_ROOM];
     let length = put_path(&mut path, name, b".sheet", 1);
     if is_free(&path) {
         return none;

@@ -8,6 +8,9 @@ ghost use lib.ListN.{length};
 ghost use Rattle.puts.specs.Puts.{Put};
 ghost use Rattle.import_lines.specs.Line.{shownByte, lineWords, importLine};
 
+// Room for the line of the longest name that is shown, 4,096 bytes.
+pub const LINE_ROOM: usize = 4176;
+
 // A byte of a name as it is shown. A name may hold a line's end, which would break the line it stands in.
 pub fn shown_byte(b: u8) -> u8
     ensures { λ r. ⌜ r ≡ shownByte b ⌝ }
@@ -23,9 +26,8 @@ pub fn shown_byte(b: u8) -> u8
 
 // Puts a name at the front, as it is shown.
 pub fn put_name(out: &mut [u8], name: &[u8]) -> usize
-    requires { ⌜ length (now name) ≤ length (now out) ⌝ }
+    requires { ⌜ length (map shownByte (now name)) ≤ length (now out) ⌝ }
     ensures { λ r. ⌜ Put (now (out .entry)) 0 (map shownByte (now (name .entry))) (now (out .exit)) r ⌝ }
-    ensures { λ r. ⌜ r ≡ length (now (name .entry)) ⌝ }
 {
     let mut i = 0;
     while i < name.len() {
@@ -37,9 +39,8 @@ pub fn put_name(out: &mut [u8], name: &[u8]) -> usize
 
 // Puts what is said of a list after its name.
 pub fn put_words(out: &mut [u8], at: usize, r: SheetWork) -> usize
-    requires { ⌜ at + 70 ≤ length (now out) ⌝ }
+    requires { ⌜ at + length (lineWords r) ≤ length (now out) ⌝ }
     ensures { λ c. ⌜ Put (now (out .entry)) at (lineWords r) (now (out .exit)) c ⌝ }
-    ensures { λ c. ⌜ c ≤ at + 70 ⌝ }
 {
     if r.number != 0 {
         return printlines::put_three(out, at, b"refused ", r.number as usize, r.a, r.b);
@@ -56,9 +57,8 @@ pub fn put_words(out: &mut [u8], at: usize, r: SheetWork) -> usize
 
 // Puts the line, without its end.
 pub fn put_line(out: &mut [u8], name: &[u8], r: SheetWork) -> usize
-    requires { ⌜ length (now name) + 71 ≤ length (now out) ⌝ }
+    requires { ⌜ length (importLine (now name) r) ≤ length (now out) ⌝ }
     ensures { λ c. ⌜ Put (now (out .entry)) 0 (importLine (now (name .entry)) r) (now (out .exit)) c ⌝ }
-    ensures { λ c. ⌜ c ≤ length (now (name .entry)) + 71 ⌝ }
 {
     let c = put_name(out, name);
     let d = puts::put_byte(out, c, 32);

@@ -14,6 +14,7 @@ use Rattle.block.specs.declared.Answer.{Answer}
 use Rattle.verdicts.specs.Verdicts.{carried-yes, stored-yes, stored-no}
 use Rattle.puts.specs.Puts.{Put, put-over}
 use Rattle.sheet_work.specs.declared.SheetWork.{SheetWork}
+use Rattle.printlines.specs.Words.{refusalRoom, refusal-le}
 use Rattle.text_work.specs.Work.{textVerdict, sheetIn, textWork}
 
 -- a text or the line of a second refusal, or the line of a first, is by the verdict of both
@@ -41,16 +42,15 @@ module _ (input l l′ : List ℕ) (r : SheetWork) (answers : r ≡ textWork inp
   numbered = ap (λ (x : SheetWork). x .number) answers
 
   -- the line of a refusal
-  pub text-refused : (l″ : List ℕ) (c : ℕ) → (r .number ≡ 0 → ⊥) → c ≤ 71 → 71 ≤ length l
+  pub text-refused : (l″ : List ℕ) (c : ℕ) → (r .number ≡ 0 → ⊥) → refusalRoom ≤ length l
       → Put l′ 0 (refusalLine (answer (r .number) (r .a) (r .b))) l″ c → (l″ ≡ over (printed input) l) × (c ≡ length (printed input))
   unfolding textWork orRefused
-  text-refused l″ c h small long p =
+  text-refused l″ c h long p =
       let z : u .number ≡ 0 → ⊥ = λ e. h (numbered ∙ e) in
       let said : answer (r .number) (r .a) (r .b) ≡ u = ap (λ (x : SheetWork). answer (x .number) (x .a) (x .b)) answers in
       let f : printed input ≡ refusalLine (answer (r .number) (r .a) (r .b)) = printed-by input ∙ rw (ne-eqb (u .number) 0 z, said) in
       let q : Put l 0 (refusalLine (answer (r .number) (r .a) (r .b))) l″ c = rw (text ∙ stored-no u (sheetIn input) l z) at p in
-      let n : c ≡ length (refusalLine (answer (r .number) (r .a) (r .b))) = q .place ∙ zero-add _ in
-      rw f (put-over (omega arith) q, n)
+      rw f (put-over (omega (arith, refusal-le (answer (r .number) (r .a) (r .b)))) q, q .place ∙ zero-add _)
 
   -- the sheet
   pub text-printed : r .number ≡ 0 → (l′ ≡ over (printed input) l) × (r .count ≡ length (printed input))

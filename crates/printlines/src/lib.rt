@@ -9,9 +9,8 @@ ghost use Rattle.printlines.specs.Words.{three};
 
 // Puts a word and three numbers after it.
 pub fn put_three(out: &mut [u8], at: usize, word: &[u8], x: usize, y: usize, z: usize) -> usize
-    requires { ⌜ at + length (now word) + 62 ≤ length (now out) ⌝ }
+    requires { ⌜ at + length (three (now word) x y z) ≤ length (now out) ⌝ }
     ensures { λ r. ⌜ Put (now (out .entry)) at (three (now (word .entry)) x y z) (now (out .exit)) r ⌝ }
-    ensures { λ r. ⌜ r ≤ at + length (now (word .entry)) + 62 ⌝ }
 {
     let c = puts::put_bytes(out, at, word);
     let d = puts::put_decimal(out, c, x);
@@ -23,9 +22,8 @@ pub fn put_three(out: &mut [u8], at: usize, word: &[u8], x: usize, y: usize, z: 
 
 // Puts the line of a refusal at the front.
 pub fn put_refusal(out: &mut [u8], number: u32, a: usize, b: usize) -> usize
-    requires { ⌜ 71 ≤ length (now out) ⌝ }
+    requires { ⌜ length (refusalLine (answer number a b)) ≤ length (now out) ⌝ }
     ensures { λ r. ⌜ Put (now (out .entry)) 0 (refusalLine (answer number a b)) (now (out .exit)) r ⌝ }
-    ensures { λ r. ⌜ r ≤ 71 ⌝ }
 {
     let c = put_three(out, 0, b"refused ", number as usize, a, b);
     puts::put_byte(out, c, 10)

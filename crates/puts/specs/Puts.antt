@@ -2,8 +2,8 @@
 -- of flat slices, one more at a time. Not here: what bits, symbols and digits are (block's `Text`). Assumes nothing.
 use mathlib.Core.Path.{_≡_, refl, sym, ap, _∙_}
 use mathlib.Core.List.{List, [], _∷_, _++_, append-assoc, append-nil}
-use Prim.Native.Nat.{ℕ, suc, _+_, _*_, _≤_, _<_}
-use native.Mathlib.Nat.{add-zero, zero-add, mul-le-mul-right}
+use Prim.Native.Nat.{ℕ, suc, _+_, _≤_, _<_}
+use native.Mathlib.Nat.{add-zero, zero-add}
 use native.Mathlib.Numerals.{add-one}
 use native.Mathlib.Omega.{arith}
 use lib.ListN.{length, set, getD, take, drop, length-append}
@@ -74,10 +74,6 @@ lines-more n k i masks values words = rw (add-one i, tab-suc i f) (lines-append 
 pub lines-none : (n k : ℕ) (masks values words : List ℕ) → rowLines n k (rowsFrom 0 masks values words) ≡ []
 unfolding rowLines tab
 lines-none n k masks values words = refl
-
--- row i of p, each w bytes long, ends within the room for all
-pub row-within : (i p w : ℕ) → i < p → i * w + w ≤ p * w
-row-within i p w h = omega (arith, mul-le-mul-right w h)
 
 -- what is put at the front of a list that is long enough lies over it
 pub put-over : {l₀ t l : List ℕ} {r : ℕ} → length t ≤ length l₀ → Put l₀ 0 t l r → l ≡ over t l₀

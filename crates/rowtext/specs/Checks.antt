@@ -1,57 +1,44 @@
 -- What the checks of writing say where none holds; and the last of them as the code finds it. Assumes nothing.
 use mathlib.Core.Path.{_≡_, refl}
-use mathlib.Core.Bool.{Bool, true, false, cond}
+use mathlib.Core.Bool.{false}
 use mathlib.Core.List.{List, [], _∷_}
 use Prim.Native.Nat.{ℕ, _≤_, _<_}
 use native.Mathlib.Omega.{arith}
-use borrow.Author.Tests.{ltb-false}
+use borrow.Author.Tests.{ltb-false, eq-eqb}
 use lib.Dec.{ltb}
 use lib.ListN.{length}
 use Rattle.slices.specs.Places.{first}
 use Rattle.slices.specs.Least.{first-below}
-use Rattle.block.specs.Refusals.{check, answer, verdict, outside, some, badRow, rowAt}
+use Rattle.block.specs.Limits as limits
+use Rattle.block.specs.Refusals.{check, verdict, badRow, rowAt}
 use Rattle.block.specs.Lists.{badRowCheck}
 use Rattle.block.specs.Text.{writeVerdict}
 use Rattle.block.specs.declared.Row.{Row}
+use Rattle.verdicts.specs.Verdicts.{answered-clear}
 use Rattle.checks.specs.Sizes.{inside}
 
 -- n, k and the number of rows are in range, the room is long enough, and no row is malformed
 pub record Writable (n k : ℕ) (rs : List Row) (room : ℕ) : Type 0 where
-  pub inputs : (1 ≤ n) × (n ≤ 16)
-  pub outputs : (1 ≤ k) × (k ≤ 15)
-  pub count : (1 ≤ length rs) × (length rs ≤ 128)
-  pub enough : 4246 ≤ room
+  pub inputs : (1 ≤ n) × (n ≤ limits.listInputs)
+  pub outputs : (1 ≤ k) × (k ≤ limits.outputs)
+  pub count : (1 ≤ length rs) × (length rs ≤ limits.givenRows)
+  pub enough : limits.textRoom ≤ room
   pub rows : (i : ℕ) → i < length rs → badRow n k (rowAt rs i) ≡ false
 
 pub writable : (n k : ℕ) (rs : List Row) (room : ℕ) → writeVerdict n k rs room .number ≡ 0 → Writable n k rs room
-unfolding writeVerdict verdict
+unfolding writeVerdict
 writable n k rs room e =
-    go (outside 1 16 n) (outside 1 15 k) (outside 1 128 (length rs)) (ltb room 4246) (some (length rs) (λ i. badRow n k (rowAt rs i)))
-    refl refl refl refl refl e
-  where
-    f : ℕ
-    f = first (length rs) (λ i. badRow n k (rowAt rs i))
-
-    go : (a b c d m : Bool) → outside 1 16 n ≡ a → outside 1 15 k ≡ b → outside 1 128 (length rs) ≡ c → ltb room 4246 ≡ d
-        → some (length rs) (λ i. badRow n k (rowAt rs i)) ≡ m
-        → (cond a (answer 1 0 0) (cond b (answer 2 0 0) (cond c (answer 4 0 0) (cond d (answer 5 0 0) (cond m (answer 6 0 f) (answer 0 0 0)))))) .number ≡ 0
-        → Writable n k rs room
-    go true b c d m p q r s t e = absurd (omega arith)
-    go false true c d m p q r s t e = absurd (omega arith)
-    go false false true d m p q r s t e = absurd (omega arith)
-    go false false false true m p q r s t e = absurd (omega arith)
-    go false false false false true p q r s t e = absurd (omega arith)
-    go false false false false false p q r s t e =
-        record {
-          inputs = inside 1 16 n p;
-          outputs = inside 1 15 k q;
-          count = inside 1 128 (length rs) r;
-          enough = ltb-false room 4246 s;
-          rows =
-              λ i h.
-              first-below (length rs) (λ i. badRow n k (rowAt rs i)) i
-              (omega (arith, ltb-false f (length rs) t));
-        }
+    let clear = answered-clear _ (refl, (refl, (refl, (refl, (refl, tt))))) (eq-eqb _ 0 e) in
+    record {
+      inputs = inside 1 limits.listInputs n (clear 0 (omega arith));
+      outputs = inside 1 limits.outputs k (clear 1 (omega arith));
+      count = inside 1 limits.givenRows (length rs) (clear 2 (omega arith));
+      enough = ltb-false room limits.textRoom (clear 3 (omega arith));
+      rows =
+          λ i h.
+          first-below (length rs) (λ i. badRow n k (rowAt rs i)) i
+          (omega (arith, ltb-false _ (length rs) (clear 4 (omega arith))));
+    }
 
 -- 6 by the least malformed row and the number of rows
 pub bad-check : (n k : ℕ) (rs : List Row) (count bad : ℕ) → count ≡ length rs → bad ≡ first (length rs) (λ i. badRow n k (rowAt rs i))

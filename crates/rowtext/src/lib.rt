@@ -1,6 +1,9 @@
 // What writing row text is made of: the checks in their order, and the text, put into a lent slice line by line. All functions here
 // are inner: the operation is `write_text` of the crate writing.
 use block::Answer;
+use block::GIVEN_ROWS;
+use block::LIST_INPUTS;
+use block::TEXT_ROOM;
 ghost use mathlib.Core.Path.{_≡_};
 ghost use mathlib.Core.List.{_++_};
 ghost use Prim.Native.Nat.{_+_, _≤_};
@@ -20,15 +23,15 @@ pub fn write_checks(
 ) -> Answer
     ensures { λ r. ⌜ r ≡ writeVerdict n k (rowsOf (now (masks .entry)) (now (values .entry)) (now (words .entry))) room ⌝ }
 {
-    let size = checks::sizes(16, n, k);
+    let size = checks::sizes(LIST_INPUTS, n, k);
     if size.number != 0 {
         return size;
     }
     let count = listing::row_count(masks, values, words);
-    if checks::is_outside(1, 128, count) {
+    if checks::is_outside(1, GIVEN_ROWS, count) {
         return checks::refuse(4, 0, 0);
     }
-    if room < 4246 {
+    if room < TEXT_ROOM {
         return checks::refuse(5, 0, 0);
     }
     let bad = listing::first_bad_row(n, k, masks, values, words);
@@ -37,9 +40,8 @@ pub fn write_checks(
 
 // Puts a heading: a dot, its letter, a space, the number and LF.
 pub fn put_heading(out: &mut [u8], at: usize, letter: u8, v: usize) -> usize
-    requires { ⌜ at + 24 ≤ length (now out) ⌝ }
+    requires { ⌜ at + length (headLine letter v) ≤ length (now out) ⌝ }
     ensures { λ r. ⌜ Put (now (out .entry)) at (headLine letter v) (now (out .exit)) r ⌝ }
-    ensures { λ r. ⌜ r ≤ at + 24 ⌝ }
 {
     let a = puts::put_byte(out, at, 46);
     let b = puts::put_byte(out, a, letter);
@@ -50,7 +52,7 @@ pub fn put_heading(out: &mut [u8], at: usize, letter: u8, v: usize) -> usize
 
 // Puts the three headings at the front.
 pub fn put_headings(out: &mut [u8], n: usize, k: usize, count: usize) -> usize
-    requires { ⌜ 72 ≤ length (now out) ⌝ }
+    requires { ⌜ length (headLine 105 n ++ headLine 111 k ++ headLine 112 count) ≤ length (now out) ⌝ }
     ensures { λ r. ⌜ Put (now (out .entry)) 0 (headLine 105 n ++ headLine 111 k ++ headLine 112 count) (now (out .exit)) r ⌝ }
 {
     let a = put_heading(out, 0, 105, n);
@@ -67,7 +69,7 @@ pub fn put_text(
     values: &[u32],
     words: &[u32],
 ) -> usize
-    requires { ⌜ (n ≤ 16) × (k ≤ 15) × (length (now masks) ≤ 128) × (4246 ≤ length (now out)) ⌝ }
+    requires { ⌜ length (textOf n k (rowsOf (now masks) (now values) (now words))) ≤ length (now out) ⌝ }
     requires { ⌜ (length (now values) ≡ length (now masks)) × (length (now words) ≡ length (now masks)) ⌝ }
     ensures { λ r. ⌜ Put (now (out .entry)) 0 (textOf n k (rowsOf (now (masks .entry)) (now (values .entry)) (now (words .entry)))) (now (out .exit)) r ⌝ }
 {

@@ -1,12 +1,13 @@
 // The bulk import, run: the arguments are imported, and the files are read back. Of each name that follows it is said whether its file
 // has the bytes that are due, which lie in data/ beside it, or whether it is gone.
+use block::SHEET_ROOM;
 use saying::say;
 
 // Whether both files can be read and hold the same bytes.
 fn is_as_due(path: &[u8], due: &[u8]) -> bool {
-    let mut text = [0u8; 17519];
+    let mut text = [0u8; SHEET_ROOM + 1];
     let written = import_files::read_file(path, &mut text);
-    let mut other = [0u8; 17519];
+    let mut other = [0u8; SHEET_ROOM + 1];
     let expected = import_files::read_file(due, &mut other);
     if written.error != 0 || expected.error != 0 {
         return false;

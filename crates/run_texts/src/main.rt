@@ -1,6 +1,8 @@
 // The program's text, run: 01's example cut at each byte, and every text of data/ with its sheet. Each line of the first part has the
 // number of bytes left and what is printed for them: 10 at the line of the cut. The second part names each text whose printed bytes are
 // not those of its sheet, and ends with the number of those that are. The arguments are the texts, each followed by its sheet.
+use block::READ_BYTES;
+use block::SHEET_ROOM;
 use libc::STDOUT_FILENO;
 use saying::say;
 ghost use Prim.Native.Nat.{_≤_};
@@ -8,7 +10,7 @@ ghost use Rattle.io.specs.Counts.{Counts};
 
 // What is printed for the first bytes of a text.
 fn say_cut(text: &[u8], length: usize) {
-    let mut out = [0u8; 17518];
+    let mut out = [0u8; SHEET_ROOM];
     let count = printing::print_text(text_work::first_bytes(text, length), &mut out);
     io::print_decimal(STDOUT_FILENO, length as u64);
     say(b" ");
@@ -48,11 +50,11 @@ fn say_differs(i: usize) {
 fn compare(i: usize, j: usize) -> usize
     ensures { λ r. ⌜ r ≤ 1 ⌝ }
 {
-    let mut text = [0u8; 16384];
+    let mut text = [0u8; 2 * READ_BYTES];
     let length = read_file(i, &mut text);
-    let mut due = [0u8; 17519];
+    let mut due = [0u8; SHEET_ROOM + 1];
     let size = read_file(j, &mut due);
-    let mut out = [0u8; 17518];
+    let mut out = [0u8; SHEET_ROOM];
     let count = printing::print_text(&text[..length], &mut out);
     if saying::is_same(&out[..count], &due[..size]) {
         return 1;

@@ -134,14 +134,6 @@ module _ (n k w : ℕ) (rs : List Row) (l t s m v d t′ s′ m′ v′ d′ : L
     counted : r .count ≡ length (smallerList n w rs)
     counted = ap (λ (x : RowMethodAnswer). x .count) (g .answers) ∙ carried-yes u (length (smallerList n w rs)) zero
 
-    -- the measures and the number of smaller rows are small
-    pub sheet-small : (r .before ≤ 1048576) × (r .after ≤ 1048576) × (r .count ≤ 512)
-    sheet-small = (
-      rw earlier (measure-le (ofRows rs) n (sheet-ready .inputs .1)),
-      rw later (measure-le (smallerOf (ofRows rs) n w) n (sheet-ready .inputs .1)),
-      rw counted (sheet-ready .few),
-    )
-
     front : (x y y′ : List ℕ) → y′ ≡ stored u x y → length x ≡ n → take n y′ ≡ x
     front x y y′ e f = ap (take n) (e ∙ stored-yes u x y zero) ∙ take-at x (drop (length x) y) n f
 
@@ -171,6 +163,10 @@ module _ (n k w : ℕ) (rs : List Row) (l t s m v d t′ s′ m′ v′ d′ : L
               (sheet-ready .few),
           sheet-ready .enough,
         )
+
+    -- the room is long enough for the sheet put from the storage, which has so many rows
+    pub sheet-room : (length (sheetOf n k w (r .before) (r .after) (take n t′) (take n s′) (rowsFrom (r .count) m′ v′ d′)) ≤ length l) × (r .count ≤ 512)
+    sheet-room = (rw text text-le, rw counted (sheet-ready .few))
 
     -- the sheet put from the storage is 01's
     pub sheet-answered : (l′ : List ℕ) (c : ℕ)

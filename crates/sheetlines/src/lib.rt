@@ -1,20 +1,17 @@
 // The lines of a sheet, put into a lent slice at a place: a section's first line, numbers, the columns or rows of a matrix, and the
 // whole sheet at the front. All functions here are inner: the operation is `sheet` of the crate sheets.
-ghost use mathlib.Core.Path.{_≡_};
-ghost use mathlib.Core.List.{[], _∷_, _++_};
-ghost use Prim.Native.Nat.{_+_, _*_, _≤_};
+ghost use mathlib.Core.List.{[], _∷_};
+ghost use Prim.Native.Nat.{_+_, _≤_};
 ghost use lib.ListN.{length};
-ghost use Rattle.block.specs.Text.{rowLines};
-ghost use Rattle.block.specs.Sheet.{section, numberLines, matrixLines, sheetOf, tableName};
+ghost use Rattle.block.specs.Sheet.{section, numberLines, matrixLines, sheetOf};
 ghost use Rattle.listing.specs.Listing.{rowsFrom};
 ghost use Rattle.puts.specs.Puts.{Put};
-ghost use Rattle.sheetlines.specs.Lines.{sizesText, frontText};
+ghost use Rattle.sheetlines.specs.Lines.{sizesText, frontText, columnsText, tableText};
 
 // Puts a section's first line: its name, a space, its count and LF.
 pub fn put_section(out: &mut [u8], at: usize, name: &[u8], count: usize) -> usize
-    requires { ⌜ at + length (now name) + 22 ≤ length (now out) ⌝ }
+    requires { ⌜ at + length (section (now name) count) ≤ length (now out) ⌝ }
     ensures { λ r. ⌜ Put (now (out .entry)) at (section (now (name .entry)) count) (now (out .exit)) r ⌝ }
-    ensures { λ r. ⌜ r ≤ at + length (now (name .entry)) + 22 ⌝ }
 {
     let a = puts::put_bytes(out, at, name);
     let b = puts::put_byte(out, a, 32);
@@ -24,9 +21,8 @@ pub fn put_section(out: &mut [u8], at: usize, name: &[u8], count: usize) -> usiz
 
 // Puts a number on a line of its own.
 pub fn put_number(out: &mut [u8], at: usize, v: usize) -> usize
-    requires { ⌜ at + 21 ≤ length (now out) ⌝ }
+    requires { ⌜ at + length (numberLines (v ∷ [])) ≤ length (now out) ⌝ }
     ensures { λ r. ⌜ Put (now (out .entry)) at (numberLines (v ∷ [])) (now (out .exit)) r ⌝ }
-    ensures { λ r. ⌜ r ≤ at + 21 ⌝ }
 {
     let a = puts::put_decimal(out, at, v);
     puts::put_byte(out, a, 10)
@@ -34,9 +30,8 @@ pub fn put_number(out: &mut [u8], at: usize, v: usize) -> usize
 
 // Puts a column or row of a matrix, n bits, on a line of its own.
 pub fn put_matrix_line(out: &mut [u8], at: usize, n: usize, v: u32) -> usize
-    requires { ⌜ at + n + 1 ≤ length (now out) ⌝ }
+    requires { ⌜ at + length (matrixLines n (v ∷ [])) ≤ length (now out) ⌝ }
     ensures { λ r. ⌜ Put (now (out .entry)) at (matrixLines n (v ∷ [])) (now (out .exit)) r ⌝ }
-    ensures { λ r. ⌜ r ≡ at + n + 1 ⌝ }
 {
     let a = puts::put_bits(out, at, n, v);
     puts::put_byte(out, a, 10)
@@ -44,9 +39,8 @@ pub fn put_matrix_line(out: &mut [u8], at: usize, n: usize, v: u32) -> usize
 
 // Puts the columns or rows of a matrix, n bits each, one to a line.
 pub fn put_matrix(out: &mut [u8], at: usize, n: usize, numbers: &[u32]) -> usize
-    requires { ⌜ (n ≤ 16) × (at + length (now numbers) * (n + 1) ≤ length (now out)) ⌝ }
+    requires { ⌜ at + length (matrixLines n (now numbers)) ≤ length (now out) ⌝ }
     ensures { λ r. ⌜ Put (now (out .entry)) at (matrixLines n (now (numbers .entry))) (now (out .exit)) r ⌝ }
-    ensures { λ r. ⌜ r ≡ at + length (now (numbers .entry)) * (n + 1) ⌝ }
 {
     let mut to = at;
     let mut i = 0;
@@ -59,9 +53,8 @@ pub fn put_matrix(out: &mut [u8], at: usize, n: usize, numbers: &[u32]) -> usize
 
 // Puts the sections sheet and size at the front.
 pub fn put_sizes(out: &mut [u8], n: usize, k: usize, w: usize) -> usize
-    requires { ⌜ 200 ≤ length (now out) ⌝ }
+    requires { ⌜ length (sizesText n k w) ≤ length (now out) ⌝ }
     ensures { λ r. ⌜ Put (now (out .entry)) 0 (sizesText n k w) (now (out .exit)) r ⌝ }
-    ensures { λ r. ⌜ r ≤ 116 ⌝ }
 {
     let a = put_section(out, 0, b"sheet", 1);
     let b = put_section(out, a, b"size", 3);
@@ -72,7 +65,7 @@ pub fn put_sizes(out: &mut [u8], n: usize, k: usize, w: usize) -> usize
 
 // Puts the sections sheet, size and measure at the front.
 pub fn put_front(out: &mut [u8], n: usize, k: usize, w: usize, before: usize, after: usize) -> usize
-    requires { ⌜ 200 ≤ length (now out) ⌝ }
+    requires { ⌜ length (frontText n k w before after) ≤ length (now out) ⌝ }
     ensures { λ r. ⌜ Put (now (out .entry)) 0 (frontText n k w before after) (now (out .exit)) r ⌝ }
 {
     let a = put_sizes(out, n, k, w);
@@ -83,9 +76,8 @@ pub fn put_front(out: &mut [u8], n: usize, k: usize, w: usize, before: usize, af
 
 // Puts a section of n columns or rows of n bits each.
 pub fn put_columns(out: &mut [u8], at: usize, name: &[u8], n: usize, numbers: &[u32]) -> usize
-    requires { ⌜ (n ≤ 16) × (length (now numbers) ≡ n) × (length (now name) ≡ 5) × (at + 299 ≤ length (now out)) ⌝ }
-    ensures { λ r. ⌜ Put (now (out .entry)) at (section (now (name .entry)) n ++ matrixLines n (now (numbers .entry))) (now (out .exit)) r ⌝ }
-    ensures { λ r. ⌜ r ≤ at + 281 ⌝ }
+    requires { ⌜ at + length (columnsText (now name) n (now numbers)) ≤ length (now out) ⌝ }
+    ensures { λ r. ⌜ Put (now (out .entry)) at (columnsText (now (name .entry)) n (now (numbers .entry))) (now (out .exit)) r ⌝ }
 {
     let a = put_section(out, at, name, n);
     put_matrix(out, a, n, numbers)
@@ -102,9 +94,9 @@ pub fn put_table(
     values: &[u32],
     words: &[u32],
 ) -> usize
-    requires { ⌜ (n ≤ 16) × (k ≤ 15) × (count ≤ 512) × (at + 16906 ≤ length (now out)) ⌝ }
+    requires { ⌜ at + length (tableText n k (rowsFrom count (now masks) (now values) (now words))) ≤ length (now out) ⌝ }
     requires { ⌜ (count ≤ length (now masks)) × (count ≤ length (now values)) × (count ≤ length (now words)) ⌝ }
-    ensures { λ r. ⌜ Put (now (out .entry)) at (section tableName count ++ rowLines n k (rowsFrom count (now (masks .entry)) (now (values .entry)) (now (words .entry)))) (now (out .exit)) r ⌝ }
+    ensures { λ r. ⌜ Put (now (out .entry)) at (tableText n k (rowsFrom count (now (masks .entry)) (now (values .entry)) (now (words .entry)))) (now (out .exit)) r ⌝ }
 {
     let a = put_section(out, at, b"table", count);
     puts::put_rows(out, a, n, k, count, masks, values, words)
@@ -125,8 +117,7 @@ pub fn put_sheet(
     values: &[u32],
     words: &[u32],
 ) -> usize
-    requires { ⌜ (n ≤ 16) × (k ≤ 15) × (w ≤ 16) × (before ≤ 1048576) × (after ≤ 1048576) × (17518 ≤ length (now out)) ⌝ }
-    requires { ⌜ (length (now basis) ≡ n) × (length (now sigma) ≡ n) × (count ≤ 512) ⌝ }
+    requires { ⌜ length (sheetOf n k w before after (now basis) (now sigma) (rowsFrom count (now masks) (now values) (now words))) ≤ length (now out) ⌝ }
     requires { ⌜ (count ≤ length (now masks)) × (count ≤ length (now values)) × (count ≤ length (now words)) ⌝ }
     ensures { λ r. ⌜ Put (now (out .entry)) 0 (sheetOf n k w before after (now (basis .entry)) (now (sigma .entry)) (rowsFrom count (now (masks .entry)) (now (values .entry)) (now (words .entry)))) (now (out .exit)) r ⌝ }
 {

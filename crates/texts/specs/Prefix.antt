@@ -124,7 +124,7 @@ module _ (s : List ℕ) (m c : ℕ) (room : c * 33 + 34 ≤ m) (d : ℕ → List
 heading-short : (letter : ℕ) (l : List ℕ) → headForm letter l ≡ true → length l ≤ 33
 heading-short letter l e =
     let f = form-written letter l e in
-    omega (arith, ap length (f .0), heading-le letter (valueOf (numberPart l)) 2 (omega arith) (f .1))
+    omega (arith, ap length (f .0), heading-le letter (valueOf (numberPart l)) 3 (omega arith) (f .1))
 
 due-short : (n k p : ℕ) → n ≤ 16 → k ≤ 15 → (i : ℕ) (l : List ℕ) → i < 5 + p → due n k p i l ≡ true → length l ≤ 33
 unfolding due

@@ -23,7 +23,7 @@ use Rattle.block.specs.Refusals.{badRow}
 use Rattle.block.specs.Text.{symbols, bits, rowLine, every, spelled, rowForm, rowOn}
 use Rattle.block.specs.declared.Row.{Row}
 use Rattle.puts.specs.Digits.{length-bits, length-symbols}
-use Rattle.rowtext.specs.Length.{length-row}
+use Rattle.puts.specs.Length.{length-row}
 use Rattle.lines.specs.Tests.{every-at, every-all, every-append}
 use Rattle.lines.specs.Front.{noLF}
 use Rattle.lines.specs.HeadLines.{last-apart}

@@ -12,11 +12,15 @@ import-text-requires c κs = search needs
 
 array-share-prefix-line : tie.Need-array-share-prefix-line
 array-share-prefix-line c =
-    line-fits (now (c .before .before .before .before .before .before .before .args .name)) (now (c .before .before .before .before .before .before .before .args .text)) _ _ _ (c .before .before .import-text .ensures .0) (c .before .before .import-text .ensures .1 .1)
+    let done = c .before .before in
+    let a = done .before .before .before .before .before .args in
+    line-fits (now (a .name)) (now (a .text)) _ _ _ (done .import-text .ensures .0) (done .import-text .ensures .1 .1)
 
 slice-aggregate-say : tie.Need-slice-aggregate-say
 slice-aggregate-say c =
-    simp length-take (omega (arith, line-fits (now (c .before .before .before .before .before .before .before .before .args .name)) (now (c .before .before .before .before .before .before .before .before .args .text)) _ _ _ (c .before .before .before .import-text .ensures .0) (c .before .before .before .import-text .ensures .1 .1)))
+    let done = c .before .before .before in
+    let a = done .before .before .before .before .before .args in
+    simp length-take (omega (arith, line-fits (now (a .name)) (now (a .text)) _ _ _ (done .import-text .ensures .0) (done .import-text .ensures .1 .1)))
 
 say-requires : tie.Need-say-requires
 say-requires c κs = search needs
@@ -29,11 +33,15 @@ returns c = search needs
 
 array-share-prefix-sheet : tie.Need-array-share-prefix-sheet
 array-share-prefix-sheet c =
-    sheet-fits (now (c .before .before .before .before .before .before .before .args .name)) (now (c .before .before .before .before .before .before .before .args .text)) _ _ _ (c .before .before .import-text .ensures .0) (c .before .before .import-text .ensures .1 .0) (c .if1 .left)
+    let done = c .before .before in
+    let a = done .before .before .before .before .before .args in
+    sheet-fits (now (a .name)) (now (a .text)) _ _ _ (done .import-text .ensures .0) (done .import-text .ensures .1 .0) (c .if1 .left)
 
 slice-aggregate-write-sheet : tie.Need-slice-aggregate-write-sheet
 slice-aggregate-write-sheet c =
-    simp length-take (omega (arith, sheet-fits (now (c .before .before .before .before .before .before .before .before .args .name)) (now (c .before .before .before .before .before .before .before .before .args .text)) _ _ _ (c .before .before .before .import-text .ensures .0) (c .before .before .before .import-text .ensures .1 .0) (c .before .if1 .left)))
+    let done = c .before .before .before in
+    let a = done .before .before .before .before .before .args in
+    simp length-take (omega (arith, sheet-fits (now (a .name)) (now (a .text)) _ _ _ (done .import-text .ensures .0) (done .import-text .ensures .1 .0) (c .before .if1 .left)))
 
 write-sheet-requires : tie.Need-write-sheet-requires
 write-sheet-requires c κs = search needs
@@ -58,11 +66,15 @@ returns-2 c = search needs
 
 array-share-prefix-line-2 : tie.Need-array-share-prefix-line-2
 array-share-prefix-line-2 c =
-    line-fits (now (c .before .before .before .before .before .before .before .before .before .before .args .name)) (now (c .before .before .before .before .before .before .before .before .before .before .args .text)) _ _ _ (c .before .before .before .before .before .import-text .ensures .0) (c .before .before .before .before .before .import-text .ensures .1 .1)
+    let done = c .before .before .before .before .before in
+    let a = done .before .before .before .before .before .args in
+    line-fits (now (a .name)) (now (a .text)) _ _ _ (done .import-text .ensures .0) (done .import-text .ensures .1 .1)
 
 slice-aggregate-say-3 : tie.Need-slice-aggregate-say-3
 slice-aggregate-say-3 c =
-    simp length-take (omega (arith, line-fits (now (c .before .before .before .before .before .before .before .before .before .before .before .args .name)) (now (c .before .before .before .before .before .before .before .before .before .before .before .args .text)) _ _ _ (c .before .before .before .before .before .before .import-text .ensures .0) (c .before .before .before .before .before .before .import-text .ensures .1 .1)))
+    let done = c .before .before .before .before .before .before in
+    let a = done .before .before .before .before .before .args in
+    simp length-take (omega (arith, line-fits (now (a .name)) (now (a .text)) _ _ _ (done .import-text .ensures .0) (done .import-text .ensures .1 .1)))
 
 say-requires-3 : tie.Need-say-requires-3
 say-requires-3 c κs = search needs

@@ -1,5 +1,6 @@
 -- `import_lines::put_line` meets its contract: the name, a space and the words, one after the other, are the line. Assumes nothing.
 use native.Mathlib.Omega.{arith}
+use lib.ListN.{length-append}
 use Rattle.puts.specs.Puts.{then}
 use Rattle.import_lines.specs.Line.{importLine}
 use borrow.Author.Needs.{needs}
@@ -7,13 +8,16 @@ use Rattle.import_lines.proofs.put_line.Statement.{statement}
 use Rattle.import_lines.proofs.put_line.Tie as tie
 
 put-name-requires : tie.Need-put-name-requires
-put-name-requires c κs = search needs
+unfolding importLine
+put-name-requires c κs = let start = c .before .before .before in omega (arith, simp length-append at (start .pre))
 
 put-byte-requires : tie.Need-put-byte-requires
-put-byte-requires c κs = search needs
+unfolding importLine
+put-byte-requires c κs = let start = c .before .before .before .before .before .before .before in omega (arith, simp length-append at (start .pre))
 
 put-words-requires : tie.Need-put-words-requires
-put-words-requires c κs = search needs
+unfolding importLine
+put-words-requires c κs = let start = c .before .before .before .before .before .before .before .before .before .before .before in omega (arith, simp length-append at (start .pre))
 
 same-length : tie.Need-same-length
 same-length c = search needs
@@ -21,8 +25,10 @@ same-length c = search needs
 returns : tie.Need-returns
 unfolding importLine
 returns c =
-    let p = c .before .before .put-words .ensures in
-    (then (c .before .before .before .before .before .before .before .before .before .before .put-name .ensures .0) (then (c .before .before .before .before .before .before .put-byte .ensures) (p .0)), omega (arith, p .1, c .before .before .before .before .before .before .put-byte .ensures .place, c .before .before .before .before .before .before .before .before .before .before .put-name .ensures .1))
+    let words = c .before .before in
+    let space = words .before .before .before .before in
+    let name = space .before .before .before .before in
+    then (name .put-name .ensures) (then (space .put-byte .ensures) (words .put-words .ensures))
 
 pub put-line-spec : {M : Type 1} → statement M
 put-line-spec =

@@ -29,7 +29,9 @@ shown-byte-requires : tie.Need-shown-byte-requires Inv-loop μ-loop
 shown-byte-requires c κs = search needs
 
 slice-write-out : tie.Need-slice-write-out Inv-loop μ-loop
-slice-write-out c = omega arith
+slice-write-out c =
+    let name = now (c .before .before .before .before .before .before .args .name) in
+    omega (arith, length-map name shownByte)
 
 add-i : tie.Need-add-i Inv-loop μ-loop
 add-i c = omega arith
@@ -54,7 +56,7 @@ returns c =
     let l = c .before .loop in
     let s = now (c .before .before .before .before .args .name) in
     let e : l .i ≡ length s = omega arith in
-    (record { place = omega (arith, e, length-map s shownByte); stored = l .inv .2 ∙ rw (e, take-length) }, e)
+    record { place = omega (arith, e, length-map s shownByte); stored = l .inv .2 ∙ rw (e, take-length) }
 
 pub put-name-spec : {M : Type 1} → statement M
 put-name-spec =

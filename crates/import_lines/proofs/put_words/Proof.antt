@@ -13,7 +13,11 @@ cast-put-three : tie.Need-cast-put-three
 cast-put-three c = search needs
 
 put-three-requires : tie.Need-put-three-requires
-put-three-requires c κs = search needs
+unfolding lineWords
+put-three-requires c κs =
+    let refused = c .before .before .before in
+    let start = refused .before .before .before in
+    omega (arith, rw (ne-eqb _ 0 (refused .if1 .taken)) at (start .pre))
 
 same-length : tie.Need-same-length
 same-length c = search needs
@@ -21,14 +25,19 @@ same-length c = search needs
 returns : tie.Need-returns
 unfolding lineWords
 returns c =
-    let p = c .before .before .put-three .ensures in
-    (rw (ne-eqb _ 0 (c .before .before .before .before .before .before .if1 .taken)) (p .0), omega (arith, p .1))
+    let put = c .before .before in
+    let refused = put .before .before .before .before in
+    rw (ne-eqb _ 0 (refused .if1 .taken)) (put .put-three .ensures)
 
 slice-aggregate-put-three-2 : tie.Need-slice-aggregate-put-three-2
 slice-aggregate-put-three-2 c = search needs
 
 put-three-requires-2 : tie.Need-put-three-requires-2
-put-three-requires-2 c κs = search needs
+unfolding lineWords
+put-three-requires-2 c κs =
+    let answered = c .before .before in
+    let start = answered .before .before .before in
+    omega (arith, rw (eq-eqb _ 0 (answered .if1 .left)) at (start .pre))
 
 same-length-2 : tie.Need-same-length-2
 same-length-2 c = search needs
@@ -36,8 +45,9 @@ same-length-2 c = search needs
 returns-2 : tie.Need-returns-2
 unfolding lineWords
 returns-2 c =
-    let p = c .before .before .put-three2 .ensures in
-    (rw (eq-eqb _ 0 (c .before .before .before .before .before .if1 .left)) (p .0), omega (arith, p .1))
+    let put = c .before .before in
+    let answered = put .before .before .before in
+    rw (eq-eqb _ 0 (answered .if1 .left)) (put .put-three2 .ensures)
 
 pub put-words-spec : {M : Type 1} → statement M
 put-words-spec =

@@ -9,11 +9,14 @@ use Rattle.import_paths.proofs.put_count.Tie as tie
 
 returns : tie.Need-returns
 unfolding counted
-returns c =
-    (rw (lt-ltb _ 2 (c .if1 .taken)) (none-put _ _), omega arith)
+returns c = rw (lt-ltb _ 2 (c .if1 .taken)) (none-put _ _)
 
 put-decimal-requires : tie.Need-put-decimal-requires
-put-decimal-requires c κs = search needs
+unfolding counted
+put-decimal-requires c κs =
+    let later = c .before in
+    let start = later .before .before in
+    omega (arith, rw (le-ltb _ 2 (later .if1 .left)) at (start .pre))
 
 same-length : tie.Need-same-length
 same-length c = search needs
@@ -21,8 +24,9 @@ same-length c = search needs
 returns-2 : tie.Need-returns-2
 unfolding counted
 returns-2 c =
-    let p = c .before .before .put-decimal .ensures in
-    (rw (le-ltb _ 2 (c .before .before .before .before .if1 .left)) (p .0), p .1)
+    let put = c .before .before in
+    let later = put .before .before in
+    rw (le-ltb _ 2 (later .if1 .left)) (put .put-decimal .ensures)
 
 pub put-count-spec : {M : Type 1} → statement M
 put-count-spec =

@@ -2,7 +2,7 @@
 use native.Mathlib.Omega.{arith}
 use denote.Ref.{now}
 use Rattle.puts.specs.Puts.{then}
-use Rattle.import_paths.specs.Path.{pathOf}
+use Rattle.import_paths.specs.Path.{pathOf, counted-le}
 use Rattle.import_paths.specs.Made.{path-made}
 use borrow.Author.Needs.{needs}
 use Rattle.import_paths.proofs.put_path.Statement.{statement}
@@ -15,10 +15,17 @@ put-bytes-requires-2 : tie.Need-put-bytes-requires-2
 put-bytes-requires-2 c κs = search needs
 
 put-count-requires : tie.Need-put-count-requires
-put-count-requires c κs = search needs
+put-count-requires c κs =
+    let start = c .before .before .before .before .before .before .before in
+    omega (arith, counted-le (start .args .k))
 
 element-write-path : tie.Need-element-write-path
-element-write-path c = search needs
+element-write-path c =
+    let start = c .before .before .before .before .before .before .before .before in
+    omega (arith, counted-le (start .args .k))
+
+sub-path : tie.Need-sub-path
+sub-path c = search needs
 
 element-write-path-2 : tie.Need-element-write-path-2
 element-write-path-2 c = search needs
@@ -26,9 +33,11 @@ element-write-path-2 c = search needs
 returns : tie.Need-returns
 unfolding pathOf
 returns c =
-    let a = c .before .before .before .before .before .before .before .before .args in
-    let p = c .put-count .ensures in
-    path-made (now (a .path)) _ _ _ (then (then (c .before .before .before .before .put-bytes .ensures) (c .before .before .put-bytes2 .ensures)) (p .0)) (omega arith) (omega (arith, p .1))
+    let ending = c .before .before in
+    let name = ending .before .before in
+    let a = name .before .before .before .before .args in
+    let p = then (then (name .put-bytes .ensures) (ending .put-bytes2 .ensures)) (c .put-count .ensures) in
+    path-made (now (a .path)) _ _ _ p (omega arith) (omega (arith, p .place, counted-le (a .k)))
 
 pub put-path-spec : {M : Type 1} → statement M
 put-path-spec =
@@ -38,5 +47,6 @@ put-path-spec =
     put-bytes-requires-2
     put-count-requires
     element-write-path
+    sub-path
     element-write-path-2
     returns)

@@ -1,7 +1,7 @@
--- `import_says::say_name` is safe: what is shown of a name fits.  Assumes nothing.
+-- `import_says::say_name` is safe: what is shown of a name fits. Assumes nothing.
 use mathlib.Core.Path.{ap}
 use native.Mathlib.Omega.{arith}
-use lib.ListN.{length, length-take}
+use lib.ListN.{length, length-map, length-take}
 use borrow.Author.Needs.{needs}
 use Rattle.import_says.proofs.say_name.Statement.{statement}
 use Rattle.import_says.proofs.say_name.Tie as tie
@@ -13,16 +13,19 @@ first-bytes-requires : tie.Need-first-bytes-requires
 first-bytes-requires c κs = search needs
 
 put-name-requires : tie.Need-put-name-requires
-put-name-requires c κs =
-    omega (arith, simp length-take at (ap length (c .first-bytes .ensures)))
+put-name-requires c κs = simp length-map (omega (arith, simp length-take at (ap length (c .first-bytes .ensures))))
 
 array-share-prefix-shown : tie.Need-array-share-prefix-shown
 array-share-prefix-shown c =
-    omega (arith, c .before .put-name .ensures .1, simp length-take at (ap length (c .before .before .first-bytes .ensures)))
+    let put = c .before in
+    let part = put .before .first-bytes .ensures in
+    omega (arith, simp length-map at (put .put-name .ensures .place), simp length-take at (ap length part))
 
 slice-aggregate-say : tie.Need-slice-aggregate-say
 slice-aggregate-say c =
-    simp length-take (omega (arith, c .before .before .put-name .ensures .1, simp length-take at (ap length (c .before .before .before .first-bytes .ensures))))
+    let put = c .before .before in
+    let part = put .before .first-bytes .ensures in
+    simp length-take (omega (arith, simp length-map at (put .put-name .ensures .place), simp length-take at (ap length part)))
 
 say-requires : tie.Need-say-requires
 say-requires c κs = search needs

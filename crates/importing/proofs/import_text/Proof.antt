@@ -3,6 +3,7 @@ use mathlib.Core.Path.{ap}
 use native.Mathlib.Omega.{arith}
 use denote.Ref.{now}
 use lib.ListN.{length, length-take}
+use Rattle.import_lines.specs.Line.{line-le}
 use Rattle.importing.specs.Made.{line-made}
 use borrow.Author.Needs.{needs}
 use Rattle.importing.proofs.import_text.Statement.{statement}
@@ -16,15 +17,17 @@ first-bytes-requires c κs = search needs
 
 put-line-requires : tie.Need-put-line-requires
 put-line-requires c κs =
-    omega (arith, simp length-take at (ap length (c .first-bytes .ensures)))
+    let part = c .first-bytes in
+    omega (arith, line-le (now (part .result)) (c .before .before .work-text .result), simp length-take at (ap length (part .ensures)))
 
 returns : tie.Need-returns
 returns c =
     let a = c .before .before .before .before .before .before .before .args in
     let e = c .before .before .before .work-text .ensures in
     let p = c .put-line .ensures in
-    let f = c .before .first-bytes .ensures in
-    let m = line-made (now (a .name)) (now (a .text)) _ (now (a .line)) _ _ _ f (e .0) (p .0) (omega (arith, p .1, simp length-take at (ap length f))) in
+    let part = c .before .first-bytes in
+    let m = line-made (now (a .name)) (now (a .text)) _ (now (a .line)) _ _ _ (part .ensures) (e .0) p
+    (omega (arith, p .place, line-le (now (part .result)) (c .before .before .before .work-text .result), simp length-take at (ap length (part .ensures)))) in
     (m .0, (e .1, m .1))
 
 pub import-text-spec : {M : Type 1} → statement M

@@ -1,6 +1,8 @@
 -- `printing::print_text` meets its contract: what the work of the text leaves is the sheet, or the line of its refusal is put. Assumes nothing.
 use native.Mathlib.Omega.{arith}
 use denote.Ref.{now}
+use Rattle.block.specs.Refusals.{answer}
+use Rattle.printlines.specs.Words.{refusal-le}
 use Rattle.printlines.specs.Printed.{text-refused, text-printed}
 use borrow.Author.Needs.{needs}
 use Rattle.printing.proofs.print_text.Statement.{statement}
@@ -10,12 +12,14 @@ work-text-requires : tie.Need-work-text-requires
 work-text-requires c κs = search needs
 
 put-refusal-requires : tie.Need-put-refusal-requires
-put-refusal-requires c κs = search needs
+put-refusal-requires c κs =
+    let r = c .before .before .before .work-text .result in
+    omega (arith, refusal-le (answer (r .number) (r .a) (r .b)))
 
 returns : tie.Need-returns
 returns c =
     let e = c .before .before .before .before .work-text .ensures in
-    text-refused (now (c .before .before .before .before .before .before .before .args .input)) (now (c .before .before .before .before .before .before .before .args .out)) _ _ (e .0) (e .1) _ _ (c .before .before .if1 .taken) (c .put-refusal .ensures .1) (omega arith) (c .put-refusal .ensures .0)
+    text-refused (now (c .before .before .before .before .before .before .before .args .input)) (now (c .before .before .before .before .before .before .before .args .out)) _ _ (e .0) (e .1) _ _ (c .before .before .if1 .taken) (omega arith) (c .put-refusal .ensures)
 
 returns-2 : tie.Need-returns-2
 returns-2 c =

@@ -34,7 +34,7 @@ loop-again c =
 returns : tie.Need-returns Inv-loop μ-loop
 returns c =
     let l = c .before .loop in
-    (omega (arith, places-one (20 - l .count) (l .rest) (omega arith)), omega arith)
+    omega (arith, places-one (20 - l .count) (l .rest) (omega arith))
 
 pub places-spec : {M : Type 1} → statement M
 places-spec =

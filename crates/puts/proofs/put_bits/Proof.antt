@@ -1,76 +1,24 @@
--- `puts::put_bits` meets its contract. The loop's invariant: the bits that are left, stored in what is there, give what all bits, stored
--- at entry, give. The measure is the number of bits left. Assumes nothing.
-use Prim.Native.Nat.{_≤_}
-use mathlib.Core.Path.{_≡_, refl, sym, _∙_}
+-- `puts::put_bits` meets its contract: the bits of a number are its last digits in base 2. Assumes nothing.
+use mathlib.Core.Path.{ap}
 use native.Mathlib.Omega.{arith}
-use lib.ListN.{length, length-set}
-use lib.Seq.{sets}
-use Rattle.puts.specs.Digits.{length-bits, bits-down}
-use Rattle.block.specs.Text.{bits}
+use borrow.Author.Needs.{needs}
+use lib.ListN.{length}
+use Rattle.puts.specs.Digits.{bits-last}
 use Rattle.puts.proofs.put_bits.Tie as tie
 use Rattle.puts.proofs.put_bits.Statement.{statement}
 
-abbrev Inv-loop : tie.InvT-loop
-Inv-loop out₀ at n v left₀ rest₀ out left rest = (left ≤ n) × (length out ≡ length out₀) × (sets out₀ at (bits n v) ≡ sets out at (bits left rest))
-
-abbrev μ-loop : tie.MeasureT-loop
-μ-loop out₀ at n v left₀ rest₀ out left rest = left
-
-loop-holds : tie.Need-loop-holds Inv-loop μ-loop
-loop-holds c = (omega arith, refl, refl)
-
-sub-left : tie.Need-sub-left Inv-loop μ-loop
-sub-left c = omega arith
-
-add-out : tie.Need-add-out Inv-loop μ-loop
-add-out c = omega arith
-
-cast-out : tie.Need-cast-out Inv-loop μ-loop
-cast-out c = omega arith
-
-add-out-2 : tie.Need-add-out-2 Inv-loop μ-loop
-add-out-2 c = omega arith
-
-slice-write-out : tie.Need-slice-write-out Inv-loop μ-loop
-slice-write-out c = omega arith
-
-loop-less : tie.Need-loop-less Inv-loop μ-loop
-loop-less c = omega arith
-
-loop-again : tie.Need-loop-again Inv-loop μ-loop
-loop-again c =
-    let l = c .before .loop in
+put-digits-requires : tie.Need-put-digits-requires
+put-digits-requires c κs =
     let a = c .before .before .args in
-    (omega arith, simp length-set (l .inv .1), l .inv .2 ∙ bits-down (l .out) (a .at) (l .left) (l .rest) (omega arith))
+    omega (arith, ap length (bits-last (a .n) (a .v)))
 
-add-result : tie.Need-add-result Inv-loop μ-loop
-add-result c = omega arith
+same-length : tie.Need-same-length
+same-length c = search needs
 
-same-length : tie.Need-same-length Inv-loop μ-loop
-same-length c = omega arith
-
-returns : tie.Need-returns Inv-loop μ-loop
-unfolding bits
+returns : tie.Need-returns
 returns c =
-    let l = c .before .loop in
-    let a = c .before .before .args in
-    let e : l .left ≡ 0 = omega arith in
-    (record { place = omega (arith, length-bits (a .n) (a .v)); stored = sym (l .inv .2 ∙ rw e refl) }, refl)
+    let a = c .before .before .before .before .before .args in
+    rw (bits-last (a .n) (a .v)) (c .before .before .put-digits .ensures)
 
 pub put-bits-spec : {M : Type 1} → statement M
-put-bits-spec =
-    tie.close
-    (tie.spec
-    Inv-loop
-    μ-loop
-    loop-holds
-    sub-left
-    add-out
-    cast-out
-    add-out-2
-    slice-write-out
-    loop-less
-    loop-again
-    add-result
-    same-length
-    returns)
+put-bits-spec = tie.close (tie.spec put-digits-requires same-length returns)

@@ -1,6 +1,6 @@
 -- `puts::put_rows` meets its contract. The loop's invariant: the lines of the first i rows are put. The measure is the number of rows
 -- left. Assumes nothing.
-use Prim.Native.Nat.{_+_, _-_, _*_, _≤_}
+use Prim.Native.Nat.{_-_, _≤_}
 use mathlib.Core.Path.{_≡_, refl}
 use native.Mathlib.Omega.{arith}
 use borrow.Author.Needs.{needs}
@@ -8,19 +8,20 @@ use denote.Ref.{now}
 use lib.ListN.{length}
 use Rattle.block.specs.Text.{rowLines}
 use Rattle.listing.specs.Listing.{rowsFrom}
-use Rattle.puts.specs.Puts.{Put, then, none-put, lines-more, lines-none, row-within}
+use Rattle.puts.specs.Length.{row-within}
+use Rattle.puts.specs.Puts.{Put, then, none-put, lines-more, lines-none}
 use Rattle.puts.proofs.put_rows.Statement.{statement}
 use Rattle.puts.proofs.put_rows.Tie as tie
 
 abbrev Inv-loop : tie.InvT-loop
 Inv-loop out₀ at n k p masks values words to₀ i₀ out to i =
-    (i ≤ p) × (to ≡ at + i * (n + k + 2)) × (length out ≡ length out₀) × Put out₀ at (rowLines n k (rowsFrom i masks values words)) out to
+    (i ≤ p) × (length out ≡ length out₀) × Put out₀ at (rowLines n k (rowsFrom i masks values words)) out to
 
 abbrev μ-loop : tie.MeasureT-loop
 μ-loop out₀ at n k p masks values words to₀ i₀ out to i = p - i
 
 loop-holds : tie.Need-loop-holds Inv-loop μ-loop
-loop-holds c = (omega arith, omega arith, refl, rw lines-none (none-put _ _))
+loop-holds c = (omega arith, refl, rw lines-none (none-put _ _))
 
 mul-put-row : tie.Need-mul-put-row Inv-loop μ-loop
 mul-put-row c = search needs
@@ -42,9 +43,13 @@ shared-slice-read-put-row-3 c = omega arith
 
 put-row-requires : tie.Need-put-row-requires Inv-loop μ-loop
 put-row-requires c κs =
-    let a = c .before .before .before .before .before .before .before .before .before .before .args in
-    let l = c .before .before .before .before .before .loop in
-    omega (arith, row-within (l .i) (a .p) (a .n + a .k + 2) (omega arith))
+    let turn = c .before .before .before .before .before in
+    let a = turn .before .before .before .before .before .args in
+    omega (
+      arith,
+      turn .loop .inv .2 .place,
+      row-within (a .n) (a .k) (turn .loop .i) (a .p) (now (a .masks)) (now (a .values)) (now (a .words)) (omega arith),
+    )
 
 add-i : tie.Need-add-i Inv-loop μ-loop
 add-i c = omega arith
@@ -54,12 +59,12 @@ loop-less c = omega arith
 
 loop-again : tie.Need-loop-again Inv-loop μ-loop
 loop-again c =
-    let a = c .before .before .before .before .before .before .before .before .before .before .before .before .before .args in
-    let l = c .before .before .before .before .before .before .before .before .loop in (
-      omega arith,
+    let turn = c .before .before .before .before .before .before .before .before in
+    let a = turn .before .before .before .before .before .args in
+    let l = turn .loop in (
       omega arith,
       omega (arith, c .before .before .put-row .kept .0),
-      rw (lines-more (a .n) (a .k) (l .i) (now (a .masks)) (now (a .values)) (now (a .words))) (then (l .inv .3) (c .before .before .put-row .ensures .0)),
+      rw (lines-more (a .n) (a .k) (l .i) (now (a .masks)) (now (a .values)) (now (a .words))) (then (l .inv .2) (c .before .before .put-row .ensures)),
     )
 
 same-length : tie.Need-same-length Inv-loop μ-loop
@@ -69,7 +74,7 @@ returns : tie.Need-returns Inv-loop μ-loop
 returns c =
     let l = c .before .loop in
     let e : l .i ≡ c .before .before .before .before .before .before .args .p = omega arith in
-    (rw e at (l .inv .3), rw e at (l .inv .1))
+    rw e at (l .inv .2)
 
 pub put-rows-spec : {M : Type 1} → statement M
 put-rows-spec =

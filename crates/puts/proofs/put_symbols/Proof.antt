@@ -1,6 +1,6 @@
--- `puts::put_symbols` meets its contract. The loop's invariant: the symbols that are left, stored in what is there, give what all
--- symbols, stored at entry, give. The measure is the number of symbols left. Assumes nothing.
-use Prim.Native.Nat.{_≤_}
+-- `puts::put_symbols` meets its contract. The loop's invariant: there is room for the symbols that are left, and stored in what is there,
+-- they give what all symbols, stored at entry, give. The measure is the number of symbols left. Assumes nothing.
+use Prim.Native.Nat.{_+_, _≤_}
 use mathlib.Core.Path.{_≡_, refl, sym, _∙_}
 use native.Mathlib.Omega.{arith}
 use borrow.Author.Needs.{needs}
@@ -12,13 +12,16 @@ use Rattle.puts.proofs.put_symbols.Tie as tie
 use Rattle.puts.proofs.put_symbols.Statement.{statement}
 
 abbrev Inv-loop : tie.InvT-loop
-Inv-loop out₀ at n mask values left₀ m₀ v₀ out left m v = (left ≤ n) × (length out ≡ length out₀) × (sets out₀ at (symbols n mask values) ≡ sets out at (symbols left m v))
+Inv-loop out₀ at n mask values left₀ m₀ v₀ out left m v =
+    (left ≤ n) × (at + n ≤ length out) × (length out ≡ length out₀) × (sets out₀ at (symbols n mask values) ≡ sets out at (symbols left m v))
 
 abbrev μ-loop : tie.MeasureT-loop
 μ-loop out₀ at n mask values left₀ m₀ v₀ out left m v = left
 
 loop-holds : tie.Need-loop-holds Inv-loop μ-loop
-loop-holds c = (omega arith, refl, refl)
+loop-holds c =
+    let a = c .before .args in
+    (omega arith, omega (arith, length-symbols (a .n) (a .mask) (a .values)), refl, refl)
 
 sub-left : tie.Need-sub-left Inv-loop μ-loop
 sub-left c = omega arith
@@ -41,7 +44,8 @@ loop-again c =
     let a = c .before .before .before .before .args in (
       omega arith,
       simp length-set (l .inv .1),
-      rw (c .symbol .ensures) (l .inv .2 ∙ symbols-down (l .out) (a .at) (l .left) (l .m) (l .v) (c .before .loop-test .taken)),
+      simp length-set (l .inv .2),
+      rw (c .symbol .ensures) (l .inv .3 ∙ symbols-down (l .out) (a .at) (l .left) (l .m) (l .v) (c .before .loop-test .taken)),
     )
 
 add-result : tie.Need-add-result Inv-loop μ-loop
@@ -56,7 +60,7 @@ returns c =
     let l = c .before .loop in
     let a = c .before .before .before .args in
     let e : l .left ≡ 0 = omega arith in
-    (record { place = omega (arith, length-symbols (a .n) (a .mask) (a .values)); stored = sym (l .inv .2 ∙ rw e refl) }, refl)
+    record { place = omega (arith, length-symbols (a .n) (a .mask) (a .values)); stored = sym (l .inv .3 ∙ rw e refl) }
 
 pub put-symbols-spec : {M : Type 1} → statement M
 put-symbols-spec =

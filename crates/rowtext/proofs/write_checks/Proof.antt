@@ -4,6 +4,7 @@ use mathlib.Core.Path.{refl, sym, ap, _∙_}
 use native.Mathlib.Omega.{arith}
 use borrow.Author.Tests.{lt-ltb, le-ltb}
 use denote.Ref.{now}
+use Rattle.block.specs.Limits.{listInputs, givenRows}
 use Rattle.block.specs.Refusals.{outside}
 use Rattle.block.specs.Words.{rowsOf}
 use Rattle.block.specs.Text.{writeVerdict}
@@ -36,7 +37,7 @@ unfolding writeVerdict
 returns-2 c =
     let o = c .before .before in
     let size = o .before .before in
-    let out = ap (outside 1 128) (sym (o .before .row-count .ensures)) ∙ sym (o .is-outside .ensures) ∙ c .before .if2 .taken in
+    let out = ap (outside 1 givenRows) (sym (o .before .row-count .ensures)) ∙ sym (o .is-outside .ensures) ∙ c .before .if2 .taken in
     c .refuse .ensures ∙ sym (verdict-hit _ _ out)
     ∙ part-passes _ _ _ (size .before .before .sizes .ensures) (refl, (refl, tt)) (size .if1 .left)
 
@@ -49,7 +50,7 @@ returns-3 c =
     let count = c .before .before in
     let o = count .before in
     let size = o .before .before in
-    let out = ap (outside 1 128) (sym (o .before .row-count .ensures)) ∙ sym (o .is-outside .ensures) ∙ count .if2 .left in
+    let out = ap (outside 1 givenRows) (sym (o .before .row-count .ensures)) ∙ sym (o .is-outside .ensures) ∙ count .if2 .left in
     c .refuse2 .ensures ∙ sym (verdict-miss _ _ out ∙ verdict-hit _ _ (lt-ltb _ _ (c .before .if3 .taken)))
     ∙ part-passes _ _ _ (size .before .before .sizes .ensures) (refl, (refl, tt)) (size .if1 .left)
 
@@ -59,8 +60,8 @@ first-bad-row-requires c κs =
     let size = o .before .before in
     let s = size .before .before .before .before .before .before in
     let a = s .args in
-    let w = sized 16 (a .n) (a .k) _ (size .before .before .sizes .ensures) (size .if1 .left) in
-    let p = inside 1 128 (o .before .row-count .result) (sym (o .is-outside .ensures) ∙ c .before .if2 .left) in
+    let w = sized listInputs (a .n) (a .k) _ (size .before .before .sizes .ensures) (size .if1 .left) in
+    let p = inside 1 givenRows (o .before .row-count .result) (sym (o .is-outside .ensures) ∙ c .before .if2 .left) in
     let e = equal-lengths (now (a .masks)) (now (a .values)) (now (a .words)) (omega (arith, o .before .row-count .ensures)) in
     let l = rows-count (now (a .masks)) (now (a .values)) (now (a .words)) (e .0) (e .1) in
     ((w .0 .1, w .1 .1, omega (arith, o .before .row-count .ensures)), e)
@@ -77,7 +78,7 @@ returns-4 c =
     let size = o .before .before in
     let a = size .before .before .before .before .before .before .args in
     let p = o .before .row-count .ensures in
-    let out = ap (outside 1 128) (sym p) ∙ sym (o .is-outside .ensures) ∙ count .if2 .left in
+    let out = ap (outside 1 givenRows) (sym p) ∙ sym (o .is-outside .ensures) ∙ count .if2 .left in
     c .refuse-where .ensures
     ∙ bad-check (a .n) (a .k) (rowsOf (now (a .masks)) (now (a .values)) (now (a .words))) _ _ p (c .before .first-bad-row .ensures)
     ∙ sym (verdict-miss _ _ out ∙ verdict-miss _ _ (le-ltb _ _ (room .if3 .left)))

@@ -4,7 +4,7 @@ use lib.ListN.{length-take}
 use native.Mathlib.Omega.{arith}
 use denote.Ref.{now}
 use Rattle.block.specs.Words.{rowsOf}
-use Rattle.sheet_work.specs.Made.{sheet-refused, sheet-ready, sheet-small, sheet-answered}
+use Rattle.sheet_work.specs.Made.{sheet-refused, sheet-ready, sheet-room, sheet-answered}
 use borrow.Author.Needs.{needs}
 use Rattle.sheet_work.proofs.make_sheet.Statement.{statement}
 use Rattle.sheet_work.proofs.make_sheet.Tie as tie
@@ -72,17 +72,12 @@ slice-aggregate-put-sheet-5 c = search needs
 
 put-sheet-requires : tie.Need-put-sheet-requires
 put-sheet-requires c κs =
-    let a = c .before .before .before .before .before .before .before .before .before .before .before .before .before .before .before .before .before .before .before .before .before .before .before .args in
-    let h = sheet-ready (a .n) (a .k) (a .w) (rowsOf (now (a .masks)) (now (a .values)) (now (a .words))) (now (a .out)) _ _ _ _ _ _ _ _ _ _ _
-    (c .before .before .before .before .before .before .before .before .before .before .before .before .before .method-rows .ensures) (c .before .before .before .before .before .before .if1 .left) in
-    let s = sheet-small (a .n) (a .k) (a .w) (rowsOf (now (a .masks)) (now (a .values)) (now (a .words))) (now (a .out)) _ _ _ _ _ _ _ _ _ _ _
-    (c .before .before .before .before .before .before .before .before .before .before .before .before .before .method-rows .ensures) (c .before .before .before .before .before .before .if1 .left) in (
-      (h .inputs .1, h .outputs .1, omega (arith, h .inputs .1, h .weight .1), s .0, s .1, h .enough),
-      (
-        (simp length-take (omega (arith, h .inputs .1)), simp length-take (omega (arith, h .inputs .1)), s .2),
-        (omega (arith, s .2), omega (arith, s .2), omega (arith, s .2)),
-      ),
-    )
+    let left = c .before .before .before .before .before .before in
+    let done = left .before .before .before .before .before .before .before in
+    let a = done .before .before .before .before .before .before .before .before .before .before .args in
+    let s = sheet-room (a .n) (a .k) (a .w) (rowsOf (now (a .masks)) (now (a .values)) (now (a .words))) (now (a .out)) _ _ _ _ _ _ _ _ _ _ _
+    (done .method-rows .ensures) (left .if1 .left) in
+    (s .0, (omega (arith, s .1), omega (arith, s .1), omega (arith, s .1)))
 
 same-length : tie.Need-same-length
 same-length c = search needs

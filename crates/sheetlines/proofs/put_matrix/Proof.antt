@@ -1,6 +1,6 @@
 -- `sheetlines::put_matrix` meets its contract. The loop's invariant: the lines of the first i numbers are put. The measure is how many are
 -- left. Assumes nothing.
-use Prim.Native.Nat.{_+_, _-_, _*_, _≤_}
+use Prim.Native.Nat.{_-_, _≤_}
 use mathlib.Core.Path.{_≡_, refl}
 use native.Mathlib.Omega.{arith}
 use borrow.Author.Needs.{needs}
@@ -8,20 +8,21 @@ use denote.Ref.{now}
 use lib.ListN.{length, take}
 use lib.Seq.{take-length}
 use Rattle.block.specs.Sheet.{matrixLines}
-use Rattle.puts.specs.Puts.{Put, then, none-put, row-within}
+use Rattle.puts.specs.Puts.{Put, then, none-put}
+use Rattle.sheetlines.specs.Length.{line-within}
 use Rattle.sheetlines.specs.Lines.{matrix-none, matrix-more}
 use Rattle.sheetlines.proofs.put_matrix.Statement.{statement}
 use Rattle.sheetlines.proofs.put_matrix.Tie as tie
 
 abbrev Inv-loop : tie.InvT-loop
 Inv-loop out₀ at n numbers to₀ i₀ out to i =
-    (i ≤ length numbers) × (to ≡ at + i * (n + 1)) × (length out ≡ length out₀) × Put out₀ at (matrixLines n (take i numbers)) out to
+    (i ≤ length numbers) × (length out ≡ length out₀) × Put out₀ at (matrixLines n (take i numbers)) out to
 
 abbrev μ-loop : tie.MeasureT-loop
 μ-loop out₀ at n numbers to₀ i₀ out to i = length numbers - i
 
 loop-holds : tie.Need-loop-holds Inv-loop μ-loop
-loop-holds c = (omega arith, omega arith, refl, rw matrix-none (none-put _ _))
+loop-holds c = (omega arith, refl, rw matrix-none (none-put _ _))
 
 mul-put-matrix-line : tie.Need-mul-put-matrix-line Inv-loop μ-loop
 mul-put-matrix-line c = search needs
@@ -31,9 +32,9 @@ shared-slice-read-put-matrix-line c = omega arith
 
 put-matrix-line-requires : tie.Need-put-matrix-line-requires Inv-loop μ-loop
 put-matrix-line-requires c κs =
-    let a = c .before .before .before .before .before .before .args in
-    let l = c .before .before .before .loop in
-    omega (arith, row-within (l .i) (length (now (a .numbers))) (a .n + 1) (omega arith))
+    let turn = c .before .before .before in
+    let a = turn .before .before .before .args in
+    omega (arith, turn .loop .inv .2 .place, line-within (a .n) (turn .loop .i) (now (a .numbers)) (omega arith))
 
 add-i : tie.Need-add-i Inv-loop μ-loop
 add-i c = omega arith
@@ -43,12 +44,12 @@ loop-less c = omega arith
 
 loop-again : tie.Need-loop-again Inv-loop μ-loop
 loop-again c =
-    let a = c .before .before .before .before .before .before .before .before .before .args in
-    let l = c .before .before .before .before .before .before .loop in (
-      omega arith,
+    let turn = c .before .before .before .before .before .before in
+    let a = turn .before .before .before .args in
+    let l = turn .loop in (
       omega arith,
       omega (arith, c .before .before .put-matrix-line .kept .0),
-      rw (matrix-more (a .n) (l .i) (now (a .numbers)) (omega arith)) (then (l .inv .3) (c .before .before .put-matrix-line .ensures .0)),
+      rw (matrix-more (a .n) (l .i) (now (a .numbers)) (omega arith)) (then (l .inv .2) (c .before .before .put-matrix-line .ensures)),
     )
 
 same-length : tie.Need-same-length Inv-loop μ-loop
@@ -58,7 +59,7 @@ returns : tie.Need-returns Inv-loop μ-loop
 returns c =
     let l = c .before .loop in
     let e : l .i ≡ length (now (c .before .before .before .before .args .numbers)) = omega arith in
-    (rw (e, take-length) at (l .inv .3), rw e at (l .inv .1))
+    rw (e, take-length) at (l .inv .2)
 
 pub put-matrix-spec : {M : Type 1} → statement M
 put-matrix-spec =

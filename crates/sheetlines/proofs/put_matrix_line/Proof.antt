@@ -1,22 +1,29 @@
 -- `sheetlines::put_matrix_line` meets its contract: the bits and LF, one after the other, are the line. Assumes nothing.
 use Rattle.puts.specs.Puts.{then}
 use Rattle.block.specs.Sheet.{matrixLines}
+use native.Mathlib.Omega.{arith}
 use borrow.Author.Needs.{needs}
+use lib.ListN.{length-append}
 use Rattle.sheetlines.proofs.put_matrix_line.Statement.{statement}
 use Rattle.sheetlines.proofs.put_matrix_line.Tie as tie
 
 put-bits-requires : tie.Need-put-bits-requires
-put-bits-requires c κs = search needs
+unfolding matrixLines
+put-bits-requires c κs = let start = c .before .before in omega (arith, simp length-append at (start .pre))
 
 put-byte-requires : tie.Need-put-byte-requires
-put-byte-requires c κs = search needs
+unfolding matrixLines
+put-byte-requires c κs = let start = c .before .before .before .before .before .before in omega (arith, simp length-append at (start .pre))
 
 same-length : tie.Need-same-length
 same-length c = search needs
 
 returns : tie.Need-returns
 unfolding matrixLines
-returns c = (then (c .before .before .before .before .before .before .put-bits .ensures .0) (c .before .before .put-byte .ensures), search needs)
+returns c =
+    let end = c .before .before in
+    let line = end .before .before .before .before in
+    then (line .put-bits .ensures) (end .put-byte .ensures)
 
 pub put-matrix-line-spec : {M : Type 1} → statement M
 put-matrix-line-spec = tie.close (tie.spec put-bits-requires put-byte-requires same-length returns)

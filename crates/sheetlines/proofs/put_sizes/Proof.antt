@@ -1,7 +1,9 @@
 -- `sheetlines::put_sizes` meets its contract: the five puts, one after the other. Assumes nothing.
 use Rattle.puts.specs.Puts.{then}
-use Rattle.sheetlines.specs.Lines.{sizesText, numbers-more}
+use Rattle.sheetlines.specs.Lines.{sizesText}
+use native.Mathlib.Omega.{arith}
 use borrow.Author.Needs.{needs}
+use lib.ListN.{length-append}
 use Rattle.sheetlines.proofs.put_sizes.Statement.{statement}
 use Rattle.sheetlines.proofs.put_sizes.Tie as tie
 
@@ -9,22 +11,27 @@ slice-aggregate-put-section : tie.Need-slice-aggregate-put-section
 slice-aggregate-put-section c = search needs
 
 put-section-requires : tie.Need-put-section-requires
-put-section-requires c κs = search needs
+unfolding sizesText
+put-section-requires c κs = let start = c .before .before .before in omega (arith, simp length-append at (start .pre))
 
 slice-aggregate-put-section-2 : tie.Need-slice-aggregate-put-section-2
 slice-aggregate-put-section-2 c = search needs
 
 put-section-requires-2 : tie.Need-put-section-requires-2
-put-section-requires-2 c κs = search needs
+unfolding sizesText
+put-section-requires-2 c κs = let start = c .before .before .before .before .before .before .before .before in omega (arith, simp length-append at (start .pre))
 
 put-number-requires : tie.Need-put-number-requires
-put-number-requires c κs = search needs
+unfolding sizesText
+put-number-requires c κs = let start = c .before .before .before .before .before .before .before .before .before .before .before .before in omega (arith, simp length-append at (start .pre))
 
 put-number-requires-2 : tie.Need-put-number-requires-2
-put-number-requires-2 c κs = search needs
+unfolding sizesText
+put-number-requires-2 c κs = let start = c .before .before .before .before .before .before .before .before .before .before .before .before .before .before .before .before in omega (arith, simp length-append at (start .pre))
 
 put-number-requires-3 : tie.Need-put-number-requires-3
-put-number-requires-3 c κs = search needs
+unfolding sizesText
+put-number-requires-3 c κs = let start = c .before .before .before .before .before .before .before .before .before .before .before .before .before .before .before .before .before .before .before .before in omega (arith, simp length-append at (start .pre))
 
 same-length : tie.Need-same-length
 same-length c = search needs
@@ -32,9 +39,14 @@ same-length c = search needs
 returns : tie.Need-returns
 unfolding sizesText
 returns c =
-    let two = rw numbers-more at (then (c .before .before .before .before .before .before .put-number2 .ensures .0) (c .before .before .put-number3 .ensures .0)) in
-    let three = rw numbers-more at (then (c .before .before .before .before .before .before .before .before .before .before .put-number .ensures .0) two) in
-    (then (then (c .before .before .before .before .before .before .before .before .before .before .before .before .before .before .before .before .before .before .before .put-section .ensures .0) (c .before .before .before .before .before .before .before .before .before .before .before .before .before .before .put-section2 .ensures .0)) three, search needs)
+    let weight = c .before .before in
+    let outputs = weight .before .before .before .before in
+    let inputs = outputs .before .before .before .before in
+    let size = inputs .before .before .before .before in
+    let sheet = size .before .before .before .before .before in
+    then
+    (then (then (then (sheet .put-section .ensures) (size .put-section2 .ensures)) (inputs .put-number .ensures)) (outputs .put-number2 .ensures))
+    (weight .put-number3 .ensures)
 
 pub put-sizes-spec : {M : Type 1} → statement M
 put-sizes-spec =

@@ -1,10 +1,10 @@
--- `sheetlines::put_table` meets its contract: the first line and the rows, one after the other, which fit by the laws on their lengths.
--- Assumes nothing.
-use Rattle.puts.specs.Puts.{then}
+-- `sheetlines::put_table` meets its contract: the first line and the rows, one after the other. Assumes nothing.
 use native.Mathlib.Omega.{arith}
-use Rattle.lines.specs.Front.{rows-bytes-le}
-use Rattle.sheetlines.specs.Length.{table-le}
 use borrow.Author.Needs.{needs}
+use lib.ListN.{length-append}
+use Rattle.slices.specs.Filled.{length-tab}
+use Rattle.puts.specs.Puts.{then}
+use Rattle.sheetlines.specs.Lines.{tableText}
 use Rattle.sheetlines.proofs.put_table.Statement.{statement}
 use Rattle.sheetlines.proofs.put_table.Tie as tie
 
@@ -12,20 +12,24 @@ slice-aggregate-put-section : tie.Need-slice-aggregate-put-section
 slice-aggregate-put-section c = search needs
 
 put-section-requires : tie.Need-put-section-requires
-put-section-requires c κs = search needs
+unfolding tableText
+put-section-requires c κs = let start = c .before .before .before .before .before .before in omega (arith, simp (length-append, length-tab) at (start .pre .0))
 
 put-rows-requires : tie.Need-put-rows-requires
+unfolding tableText
 put-rows-requires c κs =
-    let a = c .before .before .before .before .before .before .before .before .before .before .args in
-    let h = table-le (a .count) (omega arith) in
-    let r = rows-bytes-le (a .n) (a .k) (a .count) (omega arith) (omega arith) (omega arith) in
-    omega (arith, c .before .before .before .put-section .ensures .0 .place)
+    let start = c .before .before .before .before .before .before .before .before .before .before in
+    (omega (arith, simp (length-append, length-tab) at (start .pre .0)), start .pre .1)
 
 same-length : tie.Need-same-length
 same-length c = search needs
 
 returns : tie.Need-returns
-returns c = then (c .before .before .before .before .before .before .put-section .ensures .0) (c .before .before .put-rows .ensures .0)
+unfolding tableText
+returns c =
+    let rows = c .before .before in
+    let first = rows .before .before .before .before in
+    rw length-tab (then (first .put-section .ensures) (rows .put-rows .ensures))
 
 pub put-table-spec : {M : Type 1} → statement M
 put-table-spec =

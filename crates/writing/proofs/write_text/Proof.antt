@@ -11,7 +11,7 @@ use Rattle.block.specs.Text.{writeText}
 use Rattle.puts.specs.Puts.{put-over}
 use Rattle.rowtext.specs.Length.{text-le}
 use Rattle.block.specs.Words.{rowsOf}
-use Rattle.listing.specs.Listing.{equal-lengths, rows-count}
+use Rattle.listing.specs.Listing.{equal-lengths}
 use Rattle.rowtext.specs.Checks.{writable}
 use Rattle.writing.proofs.write_text.Statement.{statement}
 use Rattle.writing.proofs.write_text.Tie as tie
@@ -28,8 +28,7 @@ put-text-requires c κs =
     let a = c .before .before .before .before .before .before .before .before .args in
     let w = writable (a .n) (a .k) (rowsOf (now (a .masks)) (now (a .values)) (now (a .words))) (length (now (a .out))) (ap (λ v. v .number) (sym (c .before .before .before .write-checks .ensures)) ∙ c .before .if1 .left) in
     let e = equal-lengths (now (a .masks)) (now (a .values)) (now (a .words)) (w .count .0) in
-    let l = rows-count (now (a .masks)) (now (a .values)) (now (a .words)) (e .0) (e .1) in
-    ((w .inputs .1, w .outputs .1, omega arith, w .enough), e)
+    (omega (arith, text-le (a .n) (a .k) (rowsOf (now (a .masks)) (now (a .values)) (now (a .words))) (w .inputs .1) (w .outputs .1) (w .count .1), w .enough), e)
 
 same-length : tie.Need-same-length
 same-length c = search needs
