@@ -12,11 +12,11 @@ import-text-requires c κs = search needs
 
 array-share-prefix-line : tie.Need-array-share-prefix-line
 array-share-prefix-line c =
-    line-fits (now (c .before .before .before .before .before .before .before .args .name)) (now (c .before .before .before .before .before .before .before .args .text)) _ _ _ (c .before .before .import-text .ensures .0) (c .before .before .import-text .ensures .1 .1)
+    line-fits (now (c .before .before .before .before .before .before .before .args .name)) (now (c .before .before .before .before .before .before .before .args .text)) _ _ _ (c .before .before .import-text .ensures .answer) (c .before .before .import-text .ensures .line)
 
 slice-aggregate-say : tie.Need-slice-aggregate-say
 slice-aggregate-say c =
-    simp length-take (omega (arith, line-fits (now (c .before .before .before .before .before .before .before .before .args .name)) (now (c .before .before .before .before .before .before .before .before .args .text)) _ _ _ (c .before .before .before .import-text .ensures .0) (c .before .before .before .import-text .ensures .1 .1)))
+    simp length-take (omega (arith, line-fits (now (c .before .before .before .before .before .before .before .before .args .name)) (now (c .before .before .before .before .before .before .before .before .args .text)) _ _ _ (c .before .before .before .import-text .ensures .answer) (c .before .before .before .import-text .ensures .line)))
 
 say-requires : tie.Need-say-requires
 say-requires c κs = search needs
@@ -29,11 +29,11 @@ returns c = search needs
 
 array-share-prefix-sheet : tie.Need-array-share-prefix-sheet
 array-share-prefix-sheet c =
-    sheet-fits (now (c .before .before .before .before .before .before .before .args .name)) (now (c .before .before .before .before .before .before .before .args .text)) _ _ _ (c .before .before .import-text .ensures .0) (c .before .before .import-text .ensures .1 .0) (c .if1 .left)
+    sheet-fits (now (c .before .before .before .before .before .before .before .args .name)) (now (c .before .before .before .before .before .before .before .args .text)) _ _ _ (c .before .before .import-text .ensures .answer) (c .before .before .import-text .ensures .sheet) (c .if1 .left)
 
 slice-aggregate-write-sheet : tie.Need-slice-aggregate-write-sheet
 slice-aggregate-write-sheet c =
-    simp length-take (omega (arith, sheet-fits (now (c .before .before .before .before .before .before .before .before .args .name)) (now (c .before .before .before .before .before .before .before .before .args .text)) _ _ _ (c .before .before .before .import-text .ensures .0) (c .before .before .before .import-text .ensures .1 .0) (c .before .if1 .left)))
+    simp length-take (omega (arith, sheet-fits (now (c .before .before .before .before .before .before .before .before .args .name)) (now (c .before .before .before .before .before .before .before .before .args .text)) _ _ _ (c .before .before .before .import-text .ensures .answer) (c .before .before .before .import-text .ensures .sheet) (c .before .if1 .left)))
 
 write-sheet-requires : tie.Need-write-sheet-requires
 write-sheet-requires c κs = search needs
@@ -58,11 +58,11 @@ returns-2 c = search needs
 
 array-share-prefix-line-2 : tie.Need-array-share-prefix-line-2
 array-share-prefix-line-2 c =
-    line-fits (now (c .before .before .before .before .before .before .before .before .before .before .args .name)) (now (c .before .before .before .before .before .before .before .before .before .before .args .text)) _ _ _ (c .before .before .before .before .before .import-text .ensures .0) (c .before .before .before .before .before .import-text .ensures .1 .1)
+    line-fits (now (c .before .before .before .before .before .before .before .before .before .before .args .name)) (now (c .before .before .before .before .before .before .before .before .before .before .args .text)) _ _ _ (c .before .before .before .before .before .import-text .ensures .answer) (c .before .before .before .before .before .import-text .ensures .line)
 
 slice-aggregate-say-3 : tie.Need-slice-aggregate-say-3
 slice-aggregate-say-3 c =
-    simp length-take (omega (arith, line-fits (now (c .before .before .before .before .before .before .before .before .before .before .before .args .name)) (now (c .before .before .before .before .before .before .before .before .before .before .before .args .text)) _ _ _ (c .before .before .before .before .before .before .import-text .ensures .0) (c .before .before .before .before .before .before .import-text .ensures .1 .1)))
+    simp length-take (omega (arith, line-fits (now (c .before .before .before .before .before .before .before .before .before .before .before .args .name)) (now (c .before .before .before .before .before .before .before .before .before .before .before .args .text)) _ _ _ (c .before .before .before .before .before .before .import-text .ensures .answer) (c .before .before .before .before .before .before .import-text .ensures .line)))
 
 say-requires-3 : tie.Need-say-requires-3
 say-requires-3 c κs = search needs

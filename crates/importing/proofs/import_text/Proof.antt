@@ -25,7 +25,7 @@ returns c =
     let p = c .put-line .ensures in
     let f = c .before .first-bytes .ensures in
     let m = line-made (now (a .name)) (now (a .text)) _ (now (a .line)) _ _ _ f (e .0) (p .0) (omega (arith, p .1, simp length-take at (ap length f))) in
-    (m .0, (e .1, m .1))
+    record { answer = m .0; sheet = e .1; line = m .1 }
 
 pub import-text-spec : {M : Type 1} → statement M
 import-text-spec =
