@@ -3,27 +3,20 @@
 use block::Answer;
 use block::ReadAnswer;
 use block::RowMethodAnswer;
+use block::SHEET_ROOM;
 use block::TableMethodAnswer;
 use block::TextAnswer;
 use block::ValueAnswer;
-ghost use mathlib.Core.Path.{_≡_};
-ghost use mathlib.Core.List.{map};
-ghost use Prim.Native.Nat.{min};
-ghost use lib.ListN.{length};
-ghost use Rattle.block.specs.Words.{ofTable, ofRows, rowsOf};
-ghost use Rattle.block.specs.Basis.{basisOf, sigmaOf};
-ghost use Rattle.block.specs.Refusals.{stored};
-ghost use Rattle.block.specs.Tables.{tableValue, tableMethodVerdict, tableMethod, smallerTable, restoreVerdict, restored};
-ghost use Rattle.block.specs.Lists.{rowValue, rowMethodVerdict, rowMethod, smallerList, fillVerdict, filled};
-ghost use Rattle.block.specs.Text.{writeVerdict, writeText, textOf, readVerdict, readText};
-ghost use Rattle.reading.specs.Storage.{shortest, masksIn, valuesIn, wordsIn};
-ghost use Rattle.slices.specs.Places.{over};
-ghost use Rattle.block.specs.Sheet.{sheet, sheetVerdict, sheetText, printed};
-ghost use Rattle.block.specs.declared.Row.{Row};
+ghost use Rattle.block.specs.Words.{rowsOf};
+ghost use Rattle.promises.specs.Lent.{lentFlat};
+ghost use Rattle.promises.specs.Tables.{TableValuePromise, TableMethodPromise, RestorePromise};
+ghost use Rattle.promises.specs.Lists.{RowValuePromise, RowMethodPromise, FillPromise};
+ghost use Rattle.promises.specs.Texts.{WritePromise, ReadPromise};
+ghost use Rattle.promises.specs.Sheets.{SheetPromise, PrintPromise};
 
 #[no_mangle]
 pub extern "C" fn irwystl_table_value(n: usize, k: usize, t: usize, table: &[u16]) -> ValueAnswer
-    ensures { λ r. ⌜ r ≡ tableValue n k t (now (table .entry)) ⌝ }
+    ensures { λ r. ⌜ TableValuePromise n k t (now (table .entry)) r ⌝ }
 {
     tables::table_value(n, k, t, table)
 }
@@ -38,10 +31,8 @@ pub extern "C" fn irwystl_table_method(
     sigma: &mut [u32],
     smaller: &mut [u16],
 ) -> TableMethodAnswer
-    ensures { λ r. ⌜ r ≡ tableMethod n k w (now (table .entry)) (length (now (basis .entry))) (length (now (sigma .entry))) (length (now (smaller .entry))) ⌝ }
-    ensures { λ _. ⌜ now (basis .exit) ≡ stored (tableMethodVerdict n k w (now (table .entry)) (length (now (basis .entry))) (length (now (sigma .entry))) (length (now (smaller .entry)))) (basisOf (ofTable (now (table .entry))) n w) (now (basis .entry)) ⌝ }
-    ensures { λ _. ⌜ now (sigma .exit) ≡ stored (tableMethodVerdict n k w (now (table .entry)) (length (now (basis .entry))) (length (now (sigma .entry))) (length (now (smaller .entry)))) (sigmaOf (ofTable (now (table .entry))) n w) (now (sigma .entry)) ⌝ }
-    ensures { λ _. ⌜ now (smaller .exit) ≡ stored (tableMethodVerdict n k w (now (table .entry)) (length (now (basis .entry))) (length (now (sigma .entry))) (length (now (smaller .entry)))) (smallerTable (ofTable (now (table .entry))) n w) (now (smaller .entry)) ⌝ }
+    ensures { λ r. ⌜ TableMethodPromise n k w (now (table .entry))
+        (now (basis .entry)) (now (sigma .entry)) (now (smaller .entry)) r (now (basis .exit)) (now (sigma .exit)) (now (smaller .exit)) ⌝ }
 {
     tables::table_method(n, k, w, table, basis, sigma, smaller)
 }
@@ -54,8 +45,7 @@ pub extern "C" fn irwystl_restore_table(
     smaller: &[u16],
     table: &mut [u16],
 ) -> Answer
-    ensures { λ r. ⌜ r ≡ restoreVerdict n k (now (sigma .entry)) (now (smaller .entry)) (length (now (table .entry))) ⌝ }
-    ensures { λ _. ⌜ now (table .exit) ≡ stored (restoreVerdict n k (now (sigma .entry)) (now (smaller .entry)) (length (now (table .entry)))) (restored n (now (sigma .entry)) (now (smaller .entry))) (now (table .entry)) ⌝ }
+    ensures { λ r. ⌜ RestorePromise n k (now (sigma .entry)) (now (smaller .entry)) (now (table .entry)) r (now (table .exit)) ⌝ }
 {
     tables::restore_table(n, k, sigma, smaller, table)
 }
@@ -69,7 +59,7 @@ pub extern "C" fn irwystl_row_value(
     values: &[u32],
     words: &[u32],
 ) -> ValueAnswer
-    ensures { λ r. ⌜ r ≡ rowValue n k t (rowsOf (now (masks .entry)) (now (values .entry)) (now (words .entry))) ⌝ }
+    ensures { λ r. ⌜ RowValuePromise n k t (rowsOf (now (masks .entry)) (now (values .entry)) (now (words .entry))) r ⌝ }
 {
     lists::row_value(n, k, t, masks, values, words)
 }
@@ -88,12 +78,10 @@ pub extern "C" fn irwystl_row_method(
     smaller_values: &mut [u32],
     smaller_words: &mut [u32],
 ) -> RowMethodAnswer
-    ensures { λ r. ⌜ r ≡ rowMethod n k w (rowsOf (now (masks .entry)) (now (values .entry)) (now (words .entry))) (length (now (basis .entry))) (length (now (sigma .entry))) (min (length (now («smaller_masks» .entry))) (min (length (now («smaller_values» .entry))) (length (now («smaller_words» .entry))))) ⌝ }
-    ensures { λ _. ⌜ now (basis .exit) ≡ stored (rowMethodVerdict n k w (rowsOf (now (masks .entry)) (now (values .entry)) (now (words .entry))) (length (now (basis .entry))) (length (now (sigma .entry))) (min (length (now («smaller_masks» .entry))) (min (length (now («smaller_values» .entry))) (length (now («smaller_words» .entry)))))) (basisOf (ofRows (rowsOf (now (masks .entry)) (now (values .entry)) (now (words .entry)))) n w) (now (basis .entry)) ⌝ }
-    ensures { λ _. ⌜ now (sigma .exit) ≡ stored (rowMethodVerdict n k w (rowsOf (now (masks .entry)) (now (values .entry)) (now (words .entry))) (length (now (basis .entry))) (length (now (sigma .entry))) (min (length (now («smaller_masks» .entry))) (min (length (now («smaller_values» .entry))) (length (now («smaller_words» .entry)))))) (sigmaOf (ofRows (rowsOf (now (masks .entry)) (now (values .entry)) (now (words .entry)))) n w) (now (sigma .entry)) ⌝ }
-    ensures { λ _. ⌜ now («smaller_masks» .exit) ≡ stored (rowMethodVerdict n k w (rowsOf (now (masks .entry)) (now (values .entry)) (now (words .entry))) (length (now (basis .entry))) (length (now (sigma .entry))) (min (length (now («smaller_masks» .entry))) (min (length (now («smaller_values» .entry))) (length (now («smaller_words» .entry)))))) (map (λ (r : Row). r .mask) (smallerList n w (rowsOf (now (masks .entry)) (now (values .entry)) (now (words .entry))))) (now («smaller_masks» .entry)) ⌝ }
-    ensures { λ _. ⌜ now («smaller_values» .exit) ≡ stored (rowMethodVerdict n k w (rowsOf (now (masks .entry)) (now (values .entry)) (now (words .entry))) (length (now (basis .entry))) (length (now (sigma .entry))) (min (length (now («smaller_masks» .entry))) (min (length (now («smaller_values» .entry))) (length (now («smaller_words» .entry)))))) (map (λ (r : Row). r .values) (smallerList n w (rowsOf (now (masks .entry)) (now (values .entry)) (now (words .entry))))) (now («smaller_values» .entry)) ⌝ }
-    ensures { λ _. ⌜ now («smaller_words» .exit) ≡ stored (rowMethodVerdict n k w (rowsOf (now (masks .entry)) (now (values .entry)) (now (words .entry))) (length (now (basis .entry))) (length (now (sigma .entry))) (min (length (now («smaller_masks» .entry))) (min (length (now («smaller_values» .entry))) (length (now («smaller_words» .entry)))))) (map (λ (r : Row). r .word) (smallerList n w (rowsOf (now (masks .entry)) (now (values .entry)) (now (words .entry))))) (now («smaller_words» .entry)) ⌝ }
+    ensures { λ r. ⌜ RowMethodPromise n k w (rowsOf (now (masks .entry)) (now (values .entry)) (now (words .entry)))
+        (lentFlat (now («smaller_masks» .entry)) (now («smaller_values» .entry)) (now («smaller_words» .entry))
+        (now («smaller_masks» .exit)) (now («smaller_values» .exit)) (now («smaller_words» .exit)))
+        (now (basis .entry)) (now (sigma .entry)) r (now (basis .exit)) (now (sigma .exit)) ⌝ }
 {
     lists::row_method(
         n,
@@ -119,8 +107,8 @@ pub extern "C" fn irwystl_fill_table(
     words: &[u32],
     table: &mut [u16],
 ) -> Answer
-    ensures { λ r. ⌜ r ≡ fillVerdict n k (rowsOf (now (masks .entry)) (now (values .entry)) (now (words .entry))) (length (now (table .entry))) ⌝ }
-    ensures { λ _. ⌜ now (table .exit) ≡ stored (fillVerdict n k (rowsOf (now (masks .entry)) (now (values .entry)) (now (words .entry))) (length (now (table .entry)))) (filled n (rowsOf (now (masks .entry)) (now (values .entry)) (now (words .entry)))) (now (table .entry)) ⌝ }
+    ensures { λ r. ⌜ FillPromise n k (rowsOf (now (masks .entry)) (now (values .entry)) (now (words .entry)))
+        (now (table .entry)) r (now (table .exit)) ⌝ }
 {
     lists::fill_table(n, k, masks, values, words, table)
 }
@@ -134,8 +122,8 @@ pub extern "C" fn irwystl_write_text(
     words: &[u32],
     out: &mut [u8],
 ) -> TextAnswer
-    ensures { λ r. ⌜ r ≡ writeText n k (rowsOf (now (masks .entry)) (now (values .entry)) (now (words .entry))) (length (now (out .entry))) ⌝ }
-    ensures { λ _. ⌜ now (out .exit) ≡ stored (writeVerdict n k (rowsOf (now (masks .entry)) (now (values .entry)) (now (words .entry))) (length (now (out .entry)))) (textOf n k (rowsOf (now (masks .entry)) (now (values .entry)) (now (words .entry)))) (now (out .entry)) ⌝ }
+    ensures { λ r. ⌜ WritePromise n k (rowsOf (now (masks .entry)) (now (values .entry)) (now (words .entry)))
+        (now (out .entry)) r (now (out .exit)) ⌝ }
 {
     writing::write_text(n, k, masks, values, words, out)
 }
@@ -150,8 +138,8 @@ pub extern "C" fn irwystl_sheet(
     words: &[u32],
     out: &mut [u8],
 ) -> TextAnswer
-    ensures { λ r. ⌜ r ≡ sheet n k w (rowsOf (now (masks .entry)) (now (values .entry)) (now (words .entry))) (length (now (out .entry))) ⌝ }
-    ensures { λ _. ⌜ now (out .exit) ≡ stored (sheetVerdict n k w (rowsOf (now (masks .entry)) (now (values .entry)) (now (words .entry))) (length (now (out .entry)))) (sheetText n k w (rowsOf (now (masks .entry)) (now (values .entry)) (now (words .entry)))) (now (out .entry)) ⌝ }
+    ensures { λ r. ⌜ SheetPromise n k w (rowsOf (now (masks .entry)) (now (values .entry)) (now (words .entry)))
+        (now (out .entry)) r (now (out .exit)) ⌝ }
 {
     sheets::sheet(n, k, w, masks, values, words, out)
 }
@@ -163,10 +151,9 @@ pub extern "C" fn irwystl_read_text(
     values: &mut [u32],
     words: &mut [u32],
 ) -> ReadAnswer
-    ensures { λ r. ⌜ r ≡ readText (now (text .entry)) (shortest (now (masks .entry)) (now (values .entry)) (now (words .entry))) ⌝ }
-    ensures { λ _. ⌜ now (masks .exit) ≡ stored (readVerdict (now (text .entry)) (shortest (now (masks .entry)) (now (values .entry)) (now (words .entry)))) (masksIn (now (text .entry))) (now (masks .entry)) ⌝ }
-    ensures { λ _. ⌜ now (values .exit) ≡ stored (readVerdict (now (text .entry)) (shortest (now (masks .entry)) (now (values .entry)) (now (words .entry)))) (valuesIn (now (text .entry))) (now (values .entry)) ⌝ }
-    ensures { λ _. ⌜ now (words .exit) ≡ stored (readVerdict (now (text .entry)) (shortest (now (masks .entry)) (now (values .entry)) (now (words .entry)))) (wordsIn (now (text .entry))) (now (words .entry)) ⌝ }
+    ensures { λ r. ⌜ ReadPromise (now (text .entry))
+        (lentFlat (now (masks .entry)) (now (values .entry)) (now (words .entry)) (now (masks .exit)) (now (values .exit)) (now (words .exit)))
+        r ⌝ }
 {
     let answer = reading::read_text(text, masks, values, words);
     kinds::in_numbers(answer)
@@ -174,9 +161,8 @@ pub extern "C" fn irwystl_read_text(
 
 // What the program prints for a text, into room for every sheet. An array is passed as a pointer alone.
 #[no_mangle]
-pub extern "C" fn irwystl_print_text(input: &[u8], out: &mut [u8; 17518]) -> usize
-    ensures { λ _. ⌜ now (out .exit) ≡ over (printed (now (input .entry))) (now (out .entry)) ⌝ }
-    ensures { λ r. ⌜ r ≡ length (printed (now (input .entry))) ⌝ }
+pub extern "C" fn irwystl_print_text(input: &[u8], out: &mut [u8; SHEET_ROOM]) -> usize
+    ensures { λ r. ⌜ PrintPromise (now (input .entry)) (now (out .entry)) r (now (out .exit)) ⌝ }
 {
     printing::print_text(input, out)
 }

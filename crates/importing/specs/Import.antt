@@ -1,8 +1,11 @@
--- What one list of a bulk import comes to. Assumes nothing.
+-- What one list of a bulk import comes to, and what `import_text` promises of it. Assumes nothing.
+use mathlib.Core.Path.{_≡_}
 use mathlib.Core.List.{List}
 use Prim.Native.Nat.{ℕ}
 use lib.ListN.{length, take}
-use Rattle.text_work.specs.Work.{textVerdict, textWork}
+use Rattle.slices.specs.Places.{over}
+use Rattle.block.specs.Refusals.{stored}
+use Rattle.text_work.specs.Work.{textVerdict, sheetIn, textWork}
 use Rattle.import_lines.specs.Line.{importLine}
 use Rattle.importing.specs.declared.Imported.{Imported}
 
@@ -20,3 +23,9 @@ imported name text =
       count = textWork text .count;
       length = length (lineOf name text);
     }
+
+-- the promise: storage that held s₀ holds s₁ at the end
+pub record ImportPromise (name text sheet₀ line₀ : List ℕ) (r : Imported) (sheet₁ line₁ : List ℕ) : Type 0 where
+  pub answer : r ≡ imported name text
+  pub sheet : sheet₁ ≡ stored (textVerdict text) (sheetIn text) sheet₀
+  pub line : line₁ ≡ over (lineOf name text) line₀

@@ -1,10 +1,7 @@
 // One list of a bulk import. One operation: `import_text` makes the sheet of a list that a file held, as the program prints it, and the
 // line that says what came of it. This crate holds nothing else.
-ghost use mathlib.Core.Path.{_≡_};
-ghost use Rattle.slices.specs.Places.{over};
-ghost use Rattle.block.specs.Refusals.{stored};
-ghost use Rattle.text_work.specs.Work.{textVerdict, sheetIn};
-ghost use Rattle.importing.specs.Import.{lineOf, imported};
+use block::SHEET_ROOM;
+ghost use Rattle.importing.specs.Import.{ImportPromise};
 
 // The answer: its number and places, the bytes of the sheet (0 with a refusal), and the bytes of the line.
 pub struct Imported {
@@ -20,12 +17,11 @@ pub struct Imported {
 pub fn import_text(
     name: &[u8],
     text: &[u8],
-    sheet: &mut [u8; 17518],
+    sheet: &mut [u8; SHEET_ROOM],
     line: &mut [u8; 4176],
 ) -> Imported
-    ensures answer { λ r. ⌜ r ≡ imported (now (name .entry)) (now (text .entry)) ⌝ }
-    ensures sheet { λ r. ⌜ now (sheet .exit) ≡ stored (textVerdict (now (text .entry))) (sheetIn (now (text .entry))) (now (sheet .entry)) ⌝ }
-    ensures line { λ r. ⌜ now (line .exit) ≡ over (lineOf (now (name .entry)) (now (text .entry))) (now (line .entry)) ⌝ }
+    ensures { λ r. ⌜ ImportPromise (now (name .entry)) (now (text .entry)) (now (sheet .entry)) (now (line .entry))
+        r (now (sheet .exit)) (now (line .exit)) ⌝ }
 {
     let r = text_work::work_text(text, sheet);
     let number = r.number;

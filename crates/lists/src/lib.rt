@@ -4,15 +4,9 @@
 use block::Answer;
 use block::RowMethodAnswer;
 use block::ValueAnswer;
-ghost use mathlib.Core.Path.{_≡_};
-ghost use lib.ListN.{length};
-ghost use Prim.Native.Nat.{min};
-ghost use mathlib.Core.List.{map};
-ghost use Rattle.block.specs.Words.{rowsOf, ofRows};
-ghost use Rattle.block.specs.Basis.{basisOf, sigmaOf};
-ghost use Rattle.block.specs.Refusals.{stored};
-ghost use Rattle.block.specs.Lists.{rowValue, rowMethodVerdict, rowMethod, smallerList, fillVerdict, filled};
-ghost use Rattle.block.specs.declared.Row.{Row};
+ghost use Rattle.block.specs.Words.{rowsOf};
+ghost use Rattle.promises.specs.Lent.{lentFlat};
+ghost use Rattle.promises.specs.Lists.{RowValuePromise, RowMethodPromise, FillPromise};
 
 // R(t) of a list. Refuses with 1, 2, 3, 4, 6 and 7.
 pub fn row_value(
@@ -23,7 +17,7 @@ pub fn row_value(
     values: &[u32],
     words: &[u32],
 ) -> ValueAnswer
-    ensures { λ r. ⌜ r ≡ rowValue n k t (rowsOf (now (masks .entry)) (now (values .entry)) (now (words .entry))) ⌝ }
+    ensures { λ r. ⌜ RowValuePromise n k t (rowsOf (now (masks .entry)) (now (values .entry)) (now (words .entry))) r ⌝ }
 {
     let v = row_checks::row_value_verdict(n, k, t, masks, values, words);
     if v.number != 0 {
@@ -52,8 +46,8 @@ pub fn fill_table(
     words: &[u32],
     table: &mut [u16],
 ) -> Answer
-    ensures answer { λ r. ⌜ r ≡ fillVerdict n k (rowsOf (now (masks .entry)) (now (values .entry)) (now (words .entry))) (length (now (table .entry))) ⌝ }
-    ensures table { λ _. ⌜ now (table .exit) ≡ stored (fillVerdict n k (rowsOf (now (masks .entry)) (now (values .entry)) (now (words .entry))) (length (now (table .entry)))) (filled n (rowsOf (now (masks .entry)) (now (values .entry)) (now (words .entry)))) (now (table .entry)) ⌝ }
+    ensures { λ r. ⌜ FillPromise n k (rowsOf (now (masks .entry)) (now (values .entry)) (now (words .entry)))
+        (now (table .entry)) r (now (table .exit)) ⌝ }
 {
     let v = row_checks::fill_verdict(n, k, masks, values, words, table.len());
     if v.number != 0 {
@@ -78,12 +72,10 @@ pub fn row_method(
     smaller_values: &mut [u32],
     smaller_words: &mut [u32],
 ) -> RowMethodAnswer
-    ensures answer { λ r. ⌜ r ≡ rowMethod n k w (rowsOf (now (masks .entry)) (now (values .entry)) (now (words .entry))) (length (now (basis .entry))) (length (now (sigma .entry))) (min (length (now («smaller_masks» .entry))) (min (length (now («smaller_values» .entry))) (length (now («smaller_words» .entry))))) ⌝ }
-    ensures basis { λ _. ⌜ now (basis .exit) ≡ stored (rowMethodVerdict n k w (rowsOf (now (masks .entry)) (now (values .entry)) (now (words .entry))) (length (now (basis .entry))) (length (now (sigma .entry))) (min (length (now («smaller_masks» .entry))) (min (length (now («smaller_values» .entry))) (length (now («smaller_words» .entry)))))) (basisOf (ofRows (rowsOf (now (masks .entry)) (now (values .entry)) (now (words .entry)))) n w) (now (basis .entry)) ⌝ }
-    ensures sigma { λ _. ⌜ now (sigma .exit) ≡ stored (rowMethodVerdict n k w (rowsOf (now (masks .entry)) (now (values .entry)) (now (words .entry))) (length (now (basis .entry))) (length (now (sigma .entry))) (min (length (now («smaller_masks» .entry))) (min (length (now («smaller_values» .entry))) (length (now («smaller_words» .entry)))))) (sigmaOf (ofRows (rowsOf (now (masks .entry)) (now (values .entry)) (now (words .entry)))) n w) (now (sigma .entry)) ⌝ }
-    ensures masks { λ _. ⌜ now («smaller_masks» .exit) ≡ stored (rowMethodVerdict n k w (rowsOf (now (masks .entry)) (now (values .entry)) (now (words .entry))) (length (now (basis .entry))) (length (now (sigma .entry))) (min (length (now («smaller_masks» .entry))) (min (length (now («smaller_values» .entry))) (length (now («smaller_words» .entry)))))) (map (λ (r : Row). r .mask) (smallerList n w (rowsOf (now (masks .entry)) (now (values .entry)) (now (words .entry))))) (now («smaller_masks» .entry)) ⌝ }
-    ensures values { λ _. ⌜ now («smaller_values» .exit) ≡ stored (rowMethodVerdict n k w (rowsOf (now (masks .entry)) (now (values .entry)) (now (words .entry))) (length (now (basis .entry))) (length (now (sigma .entry))) (min (length (now («smaller_masks» .entry))) (min (length (now («smaller_values» .entry))) (length (now («smaller_words» .entry)))))) (map (λ (r : Row). r .values) (smallerList n w (rowsOf (now (masks .entry)) (now (values .entry)) (now (words .entry))))) (now («smaller_values» .entry)) ⌝ }
-    ensures words { λ _. ⌜ now («smaller_words» .exit) ≡ stored (rowMethodVerdict n k w (rowsOf (now (masks .entry)) (now (values .entry)) (now (words .entry))) (length (now (basis .entry))) (length (now (sigma .entry))) (min (length (now («smaller_masks» .entry))) (min (length (now («smaller_values» .entry))) (length (now («smaller_words» .entry)))))) (map (λ (r : Row). r .word) (smallerList n w (rowsOf (now (masks .entry)) (now (values .entry)) (now (words .entry))))) (now («smaller_words» .entry)) ⌝ }
+    ensures { λ r. ⌜ RowMethodPromise n k w (rowsOf (now (masks .entry)) (now (values .entry)) (now (words .entry)))
+        (lentFlat (now («smaller_masks» .entry)) (now («smaller_values» .entry)) (now («smaller_words» .entry))
+        (now («smaller_masks» .exit)) (now («smaller_values» .exit)) (now («smaller_words» .exit)))
+        (now (basis .entry)) (now (sigma .entry)) r (now (basis .exit)) (now (sigma .exit)) ⌝ }
 {
     let room = row_checks::least_room(
         smaller_masks.len(),

@@ -1,10 +1,9 @@
--- No second answer fits (01, How each promise is judged). `Law`: the law. `Tables`, `Lists` and `Texts`: the operations on tables, on
--- lists in three flat slices, and on row text, under their names in Rattle and in `exports`; `Sheets`: the sheet, what the program
--- prints, and a list of a bulk import; `Records`: the operations on lists of records. Each promise is a record of the equations that the operation's contract
--- ensures: the answer, and what each lent slice holds at the end, given what it held. What is lent only to be read cannot change.
+-- No second answer fits (01, How each promise is judged): two outcomes that meet a promise for the same input are equal, in the answer and
+-- in what each lent slice holds at the end. The promises are the records of crate promises, and importing's, which the contracts cite, of
+-- rows in three flat slices, in Rattle and in `exports`, as of rows lent as records. `Law`: the law, and what it says of lent room for
+-- rows. `Tables`, `Lists`, `Texts` and `Sheets`: the operations.
 pub mod Law
 pub mod Tables
 pub mod Lists
 pub mod Texts
 pub mod Sheets
-pub mod Records

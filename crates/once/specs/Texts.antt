@@ -1,42 +1,51 @@
--- The promises of `writing` and `reading`, for rows in three flat slices, and that each leaves one answer. A slice held s₀ and holds s₁ at
--- the end. The reader's promise gives the numbers of its answer; equal numbers are equal answers. Assumes nothing.
+-- Row text, written and read: each promise leaves one answer. The reader's promise gives the numbers of its answer; equal numbers are equal
+-- answers. Where the rows of a text go to lent room, the law is one over the form of that room, and then it is said of records and of
+-- three flat slices. Assumes nothing.
 use mathlib.Core.Path.{_≡_}
 use mathlib.Core.List.{List}
 use Prim.Native.Nat.{ℕ}
-use lib.ListN.{length}
-use Rattle.block.specs.Words.{rowsOf}
-use Rattle.block.specs.Refusals.{stored}
-use Rattle.block.specs.Text.{textOf, writeVerdict, writeText, readVerdict, readText, numbers}
+use Rattle.block.specs.Text.{numbers}
+use Rattle.block.specs.declared.Row.{Row}
+use Rattle.block.specs.declared.Answer.{Answer}
 use Rattle.block.specs.declared.TextAnswer.{TextAnswer}
+use Rattle.block.specs.declared.ReadAnswer.{ReadAnswer}
 use Rattle.block.specs.declared.Reading.{Reading}
-use Rattle.reading.specs.Storage.{shortest, masksIn, valuesIn, wordsIn}
 use Rattle.texts.specs.Unique.{numbers-one}
-use Rattle.once.specs.Law.{one}
+use Rattle.promises.specs.Lent.{lentRecords, lentFlat}
+use Rattle.promises.specs.Texts.{WritePromise, ReadPromise}
+use Rattle.once.specs.Law.{one, Alike, records-alike, flat-alike}
 
--- ---- `write_text`
-
-pub record WritePromise (n k : ℕ) (masks values words out₀ : List ℕ) (r : TextAnswer) (out₁ : List ℕ) : Type 0 where
-  pub answer : r ≡ writeText n k (rowsOf masks values words) (length out₀)
-  pub text : out₁ ≡ stored (writeVerdict n k (rowsOf masks values words) (length out₀)) (textOf n k (rowsOf masks values words)) out₀
-
-pub write-once : {n k : ℕ} {masks values words out₀ : List ℕ} {r s : TextAnswer} {out₁ out₂ : List ℕ}
-    → WritePromise n k masks values words out₀ r out₁ → WritePromise n k masks values words out₀ s out₂ → (r ≡ s) × (out₁ ≡ out₂)
+pub write-once : {n k : ℕ} {rs : List Row} {out₀ : List ℕ} {r s : TextAnswer} {out₁ out₂ : List ℕ} → WritePromise n k rs out₀ r out₁
+    → WritePromise n k rs out₀ s out₂ → (r ≡ s) × (out₁ ≡ out₂)
 write-once p q = (one (p .answer) (q .answer), one (p .text) (q .text))
 
--- ---- `read_text`
+-- ---- reading, with an answer in numbers, and with an answer that has those numbers
 
-pub record ReadPromise (text masks₀ values₀ words₀ : List ℕ) (r : Reading) (masks₁ values₁ words₁ : List ℕ) : Type 0 where
-  pub answer : numbers r ≡ readText text (shortest masks₀ values₀ words₀)
-  pub masks : masks₁ ≡ stored (readVerdict text (shortest masks₀ values₀ words₀)) (masksIn text) masks₀
-  pub values : values₁ ≡ stored (readVerdict text (shortest masks₀ values₀ words₀)) (valuesIn text) values₀
-  pub words : words₁ ≡ stored (readVerdict text (shortest masks₀ values₀ words₀)) (wordsIn text) words₀
+module _ {text : List ℕ} {room : ℕ} {holds₁ holds₂ : Answer → List Row → Type 0} {E : Type 0} where
+  pub read-numbers-once : {r s : ReadAnswer} → Alike holds₁ holds₂ E → ReadPromise text (record { room = room; holds = holds₁ }) r
+      → ReadPromise text (record { room = room; holds = holds₂ }) s → (r ≡ s) × E
+  read-numbers-once alike p q = (one (p .answer) (q .answer), alike _ _ (p .rows) (q .rows))
 
-pub read-once : {text masks₀ values₀ words₀ : List ℕ} {r s : Reading} {masks₁ values₁ words₁ masks₂ values₂ words₂ : List ℕ}
-    → ReadPromise text masks₀ values₀ words₀ r masks₁ values₁ words₁ → ReadPromise text masks₀ values₀ words₀ s masks₂ values₂ words₂
-    → (r ≡ s) × (masks₁ ≡ masks₂) × (values₁ ≡ values₂) × (words₁ ≡ words₂)
-read-once {r = r} {s = s} p q = (
-  numbers-one r s (one (p .answer) (q .answer)),
-  one (p .masks) (q .masks),
-  one (p .values) (q .values),
-  one (p .words) (q .words),
-)
+  pub read-once : {r s : Reading} → Alike holds₁ holds₂ E → ReadPromise text (record { room = room; holds = holds₁ }) (numbers r)
+      → ReadPromise text (record { room = room; holds = holds₂ }) (numbers s) → (r ≡ s) × E
+  read-once {r = r} {s = s} alike p q = (numbers-one r s (one (p .answer) (q .answer)), alike _ _ (p .rows) (q .rows))
+
+module _ {text : List ℕ} (rows₀ : List Row) {rows₁ rows₂ : List Row} where
+  pub read-once-records : {r s : Reading} → ReadPromise text (lentRecords rows₀ rows₁) (numbers r)
+      → ReadPromise text (lentRecords rows₀ rows₂) (numbers s) → (r ≡ s) × (rows₁ ≡ rows₂)
+  read-once-records = read-once (records-alike rows₀)
+
+  pub read-numbers-once-records : {r s : ReadAnswer} → ReadPromise text (lentRecords rows₀ rows₁) r
+      → ReadPromise text (lentRecords rows₀ rows₂) s → (r ≡ s) × (rows₁ ≡ rows₂)
+  read-numbers-once-records = read-numbers-once (records-alike rows₀)
+
+module _ {text masks₀ values₀ words₀ masks₁ values₁ words₁ masks₂ values₂ words₂ : List ℕ} where
+  pub read-once-flat : {r s : Reading} → ReadPromise text (lentFlat masks₀ values₀ words₀ masks₁ values₁ words₁) (numbers r)
+      → ReadPromise text (lentFlat masks₀ values₀ words₀ masks₂ values₂ words₂) (numbers s)
+      → (r ≡ s) × ((masks₁ ≡ masks₂) × (values₁ ≡ values₂) × (words₁ ≡ words₂))
+  read-once-flat = read-once flat-alike
+
+  pub read-numbers-once-flat : {r s : ReadAnswer} → ReadPromise text (lentFlat masks₀ values₀ words₀ masks₁ values₁ words₁) r
+      → ReadPromise text (lentFlat masks₀ values₀ words₀ masks₂ values₂ words₂) s
+      → (r ≡ s) × ((masks₁ ≡ masks₂) × (values₁ ≡ values₂) × (words₁ ≡ words₂))
+  read-numbers-once-flat = read-numbers-once flat-alike

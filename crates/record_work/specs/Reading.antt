@@ -1,39 +1,40 @@
 -- Reading row text: the room counts only up to 128 places, for no more rows are read; on 0 there is room for the rows; and what
 -- `read_into` promises, from the promise of the operation on flat slices. Assumes nothing.
-use mathlib.Core.Path.{_≡_, refl, sym, ap, _∙_}
+use mathlib.Core.Path.{_≡_, refl, sym, ap, subst, _∙_}
 use mathlib.Core.Bool.{Bool, true, false}
-use mathlib.Core.List.{List, [], _∷_, _++_, map}
+use mathlib.Core.List.{List, [], _∷_, _++_}
 use Prim.Native.Nat.{ℕ, suc, _+_, _≤_, _<_, min}
 use native.Mathlib.Decide.{decLt}
 use native.Mathlib.Omega.{arith}
 use borrow.Author.Tests.{lt-ltb, le-ltb, ltb-false}
 use lib.Dec.{ltb}
-use lib.ListN.{length, take, drop}
+use lib.ListN.{length, take}
 use Rattle.block.specs.Limits.{listInputs, givenRows}
-use Rattle.block.specs.Refusals.{Check, check, verdict, answered, carried, stored, outside, sizeChecks}
-use Rattle.block.specs.Text.{headNumber, faulty, readVerdict, readText, rowsIn, numbers}
+use Rattle.block.specs.Refusals.{Check, check, verdict, answered, carried, outside, sizeChecks}
+use Rattle.block.specs.Text.{headNumber, faulty, readVerdict, readText, rowsIn}
 use Rattle.block.specs.declared.Answer.{Answer}
 use Rattle.block.specs.declared.ReadAnswer.{ReadAnswer}
-use Rattle.block.specs.declared.Reading.{Reading}
+use Rattle.block.specs.declared.Row.{Row}
 use Rattle.verdicts.specs.Verdicts.{answered-clear}
 use Rattle.checks.specs.Sizes.{inside}
-use Rattle.record_work.specs.declared.FlatRows.{FlatRows}
+use Rattle.promises.specs.Lent.{Lent, lentFlat}
+use Rattle.promises.specs.Texts.{ReadPromise}
 use Rattle.lines.specs.Front.{rows-count}
-use Rattle.lines.specs.ByPlace.{maskPart, valuesPart, wordPart}
-use Rattle.record_work.specs.Flat.{Sized}
+use Rattle.copying.specs.declared.FlatRows.{FlatRows}
+use Rattle.copying.specs.Flat.{heldRows, Sized}
 use Rattle.record_work.specs.Cut.{past}
-use Rattle.record_work.specs.Yielded.{Yielded, yields}
+use Rattle.record_work.specs.Yielded.{lentArrays, stores, lent-room, yields, yielded-wider}
 
 -- ---- the room counts only up to 128 places
 
-fits-alike : (room p : ℕ) → p ≤ 128 → ltb (min room 513) p ≡ ltb room p
+fits-alike : (room p : ℕ) → p ≤ 128 → ltb (min room heldRows) p ≡ ltb room p
 fits-alike room p h = go (decLt room p)
   where
-    go : Dec (room < p) → ltb (min room 513) p ≡ ltb room p
-    go (yes l) = lt-ltb (min room 513) p (omega arith) ∙ sym (lt-ltb room p l)
-    go (no l) = le-ltb (min room 513) p (omega arith) ∙ sym (le-ltb room p (omega arith))
+    go : Dec (room < p) → ltb (min room heldRows) p ≡ ltb room p
+    go (yes l) = lt-ltb (min room heldRows) p (omega arith) ∙ sym (lt-ltb room p l)
+    go (no l) = le-ltb (min room heldRows) p (omega arith) ∙ sym (le-ltb room p (omega arith))
 
-pub read-cut : (text : List ℕ) (room : ℕ) → readVerdict text (min room 513) ≡ readVerdict text room
+read-cut : (text : List ℕ) (room : ℕ) → readVerdict text (min room heldRows) ≡ readVerdict text room
 unfolding readVerdict
 read-cut text room = go (outside 1 givenRows p) refl
   where
@@ -53,8 +54,8 @@ read-cut text room = go (outside 1 givenRows p) refl
     rest r = check (ltb r p) 5 0 0 ∷ check (ltb (faulty text (5 + p)) (5 + p)) 10 (suc (faulty text (5 + p))) 0 ∷ []
 
     go : (b : Bool) → outside 1 givenRows p ≡ b
-        → verdict (pre ++ (check (outside 1 givenRows p) 4 0 0 ∷ rest (min room 513))) ≡ verdict (pre ++ (check (outside 1 givenRows p) 4 0 0 ∷ rest room))
-    go true e = past pre (check (outside 1 givenRows p) 4 0 0) (rest (min room 513)) (rest room) e
+        → verdict (pre ++ (check (outside 1 givenRows p) 4 0 0 ∷ rest (min room heldRows))) ≡ verdict (pre ++ (check (outside 1 givenRows p) 4 0 0 ∷ rest room))
+    go true e = past pre (check (outside 1 givenRows p) 4 0 0) (rest (min room heldRows)) (rest room) e
     go false e =
         ap (λ (b : Bool). verdict (pre ++ (check (outside 1 givenRows p) 4 0 0 ∷ check b 5 0 0 ∷ check (ltb (faulty text (5 + p)) (5 + p)) 10 (suc (faulty text (5 + p))) 0 ∷ [])))
         (fits-alike room p (inside 1 givenRows p e .1))
@@ -70,10 +71,6 @@ answerOf text v =
       k = carried v (headNumber text 1);
       count = carried v (headNumber text 2);
     }
-
-pub read-text-cut : (text : List ℕ) (room : ℕ) → readText text (min room 513) ≡ readText text room
-unfolding readText answerOf
-read-text-cut text room = ap (answerOf text) (read-cut text room)
 
 -- ---- on 0 there is room for the rows
 
@@ -92,43 +89,36 @@ room-enough text room e =
     let l : p ≤ room = ltb-false room p (clear 4 (omega arith)) in
     omega (arith, rows-count text)
 
-count-of : (text : List ℕ) (room : ℕ) → readText text room .count ≡ carried (readVerdict text room) (length (rowsIn text))
-unfolding readText
-count-of text room = ap (λ (p : ℕ). carried (readVerdict text room) p) (sym (rows-count text))
+-- ---- the promise, from one lent room to another
 
--- ---- from flat slices; `room` is theirs
+module _ (text : List ℕ) (r : ReadAnswer) where
+  -- it speaks of the room through the verdict alone
+  read-to : (lent lent′ : Lent) → readVerdict text (lent .room) ≡ readVerdict text (lent′ .room)
+      → (lent .holds (readVerdict text (lent .room)) (rowsIn text) → lent′ .holds (readVerdict text (lent′ .room)) (rowsIn text))
+      → ReadPromise text lent r → ReadPromise text lent′ r
+  unfolding readText answerOf
+  read-to lent lent′ e to p = record { answer = p .answer ∙ ap (answerOf text) e; rows = to (p .rows) }
 
-pub read-yields : (text : List ℕ) (m room : ℕ) (f : FlatRows) (r : Reading) (count : ℕ) (masks values words : List ℕ)
-    → Sized f → m ≤ 513 → room ≡ m → numbers r ≡ readText text room → count ≡ numbers r .count
-    → masks ≡ stored (readVerdict text room) (map maskPart (rowsIn text)) (take m (f .masks))
-    → values ≡ stored (readVerdict text room) (map valuesPart (rowsIn text)) (take m (f .values))
-    → words ≡ stored (readVerdict text room) (map wordPart (rowsIn text)) (take m (f .words))
-    → (numbers r ≡ readText text m)
-    × Yielded (readVerdict text m) (rowsIn text) m (record { masks = masks ++ drop m (f .masks); values = values ++ drop m (f .values); words = words ++ drop m (f .words) }) count
-read-yields text m room f r count masks values words z h same e c e₁ e₂ e₃ = (
-  told,
-  yields (readVerdict text m) (rowsIn text) m count f masks values words z h (c ∙ ap (λ (x : ReadAnswer). x .count) told ∙ count-of text m)
-      (room-enough text m) (e₁ ∙ ap (λ (q : ℕ). stored (readVerdict text q) (map maskPart (rowsIn text)) (take m (f .masks))) same)
-      (e₂ ∙ ap (λ (q : ℕ). stored (readVerdict text q) (map valuesPart (rowsIn text)) (take m (f .values))) same)
-      (e₃ ∙ ap (λ (q : ℕ). stored (readVerdict text q) (map wordPart (rowsIn text)) (take m (f .words))) same),
-)
-  where
-    told : numbers r ≡ readText text m
-    told = e ∙ ap (readText text) same
+  count-of : (lent : Lent) → ReadPromise text lent r → r .count ≡ carried (readVerdict text (lent .room)) (length (rowsIn text))
+  unfolding readText
+  count-of lent p =
+      ap (λ (x : ReadAnswer). x .count) (p .answer) ∙ ap (carried (readVerdict text (lent .room))) (sym (rows-count text))
 
--- ---- from the room that is looked at to the whole
+  -- from flat slices, which are the first places of the arrays f
+  pub read-yields : (m : ℕ) (f : FlatRows) (masks values words : List ℕ) (count : ℕ) → Sized f → m ≤ heldRows → count ≡ r .count
+      → ReadPromise text (lentFlat (take m (f .masks)) (take m (f .values)) (take m (f .words)) masks values words) r
+      → ReadPromise text (lentArrays m (stores m f masks values words) count) r
+  read-yields m f masks values words count z h c p =
+      let s : List Row = rowsIn text in
+      let flat : Lent = lentFlat (take m (f .masks)) (take m (f .values)) (take m (f .words)) masks values words in
+      let same : readVerdict text (flat .room) ≡ readVerdict text m = ap (readVerdict text) (lent-room m f z h) in
+      read-to flat (lentArrays m (stores m f masks values words) count) same (λ held.
+      yields (readVerdict text m) s m count f masks values words z h (c ∙ count-of flat p ∙ ap (λ (v : Answer). carried v (length s)) same)
+      (room-enough text m) (subst (λ (v : Answer). flat .holds v s) same held)) p
 
-pub read-whole : (text : List ℕ) (room m : ℕ) (r : Reading) (f : FlatRows) (count : ℕ) → m ≡ min room 513 → numbers r ≡ readText text m
-    → Yielded (readVerdict text m) (rowsIn text) m f count
-    → (numbers r ≡ readText text room) × Yielded (readVerdict text room) (rowsIn text) room f count
-read-whole text room m r f count e told y =
-    let same : readVerdict text m ≡ readVerdict text room = ap (readVerdict text) e ∙ read-cut text room in
-    let most : count ≤ m = y .most in (
-      told ∙ ap (readText text) e ∙ read-text-cut text room,
-      record {
-        all = y .all ∙ ap (λ (v : Answer). carried v (length (rowsIn text))) same;
-        most = omega arith;
-        within = y .within;
-        rows = y .rows;
-      },
-    )
+  -- from the room that is looked at to the whole
+  pub read-whole : (room m : ℕ) (f : FlatRows) (count : ℕ) → m ≡ min room heldRows → ReadPromise text (lentArrays m f count) r
+      → ReadPromise text (lentArrays room f count) r
+  read-whole room m f count e =
+      let same : readVerdict text m ≡ readVerdict text room = ap (readVerdict text) e ∙ read-cut text room in
+      read-to (lentArrays m f count) (lentArrays room f count) same (yielded-wider same (omega arith))

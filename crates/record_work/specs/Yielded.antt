@@ -1,6 +1,6 @@
 -- Rows in three arrays that are to be copied in as records: what a function on the arrays promises of them; that the records then are
 -- what the operation says; and that the promise holds where an operation on flat slices stored the rows at the front of the arrays.
--- Assumes nothing.
+-- So arrays are lent room for rows, as a slice of records and three flat slices are (crate promises). Assumes nothing.
 use mathlib.Core.Path.{_≡_, refl, sym, ap, _∙_}
 use mathlib.Core.Bool.{Bool, true, false, cond}
 use mathlib.Core.List.{List, _++_, map}
@@ -14,17 +14,32 @@ use Rattle.block.specs.Words.{row}
 use Rattle.block.specs.Refusals.{answered, carried, stored, rowAt}
 use Rattle.block.specs.declared.Row.{Row}
 use Rattle.block.specs.declared.Answer.{Answer}
-use Rattle.record_work.specs.declared.FlatRows.{FlatRows}
+use Rattle.promises.specs.Lent.{Lent, FlatHolds, shortest}
 use Rattle.lines.specs.ByPlace.{maskPart, valuesPart, wordPart}
-use Rattle.record_work.specs.Flat.{Scattered, Sized, flatAt, zeroRow}
+use Rattle.copying.specs.declared.FlatRows.{FlatRows}
+use Rattle.copying.specs.Flat.{heldRows, Scattered, Sized, flatAt, zeroRow, lent}
 
 -- with the verdict v and the rows s: on 0 the first `count` rows of the arrays are s, and there is room for them; with a refusal there
 -- are none
 pub record Yielded (v : Answer) (s : List Row) (room : ℕ) (f : FlatRows) (count : ℕ) : Type 0 where
   pub all : count ≡ carried v (length s)
   pub most : count ≤ room
-  pub within : count ≤ 513
+  pub within : count ≤ heldRows
   pub rows : (k : ℕ) → k < count → flatAt f k ≡ rowAt s k
+
+abbrev pub lentArrays : ℕ → FlatRows → ℕ → Lent
+lentArrays room f count = record { room = room; holds = λ v s. Yielded v s room f count }
+
+-- .. and so with the same verdict and more room
+pub yielded-wider : {v v′ : Answer} {s : List Row} {m room : ℕ} {f : FlatRows} {count : ℕ} → v ≡ v′ → m ≤ room → Yielded v s m f count
+    → Yielded v′ s room f count
+yielded-wider {s = s} {count = count} e h y =
+    record {
+      all = y .all ∙ ap (λ (v : Answer). carried v (length s)) e;
+      most = omega (arith, y .most);
+      within = y .within;
+      rows = y .rows;
+    }
 
 -- ---- the records are what the operation says
 
@@ -50,8 +65,18 @@ yielded-stored {v} {s} {f} {count} before after y c = go (answered v) refl
 
 -- ---- rows stored at the front of the arrays, of which the first m places were lent
 
+-- the arrays f, where these places hold masks, values and words
+abbrev pub stores : ℕ → FlatRows → List ℕ → List ℕ → List ℕ → FlatRows
+stores m f masks values words =
+    record { masks = masks ++ drop m (f .masks); values = values ++ drop m (f .values); words = words ++ drop m (f .words) }
+
+-- that room is m places
+pub lent-room : (m : ℕ) (f : FlatRows) → Sized f → m ≤ heldRows → shortest (take m (f .masks)) (take m (f .values)) (take m (f .words)) ≡ m
+lent-room m f z h =
+    omega (arith, lent m (f .masks) (z .masks) h, lent m (f .values) (z .values) h, lent m (f .words) (z .words) h)
+
 -- a part of each row, stored in its array
-stored-at : (p : Row → ℕ) (s : List Row) (m : ℕ) (l after : List ℕ) → p zeroRow ≡ 0 → length l ≡ 513 → m ≤ 513 → length s ≤ m
+stored-at : (p : Row → ℕ) (s : List Row) (m : ℕ) (l after : List ℕ) → p zeroRow ≡ 0 → length l ≡ heldRows → m ≤ heldRows → length s ≤ m
     → after ≡ over (map p s) (take m l) → (k : ℕ) → k < length s → at (after ++ drop m l) k ≡ p (rowAt s k)
 stored-at p s m l after z e h few d k b =
     let long : length (take m l) ≡ m = length-take-le m l (omega arith) in
@@ -59,27 +84,26 @@ stored-at p s m l after z e h few d k b =
     ∙ ap (λ (a : List ℕ). at a k) d ∙ ap (λ (x : ℕ). getD (over (map p s) (take m l)) k x) (sym z) ∙ over-map-at p s (take m l) zeroRow k b
 
 -- where the answer is 0, there is room for the rows
-pub yields : (v : Answer) (s : List Row) (m count : ℕ) (f : FlatRows) (masks values words : List ℕ) → Sized f → m ≤ 513
-    → count ≡ carried v (length s) → (answered v ≡ true → length s ≤ m) → masks ≡ stored v (map maskPart s) (take m (f .masks))
-    → values ≡ stored v (map valuesPart s) (take m (f .values)) → words ≡ stored v (map wordPart s) (take m (f .words))
-    → Yielded v s m (record { masks = masks ++ drop m (f .masks); values = values ++ drop m (f .values); words = words ++ drop m (f .words) }) count
-yields v s m count f masks values words z h n fits e₁ e₂ e₃ = go (answered v) refl
+pub yields : (v : Answer) (s : List Row) (m count : ℕ) (f : FlatRows) (masks values words : List ℕ) → Sized f → m ≤ heldRows
+    → count ≡ carried v (length s) → (answered v ≡ true → length s ≤ m)
+    → FlatHolds (take m (f .masks)) (take m (f .values)) (take m (f .words)) masks values words v s
+    → Yielded v s m (stores m f masks values words) count
+yields v s m count f masks values words z h n fits held = go (answered v) refl
   where
-    flat : FlatRows
-    flat = record { masks = masks ++ drop m (f .masks); values = values ++ drop m (f .values); words = words ++ drop m (f .words) }
-
-    go : (b : Bool) → answered v ≡ b → Yielded v s m flat count
+    go : (b : Bool) → answered v ≡ b → Yielded v s m (stores m f masks values words) count
     go true e =
         let few : length s ≤ m = fits e in
         let all : count ≡ length s = n ∙ ap (λ (b : Bool). cond b (length s) 0) e in
+        let put : (p : Row → ℕ) (l : List ℕ) → stored v (map p s) (take m l) ≡ over (map p s) (take m l) =
+        λ p l. ap (λ (b : Bool). cond b (over (map p s) (take m l)) (take m l)) e in
         record {
           all = n;
           most = omega arith;
           within = omega arith;
           rows = λ k b i.
-              row (stored-at maskPart s m (f .masks) masks refl (z .masks) h few (e₁ ∙ ap (λ (b : Bool). cond b (over (map maskPart s) (take m (f .masks))) (take m (f .masks))) e) k (omega arith) i)
-              (stored-at valuesPart s m (f .values) values refl (z .values) h few (e₂ ∙ ap (λ (b : Bool). cond b (over (map valuesPart s) (take m (f .values))) (take m (f .values))) e) k (omega arith) i)
-              (stored-at wordPart s m (f .words) words refl (z .words) h few (e₃ ∙ ap (λ (b : Bool). cond b (over (map wordPart s) (take m (f .words))) (take m (f .words))) e) k (omega arith) i);
+              row (stored-at maskPart s m (f .masks) masks refl (z .masks) h few (held .masks ∙ put maskPart (f .masks)) k (omega arith) i)
+              (stored-at valuesPart s m (f .values) values refl (z .values) h few (held .values ∙ put valuesPart (f .values)) k (omega arith) i)
+              (stored-at wordPart s m (f .words) words refl (z .words) h few (held .words ∙ put wordPart (f .words)) k (omega arith) i);
         }
     go false e =
         let none : count ≡ 0 = n ∙ ap (λ (b : Bool). cond b (length s) 0) e in

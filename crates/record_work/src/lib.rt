@@ -1,99 +1,27 @@
 // The work of the operations with records, which are those of the crate records: records are copied out once into three arrays, or copied
-// in from them, and for each operation a function on the arrays lends these as flat slices to the operation of the same name. A list of 513
-// rows is too long for every operation, so that no more rows are copied out. All functions here are inner.
+// in from them (crate copying), and for each operation a function on the arrays lends these as flat slices to the operation of the same
+// name. All functions here are inner.
 use block::Answer;
 use block::ReadAnswer;
 use block::Reading;
-use block::Row;
 use block::RowMethodAnswer;
 use block::TextAnswer;
 use block::ValueAnswer;
+use copying::FlatRows;
 ghost use mathlib.Core.Path.{_≡_};
-ghost use Prim.Native.Nat.{_≤_, min};
-ghost use lib.ListN.{length};
-ghost use Rattle.block.specs.Words.{ofRows};
-ghost use Rattle.block.specs.Basis.{basisOf, sigmaOf};
-ghost use Rattle.block.specs.Refusals.{stored};
-ghost use Rattle.block.specs.Lists.{rowValue, rowMethodVerdict, rowMethod, smallerList, fillVerdict, filled};
-ghost use Rattle.block.specs.Text.{textOf, writeVerdict, writeText, readVerdict, readText, rowsIn, numbers};
-ghost use Rattle.block.specs.Sheet.{sheet, sheetVerdict, sheetText};
-ghost use Rattle.record_work.specs.Flat.{Gathered, Scattered, Sized, listed};
-ghost use Rattle.record_work.specs.Yielded.{Yielded};
-
-// ---- what the operations share
-
-// Rows, field by field.
-pub struct FlatRows {
-    pub masks: [u32; 513],
-    pub values: [u32; 513],
-    pub words: [u32; 513],
-}
-
-// How many records of a list are copied out.
-pub fn fits(len: usize) -> usize
-    ensures { λ r. ⌜ r ≡ min len 513 ⌝ }
-{
-    if len < 513 { len } else { 513 }
-}
-
-// Arrays to store rows in.
-pub fn blank() -> FlatRows
-    ensures { λ r. ⌜ Sized r ⌝ }
-{
-    FlatRows {
-        masks: [0u32; 513],
-        values: [0u32; 513],
-        words: [0u32; 513],
-    }
-}
-
-// The first m records, and zeros after them.
-pub fn gather(rows: &[Row], m: usize) -> FlatRows
-    requires { ⌜ (m ≤ length (now rows)) × (m ≤ 513) ⌝ }
-    ensures { λ r. ⌜ Gathered (now (rows .entry)) m r ⌝ }
-{
-    let mut masks = [0u32; 513];
-    let mut values = [0u32; 513];
-    let mut words = [0u32; 513];
-    let mut i: usize = 0;
-    while i < m {
-        let r = rows[i];
-        masks[i] = r.mask;
-        values[i] = r.values;
-        words[i] = r.word;
-        i += 1;
-    }
-    FlatRows {
-        masks,
-        values,
-        words,
-    }
-}
-
-// Makes the first m records those of the arrays: the others hold what they held.
-pub fn scatter(flat: FlatRows, m: usize, rows: &mut [Row])
-    requires { ⌜ (m ≤ 513) × (m ≤ length (now rows)) ⌝ }
-    ensures { λ _. ⌜ Scattered flat m (now (rows .entry)) (now (rows .exit)) ⌝ }
-{
-    let masks = flat.masks;
-    let values = flat.values;
-    let words = flat.words;
-    let mut i: usize = 0;
-    while i < m {
-        rows[i] = Row {
-            mask: masks[i],
-            values: values[i],
-            word: words[i],
-        };
-        i += 1;
-    }
-}
+ghost use Prim.Native.Nat.{_≤_};
+ghost use Rattle.block.specs.Text.{numbers};
+ghost use Rattle.promises.specs.Lists.{RowValuePromise, RowMethodPromise, FillPromise};
+ghost use Rattle.promises.specs.Texts.{WritePromise, ReadPromise};
+ghost use Rattle.promises.specs.Sheets.{SheetPromise};
+ghost use Rattle.copying.specs.Flat.{heldRows, Sized, listed};
+ghost use Rattle.record_work.specs.Yielded.{lentArrays};
 
 // ---- a single shift value
 
 pub fn value_of(n: usize, k: usize, t: usize, flat: FlatRows, m: usize) -> ValueAnswer
-    requires { ⌜ Sized flat × (m ≤ 513) ⌝ }
-    ensures { λ r. ⌜ r ≡ rowValue n k t (listed flat m) ⌝ }
+    requires { ⌜ Sized flat × (m ≤ heldRows) ⌝ }
+    ensures { λ r. ⌜ RowValuePromise n k t (listed flat m) r ⌝ }
 {
     let masks = flat.masks;
     let values = flat.values;
@@ -122,11 +50,9 @@ pub fn method_into(
     basis: &mut [u32],
     sigma: &mut [u32],
 ) -> SmallerRows
-    requires { ⌜ Sized flat × (m ≤ 513) × Sized smaller × (room ≤ 513) ⌝ }
-    ensures answer { λ r. ⌜ r .answer ≡ rowMethod n k w (listed flat m) (length (now (basis .entry))) (length (now (sigma .entry))) room ⌝ }
-    ensures basis { λ _. ⌜ now (basis .exit) ≡ stored (rowMethodVerdict n k w (listed flat m) (length (now (basis .entry))) (length (now (sigma .entry))) room) (basisOf (ofRows (listed flat m)) n w) (now (basis .entry)) ⌝ }
-    ensures sigma { λ _. ⌜ now (sigma .exit) ≡ stored (rowMethodVerdict n k w (listed flat m) (length (now (basis .entry))) (length (now (sigma .entry))) room) (sigmaOf (ofRows (listed flat m)) n w) (now (sigma .entry)) ⌝ }
-    ensures rows { λ r. ⌜ Yielded (rowMethodVerdict n k w (listed flat m) (length (now (basis .entry))) (length (now (sigma .entry))) room) (smallerList n w (listed flat m)) room (r .flat) (r .count) ⌝ }
+    requires { ⌜ Sized flat × (m ≤ heldRows) × Sized smaller × (room ≤ heldRows) ⌝ }
+    ensures { λ r. ⌜ RowMethodPromise n k w (listed flat m) (lentArrays room (r .flat) (r .count))
+        (now (basis .entry)) (now (sigma .entry)) (r .answer) (now (basis .exit)) (now (sigma .exit)) ⌝ }
 {
     let masks = flat.masks;
     let values = flat.values;
@@ -169,23 +95,20 @@ pub fn method_of(
     basis: &mut [u32],
     sigma: &mut [u32],
 ) -> SmallerRows
-    requires { ⌜ Sized flat × (m ≤ 513) ⌝ }
-    ensures answer { λ r. ⌜ r .answer ≡ rowMethod n k w (listed flat m) (length (now (basis .entry))) (length (now (sigma .entry))) room ⌝ }
-    ensures basis { λ _. ⌜ now (basis .exit) ≡ stored (rowMethodVerdict n k w (listed flat m) (length (now (basis .entry))) (length (now (sigma .entry))) room) (basisOf (ofRows (listed flat m)) n w) (now (basis .entry)) ⌝ }
-    ensures sigma { λ _. ⌜ now (sigma .exit) ≡ stored (rowMethodVerdict n k w (listed flat m) (length (now (basis .entry))) (length (now (sigma .entry))) room) (sigmaOf (ofRows (listed flat m)) n w) (now (sigma .entry)) ⌝ }
-    ensures rows { λ r. ⌜ Yielded (rowMethodVerdict n k w (listed flat m) (length (now (basis .entry))) (length (now (sigma .entry))) room) (smallerList n w (listed flat m)) room (r .flat) (r .count) ⌝ }
+    requires { ⌜ Sized flat × (m ≤ heldRows) ⌝ }
+    ensures { λ r. ⌜ RowMethodPromise n k w (listed flat m) (lentArrays room (r .flat) (r .count))
+        (now (basis .entry)) (now (sigma .entry)) (r .answer) (now (basis .exit)) (now (sigma .exit)) ⌝ }
 {
-    let places = fits(room);
-    let smaller = blank();
+    let places = copying::fits(room);
+    let smaller = copying::blank();
     method_into(n, k, w, flat, m, smaller, places, basis, sigma)
 }
 
 // ---- filling a table
 
 pub fn fill_of(n: usize, k: usize, flat: FlatRows, m: usize, table: &mut [u16]) -> Answer
-    requires { ⌜ Sized flat × (m ≤ 513) ⌝ }
-    ensures answer { λ r. ⌜ r ≡ fillVerdict n k (listed flat m) (length (now (table .entry))) ⌝ }
-    ensures table { λ _. ⌜ now (table .exit) ≡ stored (fillVerdict n k (listed flat m) (length (now (table .entry)))) (filled n (listed flat m)) (now (table .entry)) ⌝ }
+    requires { ⌜ Sized flat × (m ≤ heldRows) ⌝ }
+    ensures { λ r. ⌜ FillPromise n k (listed flat m) (now (table .entry)) r (now (table .exit)) ⌝ }
 {
     let masks = flat.masks;
     let values = flat.values;
@@ -196,9 +119,8 @@ pub fn fill_of(n: usize, k: usize, flat: FlatRows, m: usize, table: &mut [u16]) 
 // ---- writing row text
 
 pub fn write_of(n: usize, k: usize, flat: FlatRows, m: usize, out: &mut [u8]) -> TextAnswer
-    requires { ⌜ Sized flat × (m ≤ 513) ⌝ }
-    ensures answer { λ r. ⌜ r ≡ writeText n k (listed flat m) (length (now (out .entry))) ⌝ }
-    ensures text { λ _. ⌜ now (out .exit) ≡ stored (writeVerdict n k (listed flat m) (length (now (out .entry)))) (textOf n k (listed flat m)) (now (out .entry)) ⌝ }
+    requires { ⌜ Sized flat × (m ≤ heldRows) ⌝ }
+    ensures { λ r. ⌜ WritePromise n k (listed flat m) (now (out .entry)) r (now (out .exit)) ⌝ }
 {
     let masks = flat.masks;
     let values = flat.values;
@@ -227,9 +149,8 @@ pub fn rows_read(answer: Reading) -> usize
 
 // The text is read into the first m places of the arrays.
 pub fn read_into(text: &[u8], flat: FlatRows, m: usize) -> ReadRows
-    requires { ⌜ Sized flat × (m ≤ 513) ⌝ }
-    ensures answer { λ r. ⌜ numbers (r .answer) ≡ readText (now (text .entry)) m ⌝ }
-    ensures rows { λ r. ⌜ Yielded (readVerdict (now (text .entry)) m) (rowsIn (now (text .entry))) m (r .flat) (r .count) ⌝ }
+    requires { ⌜ Sized flat × (m ≤ heldRows) ⌝ }
+    ensures { λ r. ⌜ ReadPromise (now (text .entry)) (lentArrays m (r .flat) (r .count)) (numbers (r .answer)) ⌝ }
 {
     let mut masks = flat.masks;
     let mut values = flat.values;
@@ -249,11 +170,10 @@ pub fn read_into(text: &[u8], flat: FlatRows, m: usize) -> ReadRows
 }
 
 pub fn read_of(text: &[u8], room: usize) -> ReadRows
-    ensures answer { λ r. ⌜ numbers (r .answer) ≡ readText (now (text .entry)) room ⌝ }
-    ensures rows { λ r. ⌜ Yielded (readVerdict (now (text .entry)) room) (rowsIn (now (text .entry))) room (r .flat) (r .count) ⌝ }
+    ensures { λ r. ⌜ ReadPromise (now (text .entry)) (lentArrays room (r .flat) (r .count)) (numbers (r .answer)) ⌝ }
 {
-    let m = fits(room);
-    let flat = blank();
+    let m = copying::fits(room);
+    let flat = copying::blank();
     read_into(text, flat, m)
 }
 
@@ -267,8 +187,7 @@ pub struct ReadNumbers {
 }
 
 pub fn read_numbers_of(text: &[u8], room: usize) -> ReadNumbers
-    ensures answer { λ r. ⌜ r .answer ≡ readText (now (text .entry)) room ⌝ }
-    ensures rows { λ r. ⌜ Yielded (readVerdict (now (text .entry)) room) (rowsIn (now (text .entry))) room (r .flat) (r .count) ⌝ }
+    ensures { λ r. ⌜ ReadPromise (now (text .entry)) (lentArrays room (r .flat) (r .count)) (r .answer) ⌝ }
 {
     let read = read_of(text, room);
     let flat = read.flat;
@@ -291,9 +210,8 @@ pub fn sheet_of(
     m: usize,
     out: &mut [u8],
 ) -> TextAnswer
-    requires { ⌜ Sized flat × (m ≤ 513) ⌝ }
-    ensures answer { λ r. ⌜ r ≡ sheet n k w (listed flat m) (length (now (out .entry))) ⌝ }
-    ensures text { λ _. ⌜ now (out .exit) ≡ stored (sheetVerdict n k w (listed flat m) (length (now (out .entry)))) (sheetText n k w (listed flat m)) (now (out .entry)) ⌝ }
+    requires { ⌜ Sized flat × (m ≤ heldRows) ⌝ }
+    ensures { λ r. ⌜ SheetPromise n k w (listed flat m) (now (out .entry)) r (now (out .exit)) ⌝ }
 {
     let masks = flat.masks;
     let values = flat.values;

@@ -2,11 +2,8 @@
 // and a weight limit, writes it to the front of a lent slice, and answers the number of bytes; or it refuses, and then the slice holds
 // what it held. This crate holds nothing else: what the operation is made of stands in the crates below it.
 use block::TextAnswer;
-ghost use mathlib.Core.Path.{_≡_};
-ghost use lib.ListN.{length};
 ghost use Rattle.block.specs.Words.{rowsOf};
-ghost use Rattle.block.specs.Refusals.{stored};
-ghost use Rattle.block.specs.Sheet.{sheet, sheetText, sheetVerdict};
+ghost use Rattle.promises.specs.Sheets.{SheetPromise};
 
 // Writes the sheet of the rows with weight limit w to the front of out. Refuses with 1, 2, 3 (w), 4, 5 (17,518 bytes), 6, 7 and 9.
 pub fn sheet(
@@ -18,8 +15,8 @@ pub fn sheet(
     words: &[u32],
     out: &mut [u8],
 ) -> TextAnswer
-    ensures answer { λ r. ⌜ r ≡ sheet n k w (rowsOf (now (masks .entry)) (now (values .entry)) (now (words .entry))) (length (now (out .entry))) ⌝ }
-    ensures text { λ r. ⌜ now (out .exit) ≡ stored (sheetVerdict n k w (rowsOf (now (masks .entry)) (now (values .entry)) (now (words .entry))) (length (now (out .entry)))) (sheetText n k w (rowsOf (now (masks .entry)) (now (values .entry)) (now (words .entry)))) (now (out .entry)) ⌝ }
+    ensures { λ r. ⌜ SheetPromise n k w (rowsOf (now (masks .entry)) (now (values .entry)) (now (words .entry)))
+        (now (out .entry)) r (now (out .exit)) ⌝ }
 {
     let r = sheet_work::make_sheet(n, k, w, masks, values, words, out);
     TextAnswer {

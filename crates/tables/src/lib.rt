@@ -2,18 +2,14 @@
 // Each takes any numbers and any slices, and answers or refuses as 01 says. Entry x of a table is the word at x, 65,535 for no
 // output; T comes by columns, sigma by rows. This crate holds the public operations and nothing else.
 use block::Answer;
+use block::TABLE_INPUTS;
 use block::TableMethodAnswer;
 use block::ValueAnswer;
-ghost use mathlib.Core.Path.{_≡_};
-ghost use lib.ListN.{length};
-ghost use Rattle.block.specs.Words.{ofTable};
-ghost use Rattle.block.specs.Basis.{basisOf, sigmaOf};
-ghost use Rattle.block.specs.Refusals.{stored};
-ghost use Rattle.block.specs.Tables.{tableValue, tableMethodVerdict, tableMethod, smallerTable, restoreVerdict, restored};
+ghost use Rattle.promises.specs.Tables.{TableValuePromise, TableMethodPromise, RestorePromise};
 
 // R(t) of a table. Refusals: 1, 2, 3 (t), 4, 6.
 pub fn table_value(n: usize, k: usize, t: usize, table: &[u16]) -> ValueAnswer
-    ensures { λ r. ⌜ r ≡ tableValue n k t (now (table .entry)) ⌝ }
+    ensures { λ r. ⌜ TableValuePromise n k t (now (table .entry)) r ⌝ }
 {
     let v = table_checks::table_value_verdict(n, k, t, table);
     if v.number != 0 {
@@ -43,10 +39,8 @@ pub fn table_method(
     sigma: &mut [u32],
     smaller: &mut [u16],
 ) -> TableMethodAnswer
-    ensures answer { λ r. ⌜ r ≡ tableMethod n k w (now (table .entry)) (length (now (basis .entry))) (length (now (sigma .entry))) (length (now (smaller .entry))) ⌝ }
-    ensures basis { λ _. ⌜ now (basis .exit) ≡ stored (tableMethodVerdict n k w (now (table .entry)) (length (now (basis .entry))) (length (now (sigma .entry))) (length (now (smaller .entry)))) (basisOf (ofTable (now (table .entry))) n w) (now (basis .entry)) ⌝ }
-    ensures sigma { λ _. ⌜ now (sigma .exit) ≡ stored (tableMethodVerdict n k w (now (table .entry)) (length (now (basis .entry))) (length (now (sigma .entry))) (length (now (smaller .entry)))) (sigmaOf (ofTable (now (table .entry))) n w) (now (sigma .entry)) ⌝ }
-    ensures smaller { λ _. ⌜ now (smaller .exit) ≡ stored (tableMethodVerdict n k w (now (table .entry)) (length (now (basis .entry))) (length (now (sigma .entry))) (length (now (smaller .entry)))) (smallerTable (ofTable (now (table .entry))) n w) (now (smaller .entry)) ⌝ }
+    ensures { λ r. ⌜ TableMethodPromise n k w (now (table .entry))
+        (now (basis .entry)) (now (sigma .entry)) (now (smaller .entry)) r (now (basis .exit)) (now (sigma .exit)) (now (smaller .exit)) ⌝ }
 {
     let v = table_checks::table_method_verdict(
         n,
@@ -84,14 +78,13 @@ pub fn restore_table(
     smaller: &[u16],
     table: &mut [u16],
 ) -> Answer
-    ensures answer { λ r. ⌜ r ≡ restoreVerdict n k (now (sigma .entry)) (now (smaller .entry)) (length (now (table .entry))) ⌝ }
-    ensures table { λ _. ⌜ now (table .exit) ≡ stored (restoreVerdict n k (now (sigma .entry)) (now (smaller .entry)) (length (now (table .entry)))) (restored n (now (sigma .entry)) (now (smaller .entry))) (now (table .entry)) ⌝ }
+    ensures { λ r. ⌜ RestorePromise n k (now (sigma .entry)) (now (smaller .entry)) (now (table .entry)) r (now (table .exit)) ⌝ }
 {
     let v = table_checks::restore_checked(n, k, sigma, smaller, table.len());
     if v.number != 0 {
         return v;
     }
-    let mut reached = [0u32; 12];
+    let mut reached = [0u32; TABLE_INPUTS];
     let j = choosing::first_dependent(n, sigma, &mut reached);
     if j < n {
         return checks::refuse(8, j, 0);

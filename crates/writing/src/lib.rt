@@ -2,11 +2,8 @@
 // the front of a lent slice, and answers the number of bytes; or it refuses, and then the slice holds what it held.
 // This crate holds nothing else.
 use block::TextAnswer;
-ghost use mathlib.Core.Path.{_≡_};
-ghost use lib.ListN.{length};
 ghost use Rattle.block.specs.Words.{rowsOf};
-ghost use Rattle.block.specs.Refusals.{stored};
-ghost use Rattle.block.specs.Text.{textOf, writeVerdict, writeText};
+ghost use Rattle.promises.specs.Texts.{WritePromise};
 
 // Writes the rows as text to the front of out. Refuses with 1, 2, 4, 5 (4,246 bytes) and 6.
 pub fn write_text(
@@ -17,8 +14,8 @@ pub fn write_text(
     words: &[u32],
     out: &mut [u8],
 ) -> TextAnswer
-    ensures answer { λ r. ⌜ r ≡ writeText n k (rowsOf (now (masks .entry)) (now (values .entry)) (now (words .entry))) (length (now (out .entry))) ⌝ }
-    ensures text { λ r. ⌜ now (out .exit) ≡ stored (writeVerdict n k (rowsOf (now (masks .entry)) (now (values .entry)) (now (words .entry))) (length (now (out .entry)))) (textOf n k (rowsOf (now (masks .entry)) (now (values .entry)) (now (words .entry)))) (now (out .entry)) ⌝ }
+    ensures { λ r. ⌜ WritePromise n k (rowsOf (now (masks .entry)) (now (values .entry)) (now (words .entry)))
+        (now (out .entry)) r (now (out .exit)) ⌝ }
 {
     let v = rowtext::write_checks(n, k, masks, values, words, out.len());
     if v.number != 0 {

@@ -14,13 +14,13 @@ array-share-prefix-line : tie.Need-array-share-prefix-line
 array-share-prefix-line c =
     let done = c .before .before in
     let a = done .before .before .before .before .before .args in
-    line-fits (now (a .name)) (now (a .text)) _ _ _ (done .import-text .ensures .0) (done .import-text .ensures .1 .1)
+    line-fits (now (a .name)) (now (a .text)) _ _ _ (done .import-text .ensures .answer) (done .import-text .ensures .line)
 
 slice-aggregate-say : tie.Need-slice-aggregate-say
 slice-aggregate-say c =
     let done = c .before .before .before in
     let a = done .before .before .before .before .before .args in
-    simp length-take (omega (arith, line-fits (now (a .name)) (now (a .text)) _ _ _ (done .import-text .ensures .0) (done .import-text .ensures .1 .1)))
+    simp length-take (omega (arith, line-fits (now (a .name)) (now (a .text)) _ _ _ (done .import-text .ensures .answer) (done .import-text .ensures .line)))
 
 say-requires : tie.Need-say-requires
 say-requires c κs = search needs
@@ -35,13 +35,13 @@ array-share-prefix-sheet : tie.Need-array-share-prefix-sheet
 array-share-prefix-sheet c =
     let done = c .before .before in
     let a = done .before .before .before .before .before .args in
-    sheet-fits (now (a .name)) (now (a .text)) _ _ _ (done .import-text .ensures .0) (done .import-text .ensures .1 .0) (c .if1 .left)
+    sheet-fits (now (a .name)) (now (a .text)) _ _ _ (done .import-text .ensures .answer) (done .import-text .ensures .sheet) (c .if1 .left)
 
 slice-aggregate-write-sheet : tie.Need-slice-aggregate-write-sheet
 slice-aggregate-write-sheet c =
     let done = c .before .before .before in
     let a = done .before .before .before .before .before .args in
-    simp length-take (omega (arith, sheet-fits (now (a .name)) (now (a .text)) _ _ _ (done .import-text .ensures .0) (done .import-text .ensures .1 .0) (c .before .if1 .left)))
+    simp length-take (omega (arith, sheet-fits (now (a .name)) (now (a .text)) _ _ _ (done .import-text .ensures .answer) (done .import-text .ensures .sheet) (c .before .if1 .left)))
 
 write-sheet-requires : tie.Need-write-sheet-requires
 write-sheet-requires c κs = search needs
@@ -68,13 +68,13 @@ array-share-prefix-line-2 : tie.Need-array-share-prefix-line-2
 array-share-prefix-line-2 c =
     let done = c .before .before .before .before .before in
     let a = done .before .before .before .before .before .args in
-    line-fits (now (a .name)) (now (a .text)) _ _ _ (done .import-text .ensures .0) (done .import-text .ensures .1 .1)
+    line-fits (now (a .name)) (now (a .text)) _ _ _ (done .import-text .ensures .answer) (done .import-text .ensures .line)
 
 slice-aggregate-say-3 : tie.Need-slice-aggregate-say-3
 slice-aggregate-say-3 c =
     let done = c .before .before .before .before .before .before in
     let a = done .before .before .before .before .before .args in
-    simp length-take (omega (arith, line-fits (now (a .name)) (now (a .text)) _ _ _ (done .import-text .ensures .0) (done .import-text .ensures .1 .1)))
+    simp length-take (omega (arith, line-fits (now (a .name)) (now (a .text)) _ _ _ (done .import-text .ensures .answer) (done .import-text .ensures .line)))
 
 say-requires-3 : tie.Need-say-requires-3
 say-requires-3 c κs = search needs

@@ -22,7 +22,7 @@ same-length-3 c = search needs
 returns : tie.Need-returns
 returns c =
     let e = c .before .before .before .before .before .before .before .read-text .ensures in
-    (c .in-numbers .ensures ∙ e .0, e .1)
+    record { answer = c .in-numbers .ensures ∙ e .answer; rows = e .rows }
 
 pub irwystl-read-text-spec : {M : Type 1} → statement M
 irwystl-read-text-spec =

@@ -28,7 +28,7 @@ returns c =
     let part = c .before .first-bytes in
     let m = line-made (now (a .name)) (now (a .text)) _ (now (a .line)) _ _ _ (part .ensures) (e .0) p
     (omega (arith, p .place, line-le (now (part .result)) (c .before .before .before .work-text .result), simp length-take at (ap length (part .ensures)))) in
-    (m .0, (e .1, m .1))
+    record { answer = m .0; sheet = e .1; line = m .1 }
 
 pub import-text-spec : {M : Type 1} → statement M
 import-text-spec =

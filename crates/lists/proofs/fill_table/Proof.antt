@@ -3,6 +3,7 @@
 use borrow.Author.Tests.{eq-eqb, ne-eqb}
 use denote.Ref.{now}
 use lib.ListN.{length}
+use Rattle.block.specs.Limits.{tableInputs, smallerRows}
 use Rattle.row_checks.specs.Checked.{fill-checked, checked-words}
 use borrow.Author.Needs.{needs}
 use Rattle.lists.proofs.fill_table.Statement.{statement}
@@ -14,15 +15,19 @@ fill-verdict-requires c κs = search needs
 returns : tie.Need-returns
 returns c =
     let e = c .before .before .fill-verdict .ensures in
-    (e, rw (← e, ne-eqb _ _ (c .if1 .taken)))
+    record { answer = e; table = rw (← e, ne-eqb _ _ (c .if1 .taken)) }
 
 fill-rows-requires : tie.Need-fill-rows-requires
 fill-rows-requires c κs =
-    let a = c .before .before .before .before .before .before .before .before .args in
+    let checked = c .before .before .before in
+    let a = checked .before .before .before .before .before .args in
     let w = fill-checked (a .n) (a .k) (now (a .masks)) (now (a .values)) (now (a .words)) (length (now (a .table))) _
-    (c .before .before .before .fill-verdict .ensures) (c .before .if1 .left) in (
+    (checked .fill-verdict .ensures) (c .before .if1 .left) in (
       (w .0 .size .1, w .1, w .0 .listed),
-      (w .0 .disjoint .sound, checked-words 12 512 (a .n) (a .k) (now (a .masks)) (now (a .values)) (now (a .words)) (w .0)),
+      (
+        w .0 .disjoint .sound,
+        checked-words tableInputs smallerRows (a .n) (a .k) (now (a .masks)) (now (a .values)) (now (a .words)) (w .0),
+      ),
     )
 
 same-length : tie.Need-same-length
@@ -30,8 +35,10 @@ same-length c = search needs
 
 returns-2 : tie.Need-returns-2
 returns-2 c =
-    let e = c .before .before .before .before .before .before .fill-verdict .ensures in
-    (e, rw (← e, eq-eqb _ _ (c .before .before .before .before .if1 .left)) (c .before .before .fill-rows .ensures))
+    let filled = c .before .before in
+    let passed = filled .before .before in
+    let e = passed .before .before .fill-verdict .ensures in
+    record { answer = e; table = rw (← e, eq-eqb _ _ (passed .if1 .left)) (filled .fill-rows .ensures) }
 
 pub fill-table-spec : {M : Type 1} → statement M
 fill-table-spec =

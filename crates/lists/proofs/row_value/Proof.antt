@@ -15,20 +15,22 @@ row-value-verdict-requires c κs = search needs
 
 returns : tie.Need-returns
 unfolding rowValue
-returns c = rw (← (c .before .before .row-value-verdict .ensures), ne-eqb _ _ (c .if1 .taken))
+returns c = record { answer = rw (← (c .before .before .row-value-verdict .ensures), ne-eqb _ _ (c .if1 .taken)) }
 
 cast-shift-of-rows : tie.Need-cast-shift-of-rows
 cast-shift-of-rows c =
-    let a = c .before .before .before .before .before .before .args in
+    let checked = c .before .before in
+    let a = checked .before .before .before .before .args in
     let w = value-checked (a .n) (a .k) (a .t) (now (a .masks)) (now (a .values)) (now (a .words)) _
-    (c .before .before .row-value-verdict .ensures) (c .if1 .left) in
+    (checked .row-value-verdict .ensures) (c .if1 .left) in
     omega (arith, w .1, pow-mono (w .0 .size .1))
 
 shift-of-rows-requires : tie.Need-shift-of-rows-requires
 shift-of-rows-requires c κs =
-    let a = c .before .before .before .before .before .before .args in
+    let checked = c .before .before in
+    let a = checked .before .before .before .before .args in
     let w = value-checked (a .n) (a .k) (a .t) (now (a .masks)) (now (a .values)) (now (a .words)) _
-    (c .before .before .row-value-verdict .ensures) (c .if1 .left) in
+    (checked .row-value-verdict .ensures) (c .if1 .left) in
     ((w .0 .size .1, w .1, w .0 .listed), w .0 .disjoint)
 
 cast-t11 : tie.Need-cast-t11
@@ -37,7 +39,8 @@ cast-t11 c = search needs
 returns-2 : tie.Need-returns-2
 unfolding rowValue
 returns-2 c =
-    rw (← (c .before .before .before .row-value-verdict .ensures), eq-eqb _ _ (c .before .if1 .left), c .shift-of-rows .ensures)
+    let v = c .before .before .before .row-value-verdict in
+    record { answer = rw (← (v .ensures), eq-eqb _ _ (c .before .if1 .left), c .shift-of-rows .ensures) }
 
 pub row-value-spec : {M : Type 1} → statement M
 row-value-spec =

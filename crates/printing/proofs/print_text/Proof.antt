@@ -18,13 +18,19 @@ put-refusal-requires c κs =
 
 returns : tie.Need-returns
 returns c =
-    let e = c .before .before .before .before .work-text .ensures in
-    text-refused (now (c .before .before .before .before .before .before .before .args .input)) (now (c .before .before .before .before .before .before .before .args .out)) _ _ (e .0) (e .1) _ _ (c .before .before .if1 .taken) (omega arith) (c .put-refusal .ensures)
+    let worked = c .before .before .before .before in
+    let a = worked .before .before .before .args in
+    let e = worked .work-text .ensures in
+    let p = text-refused (now (a .input)) (now (a .out)) _ _ (e .0) (e .1) _ _ (c .before .before .if1 .taken) (omega arith) (c .put-refusal .ensures) in
+    record { text = p .0; bytes = p .1 }
 
 returns-2 : tie.Need-returns-2
 returns-2 c =
-    let e = c .before .before .work-text .ensures in
-    text-printed (now (c .before .before .before .before .before .args .input)) (now (c .before .before .before .before .before .args .out)) _ _ (e .0) (e .1) (c .if1 .left)
+    let worked = c .before .before in
+    let a = worked .before .before .before .args in
+    let e = worked .work-text .ensures in
+    let p = text-printed (now (a .input)) (now (a .out)) _ _ (e .0) (e .1) (c .if1 .left) in
+    record { text = p .0; bytes = p .1 }
 
 pub print-text-spec : {M : Type 1} → statement M
 print-text-spec =

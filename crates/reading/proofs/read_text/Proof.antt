@@ -4,10 +4,10 @@ use mathlib.Core.Path.{_≡_, ap, _∙_}
 use native.Mathlib.Omega.{arith}
 use borrow.Author.Needs.{needs}
 use denote.Ref.{now}
-use Rattle.block.specs.Text.{numbers}
+use Rattle.block.specs.Text.{readText, numbers}
 use Rattle.lines.specs.ByPlace.{maskPart, valuesPart, wordPart}
 use Rattle.lines.specs.Answers.{numbers-read, after-read}
-use Rattle.reading.specs.Storage.{shortest}
+use Rattle.promises.specs.Lent.{shortest}
 use Rattle.reading.proofs.read_text.Statement.{statement}
 use Rattle.reading.proofs.read_text.Tie as tie
 
@@ -28,19 +28,20 @@ same-length-3 c = search needs
 
 returns : tie.Need-returns
 returns c =
-    let a = c .before .before .before .before .before .before .before .before .before .before .before .before .before .before .before .args in
-    let r = c .before .before .before .before .before .before .read-from .ensures in
-    let e : c .before .before .before .before .before .before .before .before .before .before .least-room .result ≡ shortest (now (a .masks)) (now (a .values)) (now (a .words)) = omega arith in
-    rw (← e) (
-      ap numbers (r .0) ∙ numbers-read (now (a .text)) _,
-      (
-        r .1 .0 ∙ after-read (now (a .text)) _ maskPart (now (a .masks)),
-        (
-          r .1 .1 .0 ∙ after-read (now (a .text)) _ valuesPart (now (a .values)),
-          r .1 .1 .1 ∙ after-read (now (a .text)) _ wordPart (now (a .words)),
-        ),
-      ),
-    )
+    let read = c .before .before .before .before .before .before in
+    let roomed = read .before .before .before .before in
+    let a = roomed .before .before .before .before .before .args in
+    let r = read .read-from .ensures in
+    let e : roomed .least-room .result ≡ shortest (now (a .masks)) (now (a .values)) (now (a .words)) = omega arith in
+    record {
+      answer = ap numbers (r .0) ∙ numbers-read (now (a .text)) _ ∙ ap (readText (now (a .text))) e;
+      rows =
+          record {
+            masks = rw (← e) (r .1 .0 ∙ after-read (now (a .text)) _ maskPart (now (a .masks)));
+            values = rw (← e) (r .1 .1 .0 ∙ after-read (now (a .text)) _ valuesPart (now (a .values)));
+            words = rw (← e) (r .1 .1 .1 ∙ after-read (now (a .text)) _ wordPart (now (a .words)));
+          };
+    }
 
 pub read-text-spec : {M : Type 1} → statement M
 read-text-spec =

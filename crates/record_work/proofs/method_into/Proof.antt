@@ -1,11 +1,8 @@
 -- `record_work::method_into` meets its contract: the first places of each array are lent to the operation on flat slices, and what it stores
 -- there are the smaller rows. Assumes nothing.
-use native.Mathlib.Omega.{arith}
 use borrow.Author.Needs.{needs}
 use denote.Ref.{now}
-use lib.ListN.{length, take}
-use Rattle.reading.specs.Storage.{shortest}
-use Rattle.record_work.specs.Flat.{lent, listed}
+use Rattle.copying.specs.Flat.{lent, listed}
 use Rattle.record_work.specs.Method.{method-yields}
 use Rattle.record_work.proofs.method_into.Statement.{statement}
 use Rattle.record_work.proofs.method_into.Tie as tie
@@ -59,16 +56,9 @@ returns : tie.Need-returns
 returns c =
     let start = c .before .before .before .before .before .before .before .before .before .before .before .before .before .before .before .before .before .before .before .before .before .before .before .before in
     let arg = start .args in
-    let f = arg .smaller in
-    let sized = start .pre .2 in
-    let few = start .pre .3 in
     let done = c .before .before .before .before .before .before .before .row-method in
-    method-yields (arg .n) (arg .k) (arg .w) (listed (arg .flat) (arg .m)) (length (now (arg .basis))) (length (now (arg .sigma))) (arg .room)
-    (shortest (take (arg .room) (f .masks)) (take (arg .room) (f .values)) (take (arg .room) (f .words))) f (done .result)
-    (now (arg .basis)) (done .last .1 .1 .1 .1 .1 .1 .0) (now (arg .sigma)) (done .last .1 .1 .1 .1 .1 .1 .1 .0)
-    (done .last .1 .1 .1 .1 .1 .1 .1 .1 .0) (done .last .1 .1 .1 .1 .1 .1 .1 .1 .1 .0) (done .last .1 .1 .1 .1 .1 .1 .1 .1 .1 .1 .0) sized few
-    (omega (arith, lent (arg .room) (f .masks) (sized .masks) few, lent (arg .room) (f .values) (sized .values) few, lent (arg .room) (f .words) (sized .words) few))
-    (done .ensures .0) (done .ensures .1 .0) (done .ensures .1 .1 .0) (done .ensures .1 .1 .1 .0) (done .ensures .1 .1 .1 .1 .0) (done .ensures .1 .1 .1 .1 .1)
+    method-yields (arg .n) (arg .k) (arg .w) (listed (arg .flat) (arg .m)) (now (arg .basis)) (now (arg .sigma)) (done .result) _ _ (arg .room)
+    (arg .smaller) _ _ _ (start .pre .2) (start .pre .3) (done .ensures)
 
 pub method-into-spec : {M : Type 1} → statement M
 method-into-spec =

@@ -1,8 +1,7 @@
 -- `record_work::method_of` meets its contract: no more than 513 places are looked at, and the room counts only up to 512. Assumes nothing.
 use borrow.Author.Needs.{needs}
 use denote.Ref.{now}
-use lib.ListN.{length}
-use Rattle.record_work.specs.Flat.{listed}
+use Rattle.copying.specs.Flat.{listed}
 use Rattle.record_work.specs.Method.{method-whole}
 use Rattle.record_work.proofs.method_of.Statement.{statement}
 use Rattle.record_work.proofs.method_of.Tie as tie
@@ -27,10 +26,8 @@ returns c =
     let arg = c .before .before .before .before .before .before .before .before .before .before .before .args in
     let done = c .before .before .before .before .method-into in
     let places = c .before .before .before .before .before .before .before .before .fits2 in
-    method-whole (arg .n) (arg .k) (arg .w) (listed (arg .flat) (arg .m)) (length (now (arg .basis))) (length (now (arg .sigma))) (arg .room)
-    (places .result) (done .result .flat) (done .result .answer) (done .result .count) (now (arg .basis)) (done .last .1 .1 .1 .1 .1 .1 .1 .0)
-    (now (arg .sigma)) (done .last .1 .1 .1 .1 .1 .1 .1 .1 .0) (places .ensures) (done .ensures .0) (done .ensures .1 .0) (done .ensures .1 .1 .0)
-    (done .ensures .1 .1 .1)
+    method-whole (arg .n) (arg .k) (arg .w) (listed (arg .flat) (arg .m)) (now (arg .basis)) (now (arg .sigma)) (done .result .answer) _ _ (arg .room)
+    (places .result) (done .result .flat) (done .result .count) (places .ensures) (done .ensures)
 
 pub method-of-spec : {M : Type 1} → statement M
 method-of-spec =

@@ -1,11 +1,9 @@
 -- `record_work::read_into` meets its contract: the first m places of each array are lent to the operation on flat slices, and what it stores
 -- there are the rows. Assumes nothing.
-use native.Mathlib.Omega.{arith}
 use borrow.Author.Needs.{needs}
 use denote.Ref.{now}
-use lib.ListN.{take}
-use Rattle.reading.specs.Storage.{shortest}
-use Rattle.record_work.specs.Flat.{lent}
+use Rattle.block.specs.Text.{numbers}
+use Rattle.copying.specs.Flat.{lent}
 use Rattle.record_work.specs.Reading.{read-yields}
 use Rattle.record_work.proofs.read_into.Statement.{statement}
 use Rattle.record_work.proofs.read_into.Tie as tie
@@ -37,15 +35,10 @@ rows-read-requires c κs = search needs
 returns : tie.Need-returns
 returns c =
     let start = c .before .before .before .before .before .before .before .before .before .before .before .before in
-    let f = start .args .flat in
-    let m = start .args .m in
-    let sized = start .pre .0 in
-    let few = start .pre .1 in
+    let arg = start .args in
     let read = c .before .before .before .before .read-text in
-    read-yields (now (start .args .text)) m (shortest (take m (f .masks)) (take m (f .values)) (take m (f .words))) f (read .result)
-    (c .rows-read .result) (read .last .1 .0) (read .last .1 .1 .0) (read .last .1 .1 .1 .0) sized few
-    (omega (arith, lent m (f .masks) (sized .masks) few, lent m (f .values) (sized .values) few, lent m (f .words) (sized .words) few))
-    (read .ensures .0) (c .rows-read .ensures) (read .ensures .1 .0) (read .ensures .1 .1 .0) (read .ensures .1 .1 .1)
+    read-yields (now (arg .text)) (numbers (read .result)) (arg .m) (arg .flat) _ _ _ (c .rows-read .result) (start .pre .0) (start .pre .1)
+    (c .rows-read .ensures) (read .ensures)
 
 pub read-into-spec : {M : Type 1} → statement M
 read-into-spec =

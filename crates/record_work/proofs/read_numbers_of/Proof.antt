@@ -11,7 +11,9 @@ in-numbers-requires : tie.Need-in-numbers-requires
 in-numbers-requires c κs = search needs
 
 returns : tie.Need-returns
-returns c = (c .in-numbers .ensures ∙ c .before .before .read-of .ensures .0, c .before .before .read-of .ensures .1)
+returns c =
+    let read = c .before .before .read-of .ensures in
+    record { answer = c .in-numbers .ensures ∙ read .answer; rows = read .rows }
 
 pub read-numbers-of-spec : {M : Type 1} → statement M
 read-numbers-of-spec = tie.close (tie.spec read-of-requires in-numbers-requires returns)

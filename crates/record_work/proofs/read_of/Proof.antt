@@ -1,6 +1,7 @@
 -- `record_work::read_of` meets its contract: no more than 513 places are looked at, and the room counts only up to 128. Assumes nothing.
 use borrow.Author.Needs.{needs}
 use denote.Ref.{now}
+use Rattle.block.specs.Text.{numbers}
 use Rattle.record_work.specs.Reading.{read-whole}
 use Rattle.record_work.proofs.read_of.Statement.{statement}
 use Rattle.record_work.proofs.read_of.Tie as tie
@@ -18,8 +19,8 @@ returns : tie.Need-returns
 returns c =
     let start = c .before .before .before .before in
     let read = c .read-into in
-    read-whole (now (start .args .text)) (start .args .room) (c .before .before .fits2 .result) (read .result .answer) (read .result .flat)
-    (read .result .count) (c .before .before .fits2 .ensures) (read .ensures .0) (read .ensures .1)
+    read-whole (now (start .args .text)) (numbers (read .result .answer)) (start .args .room) (c .before .before .fits2 .result) (read .result .flat)
+    (read .result .count) (c .before .before .fits2 .ensures) (read .ensures)
 
 pub read-of-spec : {M : Type 1} → statement M
 read-of-spec = tie.close (tie.spec fits-requires blank-requires read-into-requires returns)

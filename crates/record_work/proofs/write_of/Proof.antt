@@ -1,6 +1,6 @@
 -- `record_work::write_of` meets its contract: the first m entries of each array are lent to the operation on flat slices. Assumes nothing.
 use borrow.Author.Needs.{needs}
-use Rattle.record_work.specs.Flat.{lent}
+use Rattle.copying.specs.Flat.{lent}
 use Rattle.record_work.proofs.write_of.Statement.{statement}
 use Rattle.record_work.proofs.write_of.Tie as tie
 

@@ -1,18 +1,16 @@
--- `records::fill_table` meets its contract: a walk of its MIR, by hand, over the laws of `Walk.antt` and `Calls.antt` of crate record_work.
+-- `records::fill_table` meets its contract: a walk of its MIR, by hand, over the laws of `Walk.antt` and `Calls.antt` of crate copying.
 -- It is three calls in a row. Assumes nothing.
-use Rattle.record_work.proofs.Thin.{refl, [], _∷_, _≡_, length, named, w64, vint, givenOf, _$_, !, whole, sub, of-opd, no-more, uint-makes, u16, now, slice-vals, cited, Lfts, typesAt, Knowns, a-num, a-slice, a-mut-slice, B, framing, concludes, valsOf, made, held, none, arg, field-of, puts, keeps, lends, asks, ends, so, both-so, both-heard, id⊢, asks-fits, asks-gather}
+use Rattle.copying.proofs.Thin.{refl, [], _∷_, _≡_, length, named, w64, vint, givenOf, _$_, !, whole, sub, of-opd, no-more, uint-makes, u16, now, slice-vals, cited, Lfts, typesAt, Knowns, a-num, a-slice, a-mut-slice, B, framing, concludes, valsOf, made, held, none, arg, field-of, puts, keeps, lends, asks, ends, so, id⊢, asks-fits, asks-gather}
 use native.Mathlib.Omega.{arith}
 use denote.Struct.Laws as LL
-use Rattle.block.specs.Refusals.{stored}
-use Rattle.block.specs.Lists.{fillVerdict, filled}
-use Rattle.block.specs.declared.Row.{Row}
-use Rattle.record_work.specs.Flat.{listed, gathered-sized, as-records}
-use Rattle.record_work.specs.Cut.{fill-cut, filled-cut}
+use Rattle.promises.specs.Lists.{FillPromise}
+use Rattle.copying.specs.Flat.{listed, gathered-sized}
+use Rattle.record_work.specs.Records.{fill-records}
 use Rattle.block.proofs.Row as T
 use Rattle.block.proofs.Answer as An
 use Rattle.block.proofs.Answer.Laws as An′
-use Rattle.record_work.proofs.FlatRows as F
-use Rattle.record_work.proofs.FlatRows.Laws as F′
+use Rattle.copying.proofs.FlatRows as F
+use Rattle.copying.proofs.FlatRows.Laws as F′
 use Rattle.record_work.proofs.fill_of as work
 use Rattle.record_work.proofs.fill_of.Symbol as work-def
 use Rattle.record_work.proofs.fill_of.Met as work-thm
@@ -38,17 +36,16 @@ fill-table-spec 𝓤 H 𝓜 𝓖 𝓡 =
     let x₁ = a .1 .1 .1 .0 in
     let is₀ = are .1 .1 .0 .0 .1 .0 in
     puts ! (of-opd ! (field-of ! refl (sub ! 1 refl (whole !)))) refl (tt, record { fits = is₀ }) $
-    asks-fits 𝓤 H 𝓜 𝓖 𝓡 code.env ! code.calls-record-work·fits (length rs) is₀ (arg ! refl (no-more !)) (λ m fit m<. keeps ! refl (tt, record { fits = m< }) $
-    asks-gather 𝓤 H 𝓜 𝓖 𝓡 code.env ! code.calls-record-work·gather (κs .0) (qs .0) (a .1 .1 .0) m fit m< (arg ! refl (arg ! refl (no-more !))) (20 ∷ 24 ∷ []) refl (λ v₂ z e₂ is-z. keeps ! refl (LL.lawful F.the-type F′.the-laws 𝓤 H A W .typed z _ is-z .0) $
+    asks-fits 𝓤 H 𝓜 𝓖 𝓡 code.env ! code.calls-copying·fits (length rs) is₀ (arg ! refl (no-more !)) (λ m fit m<. keeps ! refl (tt, record { fits = m< }) $
+    asks-gather 𝓤 H 𝓜 𝓖 𝓡 code.env ! code.calls-copying·gather (κs .0) (qs .0) (a .1 .1 .0) m fit m< (arg ! refl (arg ! refl (no-more !))) (20 ∷ 24 ∷ []) refl (λ v₂ z e₂ is-z. keeps ! refl (LL.lawful F.the-type F′.the-laws 𝓤 H A W .typed z _ is-z .0) $
     lends ! refl (sub ! 0 refl (whole !)) refl (tt, tt) refl refl (sub ! 1 refl (whole !)) refl (tt, (tt, (record { fits = are .1 .1 .1 .0 .0 .1 .0 }, tt))) $
     asks ! (framing 𝓤 H 𝓜 𝓖 𝓡 code.env) work.ended asked (cited 𝓤 H (B 𝓤 H A W work.ended asked) 𝓜 𝓡 code.env work-def.name work-def.routine code.calls-record-work·fill-of (work-thm.met 𝓤 H 𝓜 𝓖 𝓡))
     (((κs .1 .0, tt), (qs .1 .0, tt), tt, (n, (k, (z, (m, (x₁, tt))))), (vint w64 n ∷ [], (vint w64 k ∷ [], (v₂ ∷ [], (vint w64 m ∷ [], (slice-vals x₁, tt)))))), tt)
     (arg ! refl (arg ! refl (arg ! refl (arg ! refl (arg ! refl (no-more !)))))) (20 ∷ 23 ∷ [])
     (made ! (uint-makes 𝓤 H A W w64) (are .0) (made ! (uint-makes 𝓤 H A W w64) (are .1 .0) (made ! ((LL.makes F.the-type F′.the-plain) 𝓤 H A) is-z (made ! (uint-makes 𝓤 H A W w64) (refl, m<) (held ! (none !)))))) refl
     (so 𝓤 H A (gathered-sized e₂, omega arith))
-    (λ r ws. (r ≡ fillVerdict n k (listed z m) (length (now x₁))) × (ws .1 .1 .1 .1 .0 ≡ stored (fillVerdict n k (listed z m) (length (now x₁))) (filled n (listed z m)) (now x₁)))
-    (λ r ws. both-heard 𝓤 H A (id⊢ 𝓤 _) (id⊢ 𝓤 _)) (λ v₃ r ws e₃ is-r. keeps ! refl (LL.lawful An.the-type An′.the-laws 𝓤 H A W .typed r _ is-r .0) $
+    (λ r ws. FillPromise n k (listed z m) (now x₁) r (ws .1 .1 .1 .1 .0))
+    (λ r ws. id⊢ 𝓤 _) (λ v₃ r ws e₃ is-r. keeps ! refl (LL.lawful An.the-type An′.the-laws 𝓤 H A W .typed r _ is-r .0) $
     ends ! f.ended clauses ((κs, qs, bounds, a, valsOf 𝓤 H A W f.ended clauses known κs a), g) _ _ (_ ∷ _ ∷ _ ∷ _ ∷ _ ∷ _ ∷ _ ∷ _ ∷ _ ∷ []) tt refl (3 ∷ 6 ∷ 2 ∷ 4 ∷ 5 ∷ 11 ∷ [])
     r (tt, (tt, (tt, (ws .1 .1 .1 .1 .0, tt)))) refl ((LL.makes An.the-type An′.the-plain) 𝓤 H A) is-r
-    (both-so 𝓤 H A (so 𝓤 H A (as-records (λ l. fillVerdict n k l (length (now x₁))) rs fit e₂ (fill-cut n k (length (now x₁)) rs) (e₃ .0)))
-    (so 𝓤 H A (as-records (λ l. stored (fillVerdict n k l (length (now x₁))) (filled n l) (now x₁)) rs fit e₂ (filled-cut n k (length (now x₁)) (now x₁) rs) (e₃ .1))))))))
+    (so 𝓤 H A (fill-records rs fit e₂ e₃))))))

@@ -1,9 +1,10 @@
 -- `records::read_numbers` meets its contract: a walk of its MIR, by hand, over the laws of `Walk.antt` and `Calls.antt` of crate
--- record_work. It is two calls in a row. The answer is a struct. Assumes nothing.
-use Rattle.record_work.proofs.Thin.{refl, List, [], _∷_, _≡_, length, fullShare, named, w64, Val, vint, id⊢, fat, givenOf, ‵, _$_, !, rewrite, whole, sub, of-opd, and-then, no-more, uint-makes, u8, now, slice-vals, only, cited, Lfts, typesAt, Knowns, a-slice, a-mut-slice, B, framing, concludes, valsOf, made, held, none, arg, field-of, puts, keeps, lends, asks, ends, so, both-so, both-heard, asks-scatter}
+-- copying. It is two calls in a row. The answer is a struct. Assumes nothing.
+use Rattle.copying.proofs.Thin.{refl, List, [], _∷_, _≡_, length, fullShare, named, w64, Val, vint, id⊢, fat, givenOf, ‵, _$_, !, rewrite, whole, sub, of-opd, and-then, no-more, uint-makes, u8, now, slice-vals, only, cited, Lfts, typesAt, Knowns, a-slice, a-mut-slice, B, framing, concludes, valsOf, made, held, none, arg, field-of, puts, keeps, lends, asks, ends, so, asks-scatter}
 use denote.Struct.Laws as LL
-use Rattle.block.specs.Text.{readText, readVerdict, rowsIn}
-use Rattle.record_work.specs.Yielded.{Yielded, yielded-stored}
+use Rattle.promises.specs.Texts.{ReadPromise}
+use Rattle.record_work.specs.Yielded.{lentArrays}
+use Rattle.record_work.specs.Records.{read-records}
 use Rattle.block.proofs.Row as T
 use Rattle.block.proofs.ReadAnswer as An
 use Rattle.block.proofs.ReadAnswer.Laws as An′
@@ -34,13 +35,13 @@ read-numbers-spec 𝓤 H 𝓜 𝓖 𝓡 =
     puts ! (of-opd ! (field-of ! refl (sub ! 1 refl (whole !)))) refl (tt, record { fits = is₁ }) $
     asks ! (framing 𝓤 H 𝓜 𝓖 𝓡 code.env) work.ended asked (cited 𝓤 H (B 𝓤 H A W work.ended asked) 𝓜 𝓡 code.env work-def.name work-def.routine code.calls-record-work·read-numbers-of (work-thm.met 𝓤 H 𝓜 𝓖 𝓡))
     (((κs .0, tt), (qs .0, tt), tt, (a .0, (room, tt)), (slice-vals (a .0), (vint w64 room ∷ [], tt))), tt) (arg ! refl (arg ! refl (no-more !))) (16 ∷ 18 ∷ [])
-    (held ! (made ! (uint-makes 𝓤 H A W w64) (refl, is₁) (none !))) refl (id⊢ 𝓤 _) (λ d ws. (d .answer ≡ readText text room) × Yielded (readVerdict text room) (rowsIn text) room (d .flat) (d .count)) (λ d ws. both-heard 𝓤 H A (id⊢ 𝓤 _) (id⊢ 𝓤 _)) (λ v₃ d ws e₃ is-d.
+    (held ! (made ! (uint-makes 𝓤 H A W w64) (refl, is₁) (none !))) refl (id⊢ 𝓤 _) (λ d ws. ReadPromise text (lentArrays room (d .flat) (d .count)) (d .answer)) (λ d ws. id⊢ 𝓤 _) (λ v₃ d ws e₃ is-d.
     let fields = LL.owed D.the-type D′.the-laws d (v₃ ∷ []) is-d in
     keeps ! refl (LL.lawful D.the-type D′.the-laws 𝓤 H A W .typed d _ is-d .0) $
     rewrite ! 3 (λ (us : List Val). ‵ (fat fullShare D′.mir (bs .1 .1 .1 .0) 0 (only us))) (LL.tells D.the-type D′.the-laws d (v₃ ∷ []) is-d) refl $
     lends ! refl (sub ! 0 refl (whole !)) refl (tt, tt) refl refl (sub ! 1 refl (whole !)) refl (tt, (tt, (record { fits = is₁ }, tt))) $
-    asks-scatter 𝓤 H 𝓜 𝓖 𝓡 code.env ! code.calls-record-work·scatter (κs .1 .0) (qs .1 .0) (d .flat) _ (fields .0) (d .count) (fields .1 .0 .1) x₁ (e₃ .1 .within) (e₃ .1 .most)
+    asks-scatter 𝓤 H 𝓜 𝓖 𝓡 code.env ! code.calls-copying·scatter (κs .1 .0) (qs .1 .0) (d .flat) _ (fields .0) (d .count) (fields .1 .0 .1) x₁ (e₃ .rows .within) (e₃ .rows .most)
     (and-then ! (field-of ! refl (sub ! 0 refl (whole !))) (and-then ! (field-of ! refl (sub ! 1 refl (whole !))) (arg ! refl (no-more !)))) (16 ∷ 17 ∷ []) refl (λ zs e₄. keeps ! refl (tt, tt) $
     puts ! (of-opd ! (field-of ! refl (sub ! 2 refl (whole !)))) refl (LL.lawful An.the-type An′.the-laws 𝓤 H A W .typed (d .answer) _ (fields .1 .1 .0) .0) $
     ends ! f.ended clauses ((κs, qs, bounds, a, valsOf 𝓤 H A W f.ended clauses known κs a), g) _ _ (_ ∷ _ ∷ _ ∷ _ ∷ _ ∷ _ ∷ _ ∷ []) tt refl (0 ∷ 3 ∷ 1 ∷ 6 ∷ [])
-    (d .answer) (tt, (zs, tt)) refl ((LL.makes An.the-type An′.the-plain) 𝓤 H A) (fields .1 .1 .0) (both-so 𝓤 H A (so 𝓤 H A (e₃ .0)) (so 𝓤 H A (yielded-stored (now x₁) zs (e₃ .1) e₄))))))
+    (d .answer) (tt, (zs, tt)) refl ((LL.makes An.the-type An′.the-plain) 𝓤 H A) (fields .1 .1 .0) (so 𝓤 H A (read-records (now x₁) zs e₄ e₃)))))

@@ -1,20 +1,17 @@
--- `records::row_method` meets its contract: a walk of its MIR, by hand, over the laws of `Walk.antt` and `Calls.antt` of crate record_work.
+-- `records::row_method` meets its contract: a walk of its MIR, by hand, over the laws of `Walk.antt` and `Calls.antt` of crate copying.
 -- It is four calls in a row. Assumes nothing.
-use Rattle.record_work.proofs.Thin.{refl, List, [], _∷_, _≡_, length, fullShare, named, w64, Val, vint, id⊢, fat, givenOf, ‵, _$_, !, rewrite, whole, sub, of-opd, and-then, no-more, uint-makes, u32, now, slice-vals, only, cited, Lfts, typesAt, Knowns, a-num, a-slice, a-mut-slice, B, framing, concludes, valsOf, made, held, none, arg, field-of, puts, puts-over, keeps, lends, asks, ends, so, both-so, both-heard, asks-fits, asks-gather, asks-scatter}
+use Rattle.copying.proofs.Thin.{refl, List, [], _∷_, _≡_, length, fullShare, named, w64, Val, vint, id⊢, fat, givenOf, ‵, _$_, !, rewrite, whole, sub, of-opd, and-then, no-more, uint-makes, u32, now, slice-vals, only, cited, Lfts, typesAt, Knowns, a-num, a-slice, a-mut-slice, B, framing, concludes, valsOf, made, held, none, arg, field-of, puts, puts-over, keeps, lends, asks, ends, so, asks-fits, asks-gather, asks-scatter}
 use native.Mathlib.Omega.{arith}
 use denote.Struct.Laws as LL
-use Rattle.block.specs.Words.{ofRows}
-use Rattle.block.specs.Basis.{basisOf, sigmaOf}
-use Rattle.block.specs.Refusals.{stored}
-use Rattle.block.specs.Lists.{rowMethod, rowMethodVerdict, smallerList}
-use Rattle.record_work.specs.Flat.{listed, gathered-sized, as-records}
-use Rattle.record_work.specs.Yielded.{Yielded, yielded-stored}
-use Rattle.record_work.specs.Cut.{method-cut, method-stored-cut}
+use Rattle.promises.specs.Lists.{RowMethodPromise}
+use Rattle.copying.specs.Flat.{listed, gathered-sized}
+use Rattle.record_work.specs.Yielded.{lentArrays}
+use Rattle.record_work.specs.Records.{method-records}
 use Rattle.block.proofs.Row as T
 use Rattle.block.proofs.RowMethodAnswer as An
 use Rattle.block.proofs.RowMethodAnswer.Laws as An′
-use Rattle.record_work.proofs.FlatRows as F
-use Rattle.record_work.proofs.FlatRows.Laws as F′
+use Rattle.copying.proofs.FlatRows as F
+use Rattle.copying.proofs.FlatRows.Laws as F′
 use Rattle.record_work.proofs.SmallerRows as D
 use Rattle.record_work.proofs.SmallerRows.Laws as D′
 use Rattle.record_work.proofs.method_of as work
@@ -43,14 +40,12 @@ row-method-spec 𝓤 H 𝓜 𝓖 𝓡 =
     let x₁ = a .1 .1 .1 .1 .0 in
     let x₂ = a .1 .1 .1 .1 .1 .0 in
     let x₃ = a .1 .1 .1 .1 .1 .1 .0 in
-    let b₁ = length (now x₁) in
-    let b₂ = length (now x₂) in
     let room = length (now x₃) in
     let is₀ = are .1 .1 .1 .0 .0 .1 .0 in
     let is₃ = are .1 .1 .1 .1 .1 .1 .0 .0 .1 .0 in
     puts ! (of-opd ! (field-of ! refl (sub ! 1 refl (whole !)))) refl (tt, record { fits = is₀ }) $
-    asks-fits 𝓤 H 𝓜 𝓖 𝓡 code.env ! code.calls-record-work·fits (length rs) is₀ (arg ! refl (no-more !)) (λ m fit m<. keeps ! refl (tt, record { fits = m< }) $
-    asks-gather 𝓤 H 𝓜 𝓖 𝓡 code.env ! code.calls-record-work·gather (κs .0) (qs .0) (a .1 .1 .1 .0) m fit m< (arg ! refl (arg ! refl (no-more !))) (38 ∷ 45 ∷ []) refl (λ v₂ z e₂ is-z. keeps ! refl (LL.lawful F.the-type F′.the-laws 𝓤 H A W .typed z _ is-z .0) $
+    asks-fits 𝓤 H 𝓜 𝓖 𝓡 code.env ! code.calls-copying·fits (length rs) is₀ (arg ! refl (no-more !)) (λ m fit m<. keeps ! refl (tt, record { fits = m< }) $
+    asks-gather 𝓤 H 𝓜 𝓖 𝓡 code.env ! code.calls-copying·gather (κs .0) (qs .0) (a .1 .1 .1 .0) m fit m< (arg ! refl (arg ! refl (no-more !))) (38 ∷ 45 ∷ []) refl (λ v₂ z e₂ is-z. keeps ! refl (LL.lawful F.the-type F′.the-laws 𝓤 H A W .typed z _ is-z .0) $
     puts-over ! (of-opd ! (field-of ! refl (sub ! 1 refl (whole !)))) refl (tt, record { fits = is₃ }) $
     lends ! refl (sub ! 0 refl (whole !)) refl (tt, tt) refl refl (sub ! 1 refl (whole !)) refl (tt, (tt, (record { fits = are .1 .1 .1 .1 .0 .0 .1 .0 }, tt))) $
     lends ! refl (sub ! 0 refl (whole !)) refl (tt, tt) refl refl (sub ! 1 refl (whole !)) refl (tt, (tt, (record { fits = are .1 .1 .1 .1 .1 .0 .0 .1 .0 }, tt))) $
@@ -59,19 +54,16 @@ row-method-spec 𝓤 H 𝓜 𝓖 𝓡 =
     (arg ! refl (arg ! refl (arg ! refl (arg ! refl (arg ! refl (arg ! refl (arg ! refl (arg ! refl (no-more !))))))))) (38 ∷ 39 ∷ 44 ∷ 45 ∷ [])
     (made ! (uint-makes 𝓤 H A W w64) (are .0) (made ! (uint-makes 𝓤 H A W w64) (are .1 .0) (made ! (uint-makes 𝓤 H A W w64) (are .1 .1 .0) (made ! ((LL.makes F.the-type F′.the-plain) 𝓤 H A) is-z (made ! (uint-makes 𝓤 H A W w64) (refl, m<) (made ! (uint-makes 𝓤 H A W w64) (refl, is₃) (held ! (held ! (none !))))))))) refl
     (so 𝓤 H A (gathered-sized e₂, omega arith))
-    (λ d ws. (d .answer ≡ rowMethod n k w (listed z m) b₁ b₂ room) × ((ws .1 .1 .1 .1 .1 .1 .0 ≡ stored (rowMethodVerdict n k w (listed z m) b₁ b₂ room) (basisOf (ofRows (listed z m)) n w) (now x₁)) × ((ws .1 .1 .1 .1 .1 .1 .1 .0 ≡ stored (rowMethodVerdict n k w (listed z m) b₁ b₂ room) (sigmaOf (ofRows (listed z m)) n w) (now x₂)) × Yielded (rowMethodVerdict n k w (listed z m) b₁ b₂ room) (smallerList n w (listed z m)) room (d .flat) (d .count))))
-    (λ d ws. both-heard 𝓤 H A (id⊢ 𝓤 _) (both-heard 𝓤 H A (id⊢ 𝓤 _) (both-heard 𝓤 H A (id⊢ 𝓤 _) (id⊢ 𝓤 _)))) (λ v₃ d ws e₃ is-d.
+    (λ d ws. RowMethodPromise n k w (listed z m) (lentArrays room (d .flat) (d .count)) (now x₁) (now x₂) (d .answer) (ws .1 .1 .1 .1 .1 .1 .0) (ws .1 .1 .1 .1 .1 .1 .1 .0))
+    (λ d ws. id⊢ 𝓤 _) (λ v₃ d ws e₃ is-d.
     let fields = LL.owed D.the-type D′.the-laws d (v₃ ∷ []) is-d in
-    let y = e₃ .1 .1 .1 in
+    let y = e₃ .smaller in
     keeps ! refl (LL.lawful D.the-type D′.the-laws 𝓤 H A W .typed d _ is-d .0) $
     rewrite ! 10 (λ (us : List Val). ‵ (fat fullShare D′.mir (bs .1 .1 .1 .1 .1 .1 .1 .1 .1 .1 .0) 0 (only us))) (LL.tells D.the-type D′.the-laws d (v₃ ∷ []) is-d) refl $
     lends ! refl (sub ! 0 refl (whole !)) refl (tt, tt) refl refl (sub ! 1 refl (whole !)) refl (tt, (tt, (record { fits = is₃ }, tt))) $
-    asks-scatter 𝓤 H 𝓜 𝓖 𝓡 code.env ! code.calls-record-work·scatter (κs .1 .1 .1 .0) (qs .1 .1 .1 .0) (d .flat) _ (fields .0) (d .count) (fields .1 .0 .1) x₃ (y .within) (y .most)
+    asks-scatter 𝓤 H 𝓜 𝓖 𝓡 code.env ! code.calls-copying·scatter (κs .1 .1 .1 .0) (qs .1 .1 .1 .0) (d .flat) _ (fields .0) (d .count) (fields .1 .0 .1) x₃ (y .within) (y .most)
     (and-then ! (field-of ! refl (sub ! 0 refl (whole !))) (and-then ! (field-of ! refl (sub ! 1 refl (whole !))) (arg ! refl (no-more !)))) (38 ∷ 42 ∷ []) refl (λ zs e₄. keeps ! refl (tt, tt) $
     puts ! (of-opd ! (field-of ! refl (sub ! 2 refl (whole !)))) refl (LL.lawful An.the-type An′.the-laws 𝓤 H A W .typed (d .answer) _ (fields .1 .1 .0) .0) $
     ends ! f.ended clauses ((κs, qs, bounds, a, valsOf 𝓤 H A W f.ended clauses known κs a), g) _ _ (_ ∷ _ ∷ _ ∷ _ ∷ _ ∷ _ ∷ _ ∷ _ ∷ _ ∷ _ ∷ _ ∷ _ ∷ _ ∷ _ ∷ _ ∷ _ ∷ _ ∷ _ ∷ []) tt refl (4 ∷ 7 ∷ 8 ∷ 17 ∷ 3 ∷ 5 ∷ 6 ∷ 9 ∷ 15 ∷ 16 ∷ 20 ∷ [])
     (d .answer) (tt, (tt, (tt, (tt, (ws .1 .1 .1 .1 .1 .1 .0, (ws .1 .1 .1 .1 .1 .1 .1 .0, (zs, tt))))))) refl ((LL.makes An.the-type An′.the-plain) 𝓤 H A) (fields .1 .1 .0)
-    (both-so 𝓤 H A (so 𝓤 H A (as-records (λ l. rowMethod n k w l b₁ b₂ room) rs fit e₂ (method-cut n k w b₁ b₂ room rs) (e₃ .0)))
-    (both-so 𝓤 H A (so 𝓤 H A (as-records (λ l. stored (rowMethodVerdict n k w l b₁ b₂ room) (basisOf (ofRows l) n w) (now x₁)) rs fit e₂ (method-stored-cut n k w b₁ b₂ room (λ l. basisOf (ofRows l) n w) (now x₁) rs) (e₃ .1 .0)))
-    (both-so 𝓤 H A (so 𝓤 H A (as-records (λ l. stored (rowMethodVerdict n k w l b₁ b₂ room) (sigmaOf (ofRows l) n w) (now x₂)) rs fit e₂ (method-stored-cut n k w b₁ b₂ room (λ l. sigmaOf (ofRows l) n w) (now x₂) rs) (e₃ .1 .1 .0)))
-    (so 𝓤 H A (as-records (λ l. stored (rowMethodVerdict n k w l b₁ b₂ room) (smallerList n w l) (now x₃)) rs fit e₂ (method-stored-cut n k w b₁ b₂ room (smallerList n w) (now x₃) rs) (yielded-stored (now x₃) zs y e₄)))))))))))
+    (so 𝓤 H A (method-records rs fit e₂ (now x₃) zs e₄ e₃)))))))

@@ -1,17 +1,16 @@
--- `records::row_value` meets its contract: a walk of its MIR, by hand, over the laws of `Walk.antt` and `Calls.antt` of crate record_work.
+-- `records::row_value` meets its contract: a walk of its MIR, by hand, over the laws of `Walk.antt` and `Calls.antt` of crate copying.
 -- It is three calls in a row. Assumes nothing.
-use Rattle.record_work.proofs.Thin.{refl, [], _∷_, _≡_, length, named, w64, vint, givenOf, _$_, !, whole, sub, of-opd, no-more, uint-makes, now, cited, Lfts, typesAt, Knowns, a-num, a-slice, B, framing, concludes, valsOf, made, none, arg, field-of, puts, keeps, asks, ends, so, id⊢, asks-fits, asks-gather}
+use Rattle.copying.proofs.Thin.{refl, [], _∷_, _≡_, length, named, w64, vint, givenOf, _$_, !, whole, sub, of-opd, no-more, uint-makes, now, cited, Lfts, typesAt, Knowns, a-num, a-slice, B, framing, concludes, valsOf, made, none, arg, field-of, puts, keeps, asks, ends, so, id⊢, asks-fits, asks-gather}
 use native.Mathlib.Omega.{arith}
 use denote.Struct.Laws as LL
-use Rattle.block.specs.Lists.{rowValue}
-use Rattle.block.specs.declared.Row.{Row}
-use Rattle.record_work.specs.Flat.{listed, gathered-sized, as-records}
-use Rattle.record_work.specs.Cut.{value-cut}
+use Rattle.promises.specs.Lists.{RowValuePromise}
+use Rattle.copying.specs.Flat.{listed, gathered-sized}
+use Rattle.record_work.specs.Records.{value-records}
 use Rattle.block.proofs.Row as T
 use Rattle.block.proofs.ValueAnswer as An
 use Rattle.block.proofs.ValueAnswer.Laws as An′
-use Rattle.record_work.proofs.FlatRows as F
-use Rattle.record_work.proofs.FlatRows.Laws as F′
+use Rattle.copying.proofs.FlatRows as F
+use Rattle.copying.proofs.FlatRows.Laws as F′
 use Rattle.record_work.proofs.value_of as work
 use Rattle.record_work.proofs.value_of.Symbol as work-def
 use Rattle.record_work.proofs.value_of.Met as work-thm
@@ -37,12 +36,12 @@ row-value-spec 𝓤 H 𝓜 𝓖 𝓡 =
     let rs = now (a .1 .1 .1 .0) in
     let is₀ = are .1 .1 .1 .0 .0 .1 .0 in
     puts ! (of-opd ! (field-of ! refl (sub ! 1 refl (whole !)))) refl (tt, record { fits = is₀ }) $
-    asks-fits 𝓤 H 𝓜 𝓖 𝓡 code.env ! code.calls-record-work·fits (length rs) is₀ (arg ! refl (no-more !)) (λ m fit m<. keeps ! refl (tt, record { fits = m< }) $
-    asks-gather 𝓤 H 𝓜 𝓖 𝓡 code.env ! code.calls-record-work·gather (κs .0) (qs .0) (a .1 .1 .1 .0) m fit m< (arg ! refl (arg ! refl (no-more !))) (16 ∷ 20 ∷ []) refl (λ v₂ z e₂ is-z. keeps ! refl (LL.lawful F.the-type F′.the-laws 𝓤 H A W .typed z _ is-z .0) $
+    asks-fits 𝓤 H 𝓜 𝓖 𝓡 code.env ! code.calls-copying·fits (length rs) is₀ (arg ! refl (no-more !)) (λ m fit m<. keeps ! refl (tt, record { fits = m< }) $
+    asks-gather 𝓤 H 𝓜 𝓖 𝓡 code.env ! code.calls-copying·gather (κs .0) (qs .0) (a .1 .1 .1 .0) m fit m< (arg ! refl (arg ! refl (no-more !))) (16 ∷ 20 ∷ []) refl (λ v₂ z e₂ is-z. keeps ! refl (LL.lawful F.the-type F′.the-laws 𝓤 H A W .typed z _ is-z .0) $
     asks ! (framing 𝓤 H 𝓜 𝓖 𝓡 code.env) work.ended asked (cited 𝓤 H (B 𝓤 H A W work.ended asked) 𝓜 𝓡 code.env work-def.name work-def.routine code.calls-record-work·value-of (work-thm.met 𝓤 H 𝓜 𝓖 𝓡))
     ((tt, tt, tt, (n, (k, (t, (z, (m, tt))))), (vint w64 n ∷ [], (vint w64 k ∷ [], (vint w64 t ∷ [], (v₂ ∷ [], (vint w64 m ∷ [], tt)))))), tt)
     (arg ! refl (arg ! refl (arg ! refl (arg ! refl (arg ! refl (no-more !)))))) []
     (made ! (uint-makes 𝓤 H A W w64) (are .0) (made ! (uint-makes 𝓤 H A W w64) (are .1 .0) (made ! (uint-makes 𝓤 H A W w64) (are .1 .1 .0) (made ! ((LL.makes F.the-type F′.the-plain) 𝓤 H A) is-z (made ! (uint-makes 𝓤 H A W w64) (refl, m<) (none !)))))) refl
-    (so 𝓤 H A (gathered-sized e₂, omega arith)) (λ r ws. r ≡ rowValue n k t (listed z m)) (λ r ws. id⊢ 𝓤 _) (λ v₃ r ws e₃ is-r. keeps ! refl (LL.lawful An.the-type An′.the-laws 𝓤 H A W .typed r _ is-r .0) $
+    (so 𝓤 H A (gathered-sized e₂, omega arith)) (λ r ws. RowValuePromise n k t (listed z m) r) (λ r ws. id⊢ 𝓤 _) (λ v₃ r ws e₃ is-r. keeps ! refl (LL.lawful An.the-type An′.the-laws 𝓤 H A W .typed r _ is-r .0) $
     ends ! f.ended clauses ((κs, qs, bounds, a, valsOf 𝓤 H A W f.ended clauses known κs a), g) _ _ (_ ∷ _ ∷ _ ∷ _ ∷ _ ∷ _ ∷ _ ∷ []) tt refl (4 ∷ 3 ∷ 5 ∷ 6 ∷ 7 ∷ [])
-    r (tt, (tt, (tt, (tt, tt)))) refl ((LL.makes An.the-type An′.the-plain) 𝓤 H A) is-r (so 𝓤 H A (as-records (rowValue n k t) rs fit e₂ (value-cut n k t rs) e₃))))))
+    r (tt, (tt, (tt, (tt, tt)))) refl ((LL.makes An.the-type An′.the-plain) 𝓤 H A) is-r (so 𝓤 H A (value-records rs fit e₂ e₃))))))

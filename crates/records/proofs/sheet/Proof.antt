@@ -1,18 +1,16 @@
--- `records::sheet` meets its contract: a walk of its MIR, by hand, over the laws of `Walk.antt` and `Calls.antt` of crate record_work. It
+-- `records::sheet` meets its contract: a walk of its MIR, by hand, over the laws of `Walk.antt` and `Calls.antt` of crate copying. It
 -- is three calls in a row. Assumes nothing.
-use Rattle.record_work.proofs.Thin.{refl, [], _∷_, _≡_, length, named, w64, vint, givenOf, _$_, !, whole, sub, of-opd, no-more, uint-makes, u8, now, slice-vals, cited, Lfts, typesAt, Knowns, a-num, a-slice, a-mut-slice, B, framing, concludes, valsOf, made, held, none, arg, field-of, puts, keeps, lends, asks, ends, so, both-so, both-heard, id⊢, asks-fits, asks-gather}
+use Rattle.copying.proofs.Thin.{refl, [], _∷_, _≡_, length, named, w64, vint, givenOf, _$_, !, whole, sub, of-opd, no-more, uint-makes, u8, now, slice-vals, cited, Lfts, typesAt, Knowns, a-num, a-slice, a-mut-slice, B, framing, concludes, valsOf, made, held, none, arg, field-of, puts, keeps, lends, asks, ends, so, id⊢, asks-fits, asks-gather}
 use native.Mathlib.Omega.{arith}
 use denote.Struct.Laws as LL
-use Rattle.block.specs.Refusals.{stored}
-use Rattle.block.specs.Sheet.{sheet, sheetVerdict, sheetText}
-use Rattle.block.specs.declared.Row.{Row}
-use Rattle.record_work.specs.Flat.{listed, gathered-sized, as-records}
-use Rattle.record_work.specs.Cut.{sheet-cut, sheet-stored-cut}
+use Rattle.promises.specs.Sheets.{SheetPromise}
+use Rattle.copying.specs.Flat.{listed, gathered-sized}
+use Rattle.record_work.specs.Records.{sheet-records}
 use Rattle.block.proofs.Row as T
 use Rattle.block.proofs.TextAnswer as An
 use Rattle.block.proofs.TextAnswer.Laws as An′
-use Rattle.record_work.proofs.FlatRows as F
-use Rattle.record_work.proofs.FlatRows.Laws as F′
+use Rattle.copying.proofs.FlatRows as F
+use Rattle.copying.proofs.FlatRows.Laws as F′
 use Rattle.record_work.proofs.sheet_of as work
 use Rattle.record_work.proofs.sheet_of.Symbol as work-def
 use Rattle.record_work.proofs.sheet_of.Met as work-thm
@@ -39,17 +37,16 @@ sheet-spec 𝓤 H 𝓜 𝓖 𝓡 =
     let x₁ = a .1 .1 .1 .1 .0 in
     let is₀ = are .1 .1 .1 .0 .0 .1 .0 in
     puts ! (of-opd ! (field-of ! refl (sub ! 1 refl (whole !)))) refl (tt, record { fits = is₀ }) $
-    asks-fits 𝓤 H 𝓜 𝓖 𝓡 code.env ! code.calls-record-work·fits (length rs) is₀ (arg ! refl (no-more !)) (λ m fit m<. keeps ! refl (tt, record { fits = m< }) $
-    asks-gather 𝓤 H 𝓜 𝓖 𝓡 code.env ! code.calls-record-work·gather (κs .0) (qs .0) (a .1 .1 .1 .0) m fit m< (arg ! refl (arg ! refl (no-more !))) (22 ∷ 27 ∷ []) refl (λ v₂ z e₂ is-z. keeps ! refl (LL.lawful F.the-type F′.the-laws 𝓤 H A W .typed z _ is-z .0) $
+    asks-fits 𝓤 H 𝓜 𝓖 𝓡 code.env ! code.calls-copying·fits (length rs) is₀ (arg ! refl (no-more !)) (λ m fit m<. keeps ! refl (tt, record { fits = m< }) $
+    asks-gather 𝓤 H 𝓜 𝓖 𝓡 code.env ! code.calls-copying·gather (κs .0) (qs .0) (a .1 .1 .1 .0) m fit m< (arg ! refl (arg ! refl (no-more !))) (22 ∷ 27 ∷ []) refl (λ v₂ z e₂ is-z. keeps ! refl (LL.lawful F.the-type F′.the-laws 𝓤 H A W .typed z _ is-z .0) $
     lends ! refl (sub ! 0 refl (whole !)) refl (tt, tt) refl refl (sub ! 1 refl (whole !)) refl (tt, (tt, (record { fits = are .1 .1 .1 .1 .0 .0 .1 .0 }, tt))) $
     asks ! (framing 𝓤 H 𝓜 𝓖 𝓡 code.env) work.ended asked (cited 𝓤 H (B 𝓤 H A W work.ended asked) 𝓜 𝓡 code.env work-def.name work-def.routine code.calls-record-work·sheet-of (work-thm.met 𝓤 H 𝓜 𝓖 𝓡))
     (((κs .1 .0, tt), (qs .1 .0, tt), tt, (n, (k, (w, (z, (m, (x₁, tt)))))), (vint w64 n ∷ [], (vint w64 k ∷ [], (vint w64 w ∷ [], (v₂ ∷ [], (vint w64 m ∷ [], (slice-vals x₁, tt))))))), tt)
     (arg ! refl (arg ! refl (arg ! refl (arg ! refl (arg ! refl (arg ! refl (no-more !))))))) (22 ∷ 26 ∷ [])
     (made ! (uint-makes 𝓤 H A W w64) (are .0) (made ! (uint-makes 𝓤 H A W w64) (are .1 .0) (made ! (uint-makes 𝓤 H A W w64) (are .1 .1 .0) (made ! ((LL.makes F.the-type F′.the-plain) 𝓤 H A) is-z (made ! (uint-makes 𝓤 H A W w64) (refl, m<) (held ! (none !))))))) refl
     (so 𝓤 H A (gathered-sized e₂, omega arith))
-    (λ r ws. (r ≡ sheet n k w (listed z m) (length (now x₁))) × (ws .1 .1 .1 .1 .1 .0 ≡ stored (sheetVerdict n k w (listed z m) (length (now x₁))) (sheetText n k w (listed z m)) (now x₁)))
-    (λ r ws. both-heard 𝓤 H A (id⊢ 𝓤 _) (id⊢ 𝓤 _)) (λ v₃ r ws e₃ is-r. keeps ! refl (LL.lawful An.the-type An′.the-laws 𝓤 H A W .typed r _ is-r .0) $
+    (λ r ws. SheetPromise n k w (listed z m) (now x₁) r (ws .1 .1 .1 .1 .1 .0))
+    (λ r ws. id⊢ 𝓤 _) (λ v₃ r ws e₃ is-r. keeps ! refl (LL.lawful An.the-type An′.the-laws 𝓤 H A W .typed r _ is-r .0) $
     ends ! f.ended clauses ((κs, qs, bounds, a, valsOf 𝓤 H A W f.ended clauses known κs a), g) _ _ (_ ∷ _ ∷ _ ∷ _ ∷ _ ∷ _ ∷ _ ∷ _ ∷ _ ∷ _ ∷ []) tt refl (4 ∷ 7 ∷ 3 ∷ 5 ∷ 6 ∷ 8 ∷ 13 ∷ [])
     r (tt, (tt, (tt, (tt, (ws .1 .1 .1 .1 .1 .0, tt))))) refl ((LL.makes An.the-type An′.the-plain) 𝓤 H A) is-r
-    (both-so 𝓤 H A (so 𝓤 H A (as-records (λ l. sheet n k w l (length (now x₁))) rs fit e₂ (sheet-cut n k w (length (now x₁)) rs) (e₃ .0)))
-    (so 𝓤 H A (as-records (λ l. stored (sheetVerdict n k w l (length (now x₁))) (sheetText n k w l) (now x₁)) rs fit e₂ (sheet-stored-cut n k w (length (now x₁)) (now x₁) rs) (e₃ .1))))))))
+    (so 𝓤 H A (sheet-records rs fit e₂ e₃))))))

@@ -16,9 +16,13 @@ same-length c = search needs
 
 returns : tie.Need-returns
 returns c =
-    let a = c .before .before .before .before .before .before .before .before .args in
-    let e = c .before .before .make-sheet .ensures in
-    (work-sheet (a .n) (a .k) (a .w) (rowsOf (now (a .masks)) (now (a .values)) (now (a .words))) (length (now (a .out))) _ (e .0), e .1)
+    let made = c .before .before in
+    let a = made .before .before .before .before .before .before .args in
+    let e = made .make-sheet .ensures in
+    record {
+      answer = work-sheet (a .n) (a .k) (a .w) (rowsOf (now (a .masks)) (now (a .values)) (now (a .words))) (length (now (a .out))) _ (e .0);
+      text = e .1;
+    }
 
 pub sheet-spec : {M : Type 1} → statement M
 sheet-spec = tie.close (tie.spec make-sheet-requires same-length returns)

@@ -27,10 +27,12 @@ restore-checked-requires c κs = search needs
 returns : tie.Need-returns
 unfolding restoreVerdict restoreChecked
 returns c =
-    let a = c .before .before .before .before .before .before .args in
-    let e : c .before .before .restore-checked .result ≡ restoreVerdict (a .n) (a .k) (now (a .sigma)) (now (a .smaller)) (length (now (a .table))) =
-    part-refuses _ (restoreChecked (a .n) (a .k) (now (a .sigma)) (now (a .smaller)) (length (now (a .table)))) _ (c .before .before .restore-checked .ensures) (c .if1 .taken) in
-    (e, kept _ _ (restored (a .n) (now (a .sigma)) (now (a .smaller))) (now (a .table)) e (c .if1 .taken))
+    let checked = c .before .before in
+    let a = checked .before .before .before .before .args in
+    let e : checked .restore-checked .result ≡ restoreVerdict (a .n) (a .k) (now (a .sigma)) (now (a .smaller)) (length (now (a .table))) =
+    part-refuses _ (restoreChecked (a .n) (a .k) (now (a .sigma)) (now (a .smaller)) (length (now (a .table)))) _
+    (checked .restore-checked .ensures) (c .if1 .taken) in
+    record { answer = e; table = kept _ _ (restored (a .n) (now (a .sigma)) (now (a .smaller))) (now (a .table)) e (c .if1 .taken) }
 
 slice-aggregate-first-dependent : tie.Need-slice-aggregate-first-dependent
 slice-aggregate-first-dependent c = search needs
@@ -47,19 +49,29 @@ refuse-requires c κs = search needs
 returns-2 : tie.Need-returns-2
 unfolding restoreVerdict restoreChecked
 returns-2 c =
-    let a = c .before .before .before .before .before .before .before .before .before .before .before .args in
-    let d = c .before .before .before .first-dependent .ensures in
+    let sought = c .before .before .before in
+    let passed = sought .before .before in
+    let checked = passed .before .before in
+    let a = checked .before .before .before .before .args in
+    let d = sought .first-dependent .ensures in
+    let j = dependent (a .n) (at (now (a .sigma))) in
     let e : c .refuse .result ≡ restoreVerdict (a .n) (a .k) (now (a .sigma)) (now (a .smaller)) (length (now (a .table))) =
     c .refuse .ensures ∙ ap (λ (j : ℕ). answer 8 j 0) d
-    ∙ sym (verdict-hit (check (ltb (dependent (a .n) (at (now (a .sigma)))) (a .n)) 8 (dependent (a .n) (at (now (a .sigma)))) 0) []
-    (sym (ap (λ (j : ℕ). ltb j (a .n)) d) ∙ lt-ltb _ _ (c .before .if2 .taken)))
-    ∙ part-passes _ (restoreChecked (a .n) (a .k) (now (a .sigma)) (now (a .smaller)) (length (now (a .table)))) _ (c .before .before .before .before .before .before .before .restore-checked .ensures) (refl, (refl, (refl, (refl, (refl, (refl, tt)))))) (c .before .before .before .before .before .if1 .left) in
-    (e, kept _ _ (restored (a .n) (now (a .sigma)) (now (a .smaller))) (now (a .table)) e (λ z. eight (sym (ap (λ (v : Answer). v .number) (c .refuse .ensures)) ∙ z)))
+    ∙ sym (verdict-hit (check (ltb j (a .n)) 8 j 0) [] (sym (ap (λ (j : ℕ). ltb j (a .n)) d) ∙ lt-ltb _ _ (c .before .if2 .taken)))
+    ∙ part-passes _ (restoreChecked (a .n) (a .k) (now (a .sigma)) (now (a .smaller)) (length (now (a .table)))) _
+    (checked .restore-checked .ensures) (refl, (refl, (refl, (refl, (refl, (refl, tt)))))) (passed .if1 .left) in
+    record {
+      answer = e;
+      table = kept _ _ (restored (a .n) (now (a .sigma)) (now (a .smaller))) (now (a .table)) e
+          (λ z. eight (sym (ap (λ (v : Answer). v .number) (c .refuse .ensures)) ∙ z));
+    }
 
 put-restored-requires : tie.Need-put-restored-requires
 put-restored-requires c κs =
-    let a = c .before .before .before .before .before .before .before .before .before .before .before .args in
-    let p = restore-passed (a .n) (a .k) (now (a .sigma)) (now (a .smaller)) (length (now (a .table))) _ (c .before .before .before .before .before .before .before .restore-checked .ensures) (c .before .before .before .before .before .if1 .left) in
+    let passed = c .before .before .before .before .before in
+    let checked = passed .before .before in
+    let a = checked .before .before .before .before .args in
+    let p = restore-passed (a .n) (a .k) (now (a .sigma)) (now (a .smaller)) (length (now (a .table))) _ (checked .restore-checked .ensures) (passed .if1 .left) in
     (p .entries, p .inputs, omega (arith, p .rows), p .space)
 
 refuse-requires-2 : tie.Need-refuse-requires-2
@@ -71,17 +83,23 @@ same-length c = search needs
 returns-3 : tie.Need-returns-3
 unfolding restoreVerdict restoreChecked
 returns-3 c =
-    let a = c .before .before .before .before .before .before .before .before .before .before .before .before .before .before .before .args in
-    let d = c .before .before .before .before .before .before .before .first-dependent .ensures in
+    let put = c .before .before .before in
+    let sought = put .before .before .before .before in
+    let passed = sought .before .before in
+    let checked = passed .before .before in
+    let a = checked .before .before .before .before .args in
+    let d = sought .first-dependent .ensures in
+    let j = dependent (a .n) (at (now (a .sigma))) in
     let e : c .refuse2 .result ≡ restoreVerdict (a .n) (a .k) (now (a .sigma)) (now (a .smaller)) (length (now (a .table))) =
     c .refuse2 .ensures
-    ∙ sym (verdict-miss (check (ltb (dependent (a .n) (at (now (a .sigma)))) (a .n)) 8 (dependent (a .n) (at (now (a .sigma)))) 0) []
-    (sym (ap (λ (j : ℕ). ltb j (a .n)) d) ∙ le-ltb _ _ (c .before .before .before .before .before .if2 .left)) ∙ verdict-none)
-    ∙ part-passes _ (restoreChecked (a .n) (a .k) (now (a .sigma)) (now (a .smaller)) (length (now (a .table)))) _ (c .before .before .before .before .before .before .before .before .before .before .before .restore-checked .ensures) (refl, (refl, (refl, (refl, (refl, (refl, tt)))))) (c .before .before .before .before .before .before .before .before .before .if1 .left) in (
-      e,
-      c .before .before .before .put-restored .ensures
-          ∙ given _ _ (restored (a .n) (now (a .sigma)) (now (a .smaller))) (now (a .table)) e (ap (λ (v : Answer). v .number) (c .refuse2 .ensures)),
-    )
+    ∙ sym (verdict-miss (check (ltb j (a .n)) 8 j 0) [] (sym (ap (λ (j : ℕ). ltb j (a .n)) d) ∙ le-ltb _ _ (put .before .before .if2 .left)) ∙ verdict-none)
+    ∙ part-passes _ (restoreChecked (a .n) (a .k) (now (a .sigma)) (now (a .smaller)) (length (now (a .table)))) _
+    (checked .restore-checked .ensures) (refl, (refl, (refl, (refl, (refl, (refl, tt)))))) (passed .if1 .left) in
+    record {
+      answer = e;
+      table = put .put-restored .ensures
+          ∙ given _ _ (restored (a .n) (now (a .sigma)) (now (a .smaller))) (now (a .table)) e (ap (λ (v : Answer). v .number) (c .refuse2 .ensures));
+    }
 
 pub restore-table-spec : {M : Type 1} → statement M
 restore-table-spec =

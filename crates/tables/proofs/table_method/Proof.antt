@@ -24,30 +24,32 @@ table-method-verdict-requires c κs = search needs
 returns : tie.Need-returns
 unfolding tableMethod
 returns c =
-    let a = c .before .before .before .before .before .before .before .args in
+    let checked = c .before .before in
+    let a = checked .before .before .before .before .before .args in
     let f = ofTable (now (a .table)) in
-    let v = c .before .before .table-method-verdict .result in
-    let e = c .before .before .table-method-verdict .ensures in
+    let v = checked .table-method-verdict .result in
+    let e = checked .table-method-verdict .ensures in
     let x = measure f (a .n) in
-    let y = measure (smallerOf f (a .n) (a .w)) (a .n) in (
-      measures-refused v x y (c .if1 .taken) ∙ ap (λ (v : Answer). withMeasures v x y) e,
-      (
-        kept v _ (basisOf f (a .n) (a .w)) (now (a .basis)) e (c .if1 .taken),
-        (
-          kept v _ (sigmaOf f (a .n) (a .w)) (now (a .sigma)) e (c .if1 .taken),
-          kept v _ (smallerTable f (a .n) (a .w)) (now (a .smaller)) e (c .if1 .taken),
-        ),
-      ),
-    )
+    let y = measure (smallerOf f (a .n) (a .w)) (a .n) in
+    record {
+      answer = measures-refused v x y (c .if1 .taken) ∙ ap (λ (v : Answer). withMeasures v x y) e;
+      basis = kept v _ (basisOf f (a .n) (a .w)) (now (a .basis)) e (c .if1 .taken);
+      sigma = kept v _ (sigmaOf f (a .n) (a .w)) (now (a .sigma)) e (c .if1 .taken);
+      smaller = kept v _ (smallerTable f (a .n) (a .w)) (now (a .smaller)) e (c .if1 .taken);
+    }
 
 linearize-requires : tie.Need-linearize-requires
 linearize-requires c κs =
-    let a = c .before .before .before .before .before .before .before .before .before .before .args in
-    let e = c .before .before .before .before .before .table-method-verdict .ensures in
+    let checked = c .before .before .before .before .before in
+    let a = checked .before .before .before .before .before .args in
+    let e = checked .table-method-verdict .ensures in
     let l = c .before .before .before .if1 .left in
-    let p = method-passed (a .n) (a .k) (a .w) (now (a .table)) (length (now (a .basis))) (length (now (a .sigma))) (length (now (a .smaller))) _ e l in
-    let sizes = method-sizes (a .n) (a .k) (a .w) (now (a .table)) (length (now (a .basis))) (length (now (a .sigma))) (length (now (a .smaller))) _ e l in
-    let good = method-entries (a .n) (a .k) (a .w) (now (a .table)) (length (now (a .basis))) (length (now (a .sigma))) (length (now (a .smaller))) _ e l in (
+    let b = length (now (a .basis)) in
+    let s = length (now (a .sigma)) in
+    let m = length (now (a .smaller)) in
+    let p = method-passed (a .n) (a .k) (a .w) (now (a .table)) b s m _ e l in
+    let sizes = method-sizes (a .n) (a .k) (a .w) (now (a .table)) b s m _ e l in
+    let good = method-entries (a .n) (a .k) (a .w) (now (a .table)) b s m _ e l in (
       p .entries,
       p .inputs,
       p .least,
@@ -70,24 +72,24 @@ same-length-3 c = search needs
 returns-2 : tie.Need-returns-2
 unfolding tableMethod
 returns-2 c =
-    let a = c .before .before .before .before .before .before .before .before .before .before .before .before .before .before .before .before .before .args in
+    let worked = c .before .before .before .before .before .before in
+    let passed = worked .before .before .before .before in
+    let checked = passed .before .before in
+    let a = checked .before .before .before .before .before .args in
     let f = ofTable (now (a .table)) in
-    let v = c .before .before .before .before .before .before .before .before .before .before .before .before .table-method-verdict .result in
-    let e = c .before .before .before .before .before .before .before .before .before .before .before .before .table-method-verdict .ensures in
-    let l = c .before .before .before .before .before .before .before .before .before .before .if1 .left in
+    let v = checked .table-method-verdict .result in
+    let e = checked .table-method-verdict .ensures in
+    let l = passed .if1 .left in
     let x = measure f (a .n) in
     let y = measure (smallerOf f (a .n) (a .w)) (a .n) in
-    let done = c .before .before .before .before .before .before .linearize .ensures in (
-      ap₂ (λ (x y : ℕ). record { number = v .number; a = v .a; b = v .b; before = x; after = y }) (done .earlier) (done .later)
-          ∙ measures-answered v x y l ∙ ap (λ (v : Answer). withMeasures v x y) e,
-      (
-        done .basis ∙ given v _ (basisOf f (a .n) (a .w)) (now (a .basis)) e l,
-        (
-          done .sigma ∙ given v _ (sigmaOf f (a .n) (a .w)) (now (a .sigma)) e l,
-          done .smaller ∙ given v _ (smallerTable f (a .n) (a .w)) (now (a .smaller)) e l,
-        ),
-      ),
-    )
+    let done = worked .linearize .ensures in
+    record {
+      answer = ap₂ (λ (x y : ℕ). record { number = v .number; a = v .a; b = v .b; before = x; after = y }) (done .earlier) (done .later)
+          ∙ measures-answered v x y l ∙ ap (λ (v : Answer). withMeasures v x y) e;
+      basis = done .basis ∙ given v _ (basisOf f (a .n) (a .w)) (now (a .basis)) e l;
+      sigma = done .sigma ∙ given v _ (sigmaOf f (a .n) (a .w)) (now (a .sigma)) e l;
+      smaller = done .smaller ∙ given v _ (smallerTable f (a .n) (a .w)) (now (a .smaller)) e l;
+    }
 
 pub table-method-spec : {M : Type 1} → statement M
 table-method-spec =

@@ -19,15 +19,17 @@ table-value-verdict-requires c κs = search needs
 returns : tie.Need-returns
 unfolding tableValue
 returns c =
-    let a = c .before .before .before .before .args in
+    let checked = c .before .before in
+    let a = checked .before .before .args in
     let x = shift (ofTable (now (a .table))) (a .n) (a .t) in
-    value-refused (c .before .before .table-value-verdict .result) x (c .if1 .taken)
-    ∙ ap (λ (v : Answer). withValue v x) (c .before .before .table-value-verdict .ensures)
+    let v = checked .table-value-verdict in
+    record { answer = value-refused (v .result) x (c .if1 .taken) ∙ ap (λ (v : Answer). withValue v x) (v .ensures) }
 
 shift-at-requires : tie.Need-shift-at-requires
 shift-at-requires c κs =
-    let a = c .before .before .before .before .args in
-    let p = value-passed (a .n) (a .k) (a .t) (now (a .table)) _ (c .before .before .table-value-verdict .ensures) (c .if1 .left) in
+    let checked = c .before .before in
+    let a = checked .before .before .args in
+    let p = value-passed (a .n) (a .k) (a .t) (now (a .table)) _ (checked .table-value-verdict .ensures) (c .if1 .left) in
     (p .entries, p .asked, p .inputs)
 
 cast-t8 : tie.Need-cast-t8
@@ -36,12 +38,15 @@ cast-t8 c = search needs
 returns-2 : tie.Need-returns-2
 unfolding tableValue
 returns-2 c =
-    let a = c .before .before .before .before .before .args in
+    let checked = c .before .before .before in
+    let a = checked .before .before .args in
     let x = shift (ofTable (now (a .table))) (a .n) (a .t) in
-    let v = c .before .before .before .table-value-verdict .result in
-    ap (λ (y : ℕ). record { number = v .number; a = v .a; b = v .b; value = y }) (c .shift-at .ensures)
-    ∙ value-answered v x (c .before .if1 .left)
-    ∙ ap (λ (v : Answer). withValue v x) (c .before .before .before .table-value-verdict .ensures)
+    let v = checked .table-value-verdict .result in
+    record {
+      answer = ap (λ (y : ℕ). record { number = v .number; a = v .a; b = v .b; value = y }) (c .shift-at .ensures)
+          ∙ value-answered v x (c .before .if1 .left)
+          ∙ ap (λ (v : Answer). withValue v x) (checked .table-value-verdict .ensures);
+    }
 
 pub table-value-spec : {M : Type 1} → statement M
 table-value-spec =

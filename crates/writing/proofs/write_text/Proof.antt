@@ -21,12 +21,16 @@ write-checks-requires c κs = search needs
 
 returns : tie.Need-returns
 unfolding writeText
-returns c = rw (← (c .before .before .write-checks .ensures), ne-eqb _ _ (c .if1 .taken)) (refl, refl)
+returns c =
+    let e = c .before .before .write-checks .ensures in
+    record { answer = rw (← e, ne-eqb _ _ (c .if1 .taken)); text = rw (← e, ne-eqb _ _ (c .if1 .taken)) }
 
 put-text-requires : tie.Need-put-text-requires
 put-text-requires c κs =
-    let a = c .before .before .before .before .before .before .before .before .args in
-    let w = writable (a .n) (a .k) (rowsOf (now (a .masks)) (now (a .values)) (now (a .words))) (length (now (a .out))) (ap (λ v. v .number) (sym (c .before .before .before .write-checks .ensures)) ∙ c .before .if1 .left) in
+    let checked = c .before .before .before in
+    let a = checked .before .before .before .before .before .args in
+    let w = writable (a .n) (a .k) (rowsOf (now (a .masks)) (now (a .values)) (now (a .words))) (length (now (a .out)))
+    (ap (λ v. v .number) (sym (checked .write-checks .ensures)) ∙ c .before .if1 .left) in
     let e = equal-lengths (now (a .masks)) (now (a .values)) (now (a .words)) (w .count .0) in
     (omega (arith, text-le (a .n) (a .k) (rowsOf (now (a .masks)) (now (a .values)) (now (a .words))) (w .inputs .1) (w .outputs .1) (w .count .1), w .enough), e)
 
@@ -36,10 +40,18 @@ same-length c = search needs
 returns-2 : tie.Need-returns-2
 unfolding writeText
 returns-2 c =
-    let a = c .before .before .before .before .before .before .before .before .before .before .before .args in
-    let w = writable (a .n) (a .k) (rowsOf (now (a .masks)) (now (a .values)) (now (a .words))) (length (now (a .out))) (ap (λ v. v .number) (sym (c .before .before .before .before .before .before .write-checks .ensures)) ∙ c .before .before .before .before .if1 .left) in
-    rw (← (c .before .before .before .before .before .before .write-checks .ensures), eq-eqb _ _ (c .before .before .before .before .if1 .left))
-    (rw (c .before .before .put-text .ensures .place ∙ zero-add _), put-over (omega (arith, text-le (a .n) (a .k) (rowsOf (now (a .masks)) (now (a .values)) (now (a .words))) (w .inputs .1) (w .outputs .1) (w .count .1))) (c .before .before .put-text .ensures))
+    let put = c .before .before in
+    let passed = put .before .before in
+    let checked = passed .before .before in
+    let a = checked .before .before .before .before .before .args in
+    let rs = rowsOf (now (a .masks)) (now (a .values)) (now (a .words)) in
+    let e = checked .write-checks .ensures in
+    let w = writable (a .n) (a .k) rs (length (now (a .out))) (ap (λ v. v .number) (sym e) ∙ passed .if1 .left) in
+    record {
+      answer = rw (← e, eq-eqb _ _ (passed .if1 .left), put .put-text .ensures .place ∙ zero-add _);
+      text = rw (← e, eq-eqb _ _ (passed .if1 .left))
+          (put-over (omega (arith, text-le (a .n) (a .k) rs (w .inputs .1) (w .outputs .1) (w .count .1))) (put .put-text .ensures));
+    }
 
 pub write-text-spec : {M : Type 1} → statement M
 write-text-spec =

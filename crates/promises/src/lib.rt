@@ -1,0 +1,1 @@
+// What each public operation promises: one record an operation, which the contracts cite. This crate has no functions.

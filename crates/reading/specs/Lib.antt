@@ -1,2 +1,0 @@
--- Reading row text: `Storage` has what the contract cites beside block's definitions.
-pub mod Storage
