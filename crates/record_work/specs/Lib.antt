@@ -1,6 +1,4 @@
--- What the functions on arrays promise, and the laws from these to the promises of the operations.
+-- No operation looks further than the records that were copied out (`Cut`), so that what is promised of the arrays is promised of the
+-- records (`Records`).
 pub mod Cut
-pub mod Yielded
-pub mod Reading
-pub mod Method
 pub mod Records

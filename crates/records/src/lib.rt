@@ -1,7 +1,7 @@
 // The operations on lists of rows for a caller that lends the rows as records, one record a row (01, Words and numbers): a single shift
 // value, the row method, filling a table, row text, written and read, and the sheet. Each takes any numbers and any slices, and answers or
 // refuses as 01 says; its promise speaks of the records themselves. The records are copied out into arrays (crate copying), the work on
-// these is that of the crate record_work, and what it made is copied in. This crate holds nothing else.
+// these is that of the crates record_work, record_method and read_records, and rows that it made are copied in. This crate holds nothing else.
 use block::Answer;
 use block::ReadAnswer;
 use block::Reading;
@@ -42,7 +42,7 @@ pub extern "C" fn row_method(
 {
     let m = copying::fits(rows.len());
     let flat = copying::gather(rows, m);
-    let done = record_work::method_of(n, k, w, flat, m, smaller.len(), basis, sigma);
+    let done = record_method::method_of(n, k, w, flat, m, smaller.len(), basis, sigma);
     copying::scatter(done.flat, done.count, smaller);
     done.answer
 }
@@ -72,7 +72,7 @@ pub extern "C" fn write_text(n: usize, k: usize, rows: &[Row], out: &mut [u8]) -
 pub fn read_text(text: &[u8], rows: &mut [Row]) -> Reading
     ensures { λ r. ⌜ ReadPromise (now (text .entry)) (lentRecords (now (rows .entry)) (now (rows .exit))) (numbers r) ⌝ }
 {
-    let read = record_work::read_of(text, rows.len());
+    let read = read_records::read_of(text, rows.len());
     copying::scatter(read.flat, read.count, rows);
     read.answer
 }
@@ -82,7 +82,7 @@ pub fn read_text(text: &[u8], rows: &mut [Row]) -> Reading
 pub extern "C" fn read_numbers(text: &[u8], rows: &mut [Row]) -> ReadAnswer
     ensures { λ r. ⌜ ReadPromise (now (text .entry)) (lentRecords (now (rows .entry)) (now (rows .exit))) r ⌝ }
 {
-    let read = record_work::read_numbers_of(text, rows.len());
+    let read = read_records::read_numbers_of(text, rows.len());
     copying::scatter(read.flat, read.count, rows);
     read.answer
 }

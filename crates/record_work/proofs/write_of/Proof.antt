@@ -1,6 +1,7 @@
 -- `record_work::write_of` meets its contract: the first m entries of each array are lent to the operation on flat slices. Assumes nothing.
+use native.Mathlib.Omega.{arith}
+use lib.ListN.{length-take}
 use borrow.Author.Needs.{needs}
-use Rattle.copying.specs.Flat.{lent}
 use Rattle.record_work.proofs.write_of.Statement.{statement}
 use Rattle.record_work.proofs.write_of.Tie as tie
 
@@ -8,19 +9,19 @@ array-share-prefix-masks : tie.Need-array-share-prefix-masks
 array-share-prefix-masks c = search needs
 
 slice-aggregate-write-text : tie.Need-slice-aggregate-write-text
-slice-aggregate-write-text c = lent _ _ (c .before .before .before .before .before .pre .0 .masks) (c .before .before .before .before .before .pre .1)
+slice-aggregate-write-text c = simp length-take (omega arith)
 
 array-share-prefix-values : tie.Need-array-share-prefix-values
 array-share-prefix-values c = search needs
 
 slice-aggregate-write-text-2 : tie.Need-slice-aggregate-write-text-2
-slice-aggregate-write-text-2 c = lent _ _ (c .before .before .before .before .before .before .pre .0 .values) (c .before .before .before .before .before .before .pre .1)
+slice-aggregate-write-text-2 c = simp length-take (omega arith)
 
 array-share-prefix-words : tie.Need-array-share-prefix-words
 array-share-prefix-words c = search needs
 
 slice-aggregate-write-text-3 : tie.Need-slice-aggregate-write-text-3
-slice-aggregate-write-text-3 c = lent _ _ (c .before .before .before .before .before .before .before .pre .0 .words) (c .before .before .before .before .before .before .before .pre .1)
+slice-aggregate-write-text-3 c = simp length-take (omega arith)
 
 write-text-requires : tie.Need-write-text-requires
 write-text-requires c κs = search needs

@@ -3,16 +3,16 @@
 use Rattle.copying.proofs.Thin.{refl, List, [], _∷_, _≡_, length, fullShare, named, w64, Val, vint, id⊢, fat, givenOf, ‵, _$_, !, rewrite, whole, sub, of-opd, and-then, no-more, uint-makes, u8, now, slice-vals, only, cited, Lfts, typesAt, Knowns, a-slice, a-mut-slice, B, framing, concludes, valsOf, made, held, none, arg, field-of, puts, keeps, lends, asks, ends, so, asks-scatter}
 use denote.Struct.Laws as LL
 use Rattle.promises.specs.Texts.{ReadPromise}
-use Rattle.record_work.specs.Yielded.{lentArrays}
+use Rattle.copying.specs.Yielded.{lentArrays}
 use Rattle.record_work.specs.Records.{read-records}
 use Rattle.block.proofs.Row as T
 use Rattle.block.proofs.ReadAnswer as An
 use Rattle.block.proofs.ReadAnswer.Laws as An′
-use Rattle.record_work.proofs.ReadNumbers as D
-use Rattle.record_work.proofs.ReadNumbers.Laws as D′
-use Rattle.record_work.proofs.read_numbers_of as work
-use Rattle.record_work.proofs.read_numbers_of.Symbol as work-def
-use Rattle.record_work.proofs.read_numbers_of.Met as work-thm
+use Rattle.read_records.proofs.ReadNumbers as D
+use Rattle.read_records.proofs.ReadNumbers.Laws as D′
+use Rattle.read_records.proofs.read_numbers_of as work
+use Rattle.read_records.proofs.read_numbers_of.Symbol as work-def
+use Rattle.read_records.proofs.read_numbers_of.Met as work-thm
 use Rattle.records.proofs.read_numbers.Key.{name as #self}
 use Rattle.records.proofs.read_numbers as f
 use Rattle.records.proofs.read_numbers.Statement as stated
@@ -33,7 +33,7 @@ read-numbers-spec 𝓤 H 𝓜 𝓖 𝓡 =
     let room = length (now x₁) in
     let is₁ = are .1 .0 .0 .1 .0 in
     puts ! (of-opd ! (field-of ! refl (sub ! 1 refl (whole !)))) refl (tt, record { fits = is₁ }) $
-    asks ! (framing 𝓤 H 𝓜 𝓖 𝓡 code.env) work.ended asked (cited 𝓤 H (B 𝓤 H A W work.ended asked) 𝓜 𝓡 code.env work-def.name work-def.routine code.calls-record-work·read-numbers-of (work-thm.met 𝓤 H 𝓜 𝓖 𝓡))
+    asks ! (framing 𝓤 H 𝓜 𝓖 𝓡 code.env) work.ended asked (cited 𝓤 H (B 𝓤 H A W work.ended asked) 𝓜 𝓡 code.env work-def.name work-def.routine code.calls-read-records·read-numbers-of (work-thm.met 𝓤 H 𝓜 𝓖 𝓡))
     (((κs .0, tt), (qs .0, tt), tt, (a .0, (room, tt)), (slice-vals (a .0), (vint w64 room ∷ [], tt))), tt) (arg ! refl (arg ! refl (no-more !))) (16 ∷ 18 ∷ [])
     (held ! (made ! (uint-makes 𝓤 H A W w64) (refl, is₁) (none !))) refl (id⊢ 𝓤 _) (λ d ws. ReadPromise text (lentArrays room (d .flat) (d .count)) (d .answer)) (λ d ws. id⊢ 𝓤 _) (λ v₃ d ws e₃ is-d.
     let fields = LL.owed D.the-type D′.the-laws d (v₃ ∷ []) is-d in

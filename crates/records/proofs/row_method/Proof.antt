@@ -5,18 +5,18 @@ use native.Mathlib.Omega.{arith}
 use denote.Struct.Laws as LL
 use Rattle.promises.specs.Lists.{RowMethodPromise}
 use Rattle.copying.specs.Flat.{listed, gathered-sized}
-use Rattle.record_work.specs.Yielded.{lentArrays}
+use Rattle.copying.specs.Yielded.{lentArrays}
 use Rattle.record_work.specs.Records.{method-records}
 use Rattle.block.proofs.Row as T
 use Rattle.block.proofs.RowMethodAnswer as An
 use Rattle.block.proofs.RowMethodAnswer.Laws as An′
 use Rattle.copying.proofs.FlatRows as F
 use Rattle.copying.proofs.FlatRows.Laws as F′
-use Rattle.record_work.proofs.SmallerRows as D
-use Rattle.record_work.proofs.SmallerRows.Laws as D′
-use Rattle.record_work.proofs.method_of as work
-use Rattle.record_work.proofs.method_of.Symbol as work-def
-use Rattle.record_work.proofs.method_of.Met as work-thm
+use Rattle.record_method.proofs.SmallerRows as D
+use Rattle.record_method.proofs.SmallerRows.Laws as D′
+use Rattle.record_method.proofs.method_of as work
+use Rattle.record_method.proofs.method_of.Symbol as work-def
+use Rattle.record_method.proofs.method_of.Met as work-thm
 use Rattle.records.proofs.row_method.Key.{name as #self}
 use Rattle.records.proofs.row_method as f
 use Rattle.records.proofs.row_method.Statement as stated
@@ -49,7 +49,7 @@ row-method-spec 𝓤 H 𝓜 𝓖 𝓡 =
     puts-over ! (of-opd ! (field-of ! refl (sub ! 1 refl (whole !)))) refl (tt, record { fits = is₃ }) $
     lends ! refl (sub ! 0 refl (whole !)) refl (tt, tt) refl refl (sub ! 1 refl (whole !)) refl (tt, (tt, (record { fits = are .1 .1 .1 .1 .0 .0 .1 .0 }, tt))) $
     lends ! refl (sub ! 0 refl (whole !)) refl (tt, tt) refl refl (sub ! 1 refl (whole !)) refl (tt, (tt, (record { fits = are .1 .1 .1 .1 .1 .0 .0 .1 .0 }, tt))) $
-    asks ! (framing 𝓤 H 𝓜 𝓖 𝓡 code.env) work.ended asked (cited 𝓤 H (B 𝓤 H A W work.ended asked) 𝓜 𝓡 code.env work-def.name work-def.routine code.calls-record-work·method-of (work-thm.met 𝓤 H 𝓜 𝓖 𝓡))
+    asks ! (framing 𝓤 H 𝓜 𝓖 𝓡 code.env) work.ended asked (cited 𝓤 H (B 𝓤 H A W work.ended asked) 𝓜 𝓡 code.env work-def.name work-def.routine code.calls-record-method·method-of (work-thm.met 𝓤 H 𝓜 𝓖 𝓡))
     (((κs .1 .0, (κs .1 .1 .0, tt)), (qs .1 .0, (qs .1 .1 .0, tt)), tt, (n, (k, (w, (z, (m, (room, (x₁, (x₂, tt)))))))), (vint w64 n ∷ [], (vint w64 k ∷ [], (vint w64 w ∷ [], (v₂ ∷ [], (vint w64 m ∷ [], (vint w64 room ∷ [], (slice-vals x₁, (slice-vals x₂, tt))))))))), tt)
     (arg ! refl (arg ! refl (arg ! refl (arg ! refl (arg ! refl (arg ! refl (arg ! refl (arg ! refl (no-more !))))))))) (38 ∷ 39 ∷ 44 ∷ 45 ∷ [])
     (made ! (uint-makes 𝓤 H A W w64) (are .0) (made ! (uint-makes 𝓤 H A W w64) (are .1 .0) (made ! (uint-makes 𝓤 H A W w64) (are .1 .1 .0) (made ! ((LL.makes F.the-type F′.the-plain) 𝓤 H A) is-z (made ! (uint-makes 𝓤 H A W w64) (refl, m<) (made ! (uint-makes 𝓤 H A W w64) (refl, is₃) (held ! (held ! (none !))))))))) refl

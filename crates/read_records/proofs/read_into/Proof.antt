@@ -1,30 +1,31 @@
--- `record_work::read_into` meets its contract: the first m places of each array are lent to the operation on flat slices, and what it stores
+-- `read_records::read_into` meets its contract: the first m places of each array are lent to the operation on flat slices, and what it stores
 -- there are the rows. Assumes nothing.
+use native.Mathlib.Omega.{arith}
+use lib.ListN.{length-take}
 use borrow.Author.Needs.{needs}
 use denote.Ref.{now}
 use Rattle.block.specs.Text.{numbers}
-use Rattle.copying.specs.Flat.{lent}
-use Rattle.record_work.specs.Reading.{read-yields}
-use Rattle.record_work.proofs.read_into.Statement.{statement}
-use Rattle.record_work.proofs.read_into.Tie as tie
+use Rattle.read_records.specs.Reading.{read-yields}
+use Rattle.read_records.proofs.read_into.Statement.{statement}
+use Rattle.read_records.proofs.read_into.Tie as tie
 
 array-borrow-prefix-masks : tie.Need-array-borrow-prefix-masks
 array-borrow-prefix-masks c = search needs
 
 slice-aggregate-read-text : tie.Need-slice-aggregate-read-text
-slice-aggregate-read-text c = lent _ _ (c .before .before .before .before .before .pre .0 .masks) (c .before .before .before .before .before .pre .1)
+slice-aggregate-read-text c = simp length-take (omega arith)
 
 array-borrow-prefix-values : tie.Need-array-borrow-prefix-values
 array-borrow-prefix-values c = search needs
 
 slice-aggregate-read-text-2 : tie.Need-slice-aggregate-read-text-2
-slice-aggregate-read-text-2 c = lent _ _ (c .before .before .before .before .before .before .pre .0 .values) (c .before .before .before .before .before .before .pre .1)
+slice-aggregate-read-text-2 c = simp length-take (omega arith)
 
 array-borrow-prefix-words : tie.Need-array-borrow-prefix-words
 array-borrow-prefix-words c = search needs
 
 slice-aggregate-read-text-3 : tie.Need-slice-aggregate-read-text-3
-slice-aggregate-read-text-3 c = lent _ _ (c .before .before .before .before .before .before .before .pre .0 .words) (c .before .before .before .before .before .before .before .pre .1)
+slice-aggregate-read-text-3 c = simp length-take (omega arith)
 
 read-text-requires : tie.Need-read-text-requires
 read-text-requires c κs = search needs

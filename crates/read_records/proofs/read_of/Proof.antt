@@ -1,10 +1,10 @@
--- `record_work::read_of` meets its contract: no more than 513 places are looked at, and the room counts only up to 128. Assumes nothing.
+-- `read_records::read_of` meets its contract: no more than 513 places are looked at, and the room counts only up to 128. Assumes nothing.
 use borrow.Author.Needs.{needs}
 use denote.Ref.{now}
 use Rattle.block.specs.Text.{numbers}
-use Rattle.record_work.specs.Reading.{read-whole}
-use Rattle.record_work.proofs.read_of.Statement.{statement}
-use Rattle.record_work.proofs.read_of.Tie as tie
+use Rattle.read_records.specs.Reading.{read-whole}
+use Rattle.read_records.proofs.read_of.Statement.{statement}
+use Rattle.read_records.proofs.read_of.Tie as tie
 
 fits-requires : tie.Need-fits-requires
 fits-requires c κs = search needs

@@ -1,8 +1,8 @@
--- `record_work::read_numbers_of` meets its contract: what is read is that of `read_of`, and its answer in numbers is 01's. Assumes nothing.
+-- `read_records::read_numbers_of` meets its contract: what is read is that of `read_of`, and its answer in numbers is 01's. Assumes nothing.
 use mathlib.Core.Path.{_∙_}
 use borrow.Author.Needs.{needs}
-use Rattle.record_work.proofs.read_numbers_of.Statement.{statement}
-use Rattle.record_work.proofs.read_numbers_of.Tie as tie
+use Rattle.read_records.proofs.read_numbers_of.Statement.{statement}
+use Rattle.read_records.proofs.read_numbers_of.Tie as tie
 
 read-of-requires : tie.Need-read-of-requires
 read-of-requires c κs = search needs

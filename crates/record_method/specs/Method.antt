@@ -26,7 +26,7 @@ use Rattle.promises.specs.Lent.{Lent, FlatHolds, lentFlat, shortest}
 use Rattle.promises.specs.Lists.{RowMethodPromise}
 use Rattle.copying.specs.declared.FlatRows.{FlatRows}
 use Rattle.copying.specs.Flat.{heldRows, Sized}
-use Rattle.record_work.specs.Yielded.{lentArrays, stores, lent-room, yields, yielded-wider}
+use Rattle.copying.specs.Yielded.{lentArrays, stores, lent-room, yields, yielded-wider}
 
 -- ---- the room counts only up to 512 places
 

@@ -15,15 +15,14 @@ use Rattle.block.specs.Text.{headNumber, faulty, readVerdict, readText, rowsIn}
 use Rattle.block.specs.declared.Answer.{Answer}
 use Rattle.block.specs.declared.ReadAnswer.{ReadAnswer}
 use Rattle.block.specs.declared.Row.{Row}
-use Rattle.verdicts.specs.Verdicts.{answered-clear}
+use Rattle.verdicts.specs.Verdicts.{answered-clear, verdict-stop}
 use Rattle.checks.specs.Sizes.{inside}
 use Rattle.promises.specs.Lent.{Lent, lentFlat}
 use Rattle.promises.specs.Texts.{ReadPromise}
 use Rattle.lines.specs.Front.{rows-count}
 use Rattle.copying.specs.declared.FlatRows.{FlatRows}
 use Rattle.copying.specs.Flat.{heldRows, Sized}
-use Rattle.record_work.specs.Cut.{past}
-use Rattle.record_work.specs.Yielded.{lentArrays, stores, lent-room, yields, yielded-wider}
+use Rattle.copying.specs.Yielded.{lentArrays, stores, lent-room, yields, yielded-wider}
 
 -- ---- the room counts only up to 128 places
 
@@ -36,7 +35,7 @@ fits-alike room p h = go (decLt room p)
 
 read-cut : (text : List ℕ) (room : ℕ) → readVerdict text (min room heldRows) ≡ readVerdict text room
 unfolding readVerdict
-read-cut text room = go (outside 1 givenRows p) refl
+read-cut text room = go (answered (verdict pre)) refl
   where
     n : ℕ
     n = headNumber text 0
@@ -48,17 +47,16 @@ read-cut text room = go (outside 1 givenRows p) refl
     p = headNumber text 2
 
     pre : List Check
-    pre = check (ltb (faulty text 3) 3) 10 (suc (faulty text 3)) 0 ∷ sizeChecks listInputs n k []
+    pre = check (ltb (faulty text 3) 3) 10 (suc (faulty text 3)) 0 ∷ sizeChecks listInputs n k (check (outside 1 givenRows p) 4 0 0 ∷ [])
 
-    rest : ℕ → List Check
-    rest r = check (ltb r p) 5 0 0 ∷ check (ltb (faulty text (5 + p)) (5 + p)) 10 (suc (faulty text (5 + p))) 0 ∷ []
+    rest : Bool → List Check
+    rest short = check short 5 0 0 ∷ check (ltb (faulty text (5 + p)) (5 + p)) 10 (suc (faulty text (5 + p))) 0 ∷ []
 
-    go : (b : Bool) → outside 1 givenRows p ≡ b
-        → verdict (pre ++ (check (outside 1 givenRows p) 4 0 0 ∷ rest (min room heldRows))) ≡ verdict (pre ++ (check (outside 1 givenRows p) 4 0 0 ∷ rest room))
-    go true e = past pre (check (outside 1 givenRows p) 4 0 0) (rest (min room heldRows)) (rest room) e
-    go false e =
-        ap (λ (b : Bool). verdict (pre ++ (check (outside 1 givenRows p) 4 0 0 ∷ check b 5 0 0 ∷ check (ltb (faulty text (5 + p)) (5 + p)) 10 (suc (faulty text (5 + p))) 0 ∷ [])))
-        (fits-alike room p (inside 1 givenRows p e .1))
+    go : (b : Bool) → answered (verdict pre) ≡ b → verdict (pre ++ rest (ltb (min room heldRows) p)) ≡ verdict (pre ++ rest (ltb room p))
+    go true e =
+        ap (λ (short : Bool). verdict (pre ++ rest short))
+        (fits-alike room p (inside 1 givenRows p (answered-clear pre (refl, (refl, (refl, (refl, tt)))) e 3 (omega arith)) .1))
+    go false e = verdict-stop pre (rest (ltb (min room heldRows) p)) e ∙ sym (verdict-stop pre (rest (ltb room p)) e)
 
 -- the answer in numbers depends on the room through the verdict alone
 answerOf : List ℕ → Answer → ReadAnswer

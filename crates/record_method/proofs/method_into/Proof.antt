@@ -1,47 +1,49 @@
--- `record_work::method_into` meets its contract: the first places of each array are lent to the operation on flat slices, and what it stores
+-- `record_method::method_into` meets its contract: the first places of each array are lent to the operation on flat slices, and what it stores
 -- there are the smaller rows. Assumes nothing.
+use native.Mathlib.Omega.{arith}
+use lib.ListN.{length-take}
 use borrow.Author.Needs.{needs}
 use denote.Ref.{now}
-use Rattle.copying.specs.Flat.{lent, listed}
-use Rattle.record_work.specs.Method.{method-yields}
-use Rattle.record_work.proofs.method_into.Statement.{statement}
-use Rattle.record_work.proofs.method_into.Tie as tie
+use Rattle.copying.specs.Flat.{listed}
+use Rattle.record_method.specs.Method.{method-yields}
+use Rattle.record_method.proofs.method_into.Statement.{statement}
+use Rattle.record_method.proofs.method_into.Tie as tie
 
 array-share-prefix-masks : tie.Need-array-share-prefix-masks
 array-share-prefix-masks c = search needs
 
 slice-aggregate-row-method : tie.Need-slice-aggregate-row-method
-slice-aggregate-row-method c = lent _ _ (c .before .before .before .before .before .before .before .before .before .pre .0 .masks) (c .before .before .before .before .before .before .before .before .before .pre .1)
+slice-aggregate-row-method c = simp length-take (omega arith)
 
 array-share-prefix-values : tie.Need-array-share-prefix-values
 array-share-prefix-values c = search needs
 
 slice-aggregate-row-method-2 : tie.Need-slice-aggregate-row-method-2
-slice-aggregate-row-method-2 c = lent _ _ (c .before .before .before .before .before .before .before .before .before .before .pre .0 .values) (c .before .before .before .before .before .before .before .before .before .before .pre .1)
+slice-aggregate-row-method-2 c = simp length-take (omega arith)
 
 array-share-prefix-words : tie.Need-array-share-prefix-words
 array-share-prefix-words c = search needs
 
 slice-aggregate-row-method-3 : tie.Need-slice-aggregate-row-method-3
-slice-aggregate-row-method-3 c = lent _ _ (c .before .before .before .before .before .before .before .before .before .before .before .pre .0 .words) (c .before .before .before .before .before .before .before .before .before .before .before .pre .1)
+slice-aggregate-row-method-3 c = simp length-take (omega arith)
 
 array-borrow-prefix-new-masks : tie.Need-array-borrow-prefix-new-masks
 array-borrow-prefix-new-masks c = search needs
 
 slice-aggregate-row-method-4 : tie.Need-slice-aggregate-row-method-4
-slice-aggregate-row-method-4 c = lent _ _ (c .before .before .before .before .before .before .before .before .before .before .before .before .before .before .pre .2 .masks) (c .before .before .before .before .before .before .before .before .before .before .before .before .before .before .pre .3)
+slice-aggregate-row-method-4 c = simp length-take (omega arith)
 
 array-borrow-prefix-new-values : tie.Need-array-borrow-prefix-new-values
 array-borrow-prefix-new-values c = search needs
 
 slice-aggregate-row-method-5 : tie.Need-slice-aggregate-row-method-5
-slice-aggregate-row-method-5 c = lent _ _ (c .before .before .before .before .before .before .before .before .before .before .before .before .before .before .before .pre .2 .values) (c .before .before .before .before .before .before .before .before .before .before .before .before .before .before .before .pre .3)
+slice-aggregate-row-method-5 c = simp length-take (omega arith)
 
 array-borrow-prefix-new-words : tie.Need-array-borrow-prefix-new-words
 array-borrow-prefix-new-words c = search needs
 
 slice-aggregate-row-method-6 : tie.Need-slice-aggregate-row-method-6
-slice-aggregate-row-method-6 c = lent _ _ (c .before .before .before .before .before .before .before .before .before .before .before .before .before .before .before .before .pre .2 .words) (c .before .before .before .before .before .before .before .before .before .before .before .before .before .before .before .before .pre .3)
+slice-aggregate-row-method-6 c = simp length-take (omega arith)
 
 row-method-requires : tie.Need-row-method-requires
 row-method-requires c κs = search needs

@@ -15,9 +15,8 @@ use Rattle.block.specs.Refusals.{answered, carried, stored, rowAt}
 use Rattle.block.specs.declared.Row.{Row}
 use Rattle.block.specs.declared.Answer.{Answer}
 use Rattle.promises.specs.Lent.{Lent, FlatHolds, shortest}
-use Rattle.lines.specs.ByPlace.{maskPart, valuesPart, wordPart}
 use Rattle.copying.specs.declared.FlatRows.{FlatRows}
 use Rattle.copying.specs.Flat.{heldRows, Scattered, Sized, flatAt, zeroRow, lent}
 
 -- with the verdict v and the rows s: on 0 the first `count` rows of the arrays are s, and there is room for them; with a refusal there
 -- are none
@@ -94,16 +93,18 @@ yields v s m count f masks values words z h n fits held = go (answered v) refl
     go true e =
         let few : length s ≤ m = fits e in
         let all : count ≡ length s = n ∙ ap (λ (b : Bool). cond b (length s) 0) e in
-        let put : (p : Row → ℕ) (l : List ℕ) → stored v (map p s) (take m l) ≡ over (map p s) (take m l) =
-        λ p l. ap (λ (b : Bool). cond b (over (map p s) (take m l)) (take m l)) e in
+        let part : (p : Row → ℕ) (l after : List ℕ) → p zeroRow ≡ 0 → length l ≡ heldRows → after ≡ stored v (map p s) (take m l)
+        → (k : ℕ) → k < length s → at (after ++ drop m l) k ≡ p (rowAt s k) =
+        λ p l after none long d.
+        stored-at p s m l after none long h few (d ∙ ap (λ (b : Bool). cond b (over (map p s) (take m l)) (take m l)) e) in
         record {
           all = n;
           most = omega arith;
           within = omega arith;
           rows = λ k b i.
-              row (stored-at maskPart s m (f .masks) masks refl (z .masks) h few (held .masks ∙ put maskPart (f .masks)) k (omega arith) i)
-              (stored-at valuesPart s m (f .values) values refl (z .values) h few (held .values ∙ put valuesPart (f .values)) k (omega arith) i)
-              (stored-at wordPart s m (f .words) words refl (z .words) h few (held .words ∙ put wordPart (f .words)) k (omega arith) i);
+              row (part (λ r. r .mask) (f .masks) masks refl (z .masks) (held .masks) k (omega arith) i)
+              (part (λ r. r .values) (f .values) values refl (z .values) (held .values) k (omega arith) i)
+              (part (λ r. r .word) (f .words) words refl (z .words) (held .words) k (omega arith) i);
         }
     go false e =
         let none : count ≡ 0 = n ∙ ap (λ (b : Bool). cond b (length s) 0) e in

@@ -1,10 +1,10 @@
--- `record_work::method_of` meets its contract: no more than 513 places are looked at, and the room counts only up to 512. Assumes nothing.
+-- `record_method::method_of` meets its contract: no more than 513 places are looked at, and the room counts only up to 512. Assumes nothing.
 use borrow.Author.Needs.{needs}
 use denote.Ref.{now}
 use Rattle.copying.specs.Flat.{listed}
-use Rattle.record_work.specs.Method.{method-whole}
-use Rattle.record_work.proofs.method_of.Statement.{statement}
-use Rattle.record_work.proofs.method_of.Tie as tie
+use Rattle.record_method.specs.Method.{method-whole}
+use Rattle.record_method.proofs.method_of.Statement.{statement}
+use Rattle.record_method.proofs.method_of.Tie as tie
 
 fits-requires : tie.Need-fits-requires
 fits-requires c κs = search needs

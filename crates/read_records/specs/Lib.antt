@@ -1,0 +1,2 @@
+-- The reader's promise, from flat slices to arrays.
+pub mod Reading
