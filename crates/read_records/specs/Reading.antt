@@ -20,9 +20,9 @@ use Rattle.checks.specs.Sizes.{inside}
 use Rattle.promises.specs.Lent.{Lent, lentFlat}
 use Rattle.promises.specs.Texts.{ReadPromise}
 use Rattle.lines.specs.Front.{rows-count}
-use Rattle.copying.specs.declared.FlatRows.{FlatRows}
-use Rattle.copying.specs.Flat.{heldRows, Sized}
-use Rattle.copying.specs.Yielded.{lentArrays, stores, lent-room, yields, yielded-wider}
+use Rattle.record_copies.specs.declared.FlatRows.{FlatRows}
+use Rattle.record_copies.specs.Flat.{heldRows, Sized}
+use Rattle.record_copies.specs.Yielded.{lentArrays, stores, lent-room, yields, yielded-wider}
 
 -- ---- the room counts only up to 128 places
 

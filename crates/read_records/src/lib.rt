@@ -1,14 +1,14 @@
 // The work of reading row text with records, which is an operation of the crate records: arrays are lent as flat slices to the operation of
-// the same name, and the rows that it stores there are then to be copied in (crate copying). All functions here are inner.
+// the same name, and the rows that it stores there are then to be copied in (crate record_copies). All functions here are inner.
 use block::ReadAnswer;
 use block::Reading;
-use copying::FlatRows;
+use record_copies::FlatRows;
 ghost use mathlib.Core.Path.{_≡_};
 ghost use Prim.Native.Nat.{_≤_};
 ghost use Rattle.block.specs.Text.{numbers};
 ghost use Rattle.promises.specs.Texts.{ReadPromise};
-ghost use Rattle.copying.specs.Flat.{heldRows, Sized};
-ghost use Rattle.copying.specs.Yielded.{lentArrays};
+ghost use Rattle.record_copies.specs.Flat.{heldRows, Sized};
+ghost use Rattle.record_copies.specs.Yielded.{lentArrays};
 
 // What is read: the rows, their number, and the answer.
 pub struct ReadRows {
@@ -52,8 +52,8 @@ pub fn read_into(text: &[u8], flat: FlatRows, m: usize) -> ReadRows
 pub fn read_of(text: &[u8], room: usize) -> ReadRows
     ensures { λ r. ⌜ ReadPromise (now (text .entry)) (lentArrays room (r .flat) (r .count)) (numbers (r .answer)) ⌝ }
 {
-    let m = copying::fits(room);
-    let flat = copying::blank();
+    let m = record_copies::fits(room);
+    let flat = record_copies::blank();
     read_into(text, flat, m)
 }
 

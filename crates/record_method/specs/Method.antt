@@ -24,9 +24,9 @@ use Rattle.verdicts.specs.Verdicts.{answered-clear}
 use Rattle.checks.specs.Sizes.{inside}
 use Rattle.promises.specs.Lent.{Lent, FlatHolds, lentFlat, shortest}
 use Rattle.promises.specs.Lists.{RowMethodPromise}
-use Rattle.copying.specs.declared.FlatRows.{FlatRows}
-use Rattle.copying.specs.Flat.{heldRows, Sized}
-use Rattle.copying.specs.Yielded.{lentArrays, stores, lent-room, yields, yielded-wider}
+use Rattle.record_copies.specs.declared.FlatRows.{FlatRows}
+use Rattle.record_copies.specs.Flat.{heldRows, Sized}
+use Rattle.record_copies.specs.Yielded.{lentArrays, stores, lent-room, yields, yielded-wider}
 
 -- ---- the room counts only up to 512 places
 

@@ -1,12 +1,12 @@
 // The work of the row method with records, which is an operation of the crate records: the arrays that the records were copied out to are
 // lent as flat slices to the operation of the same name, and so are arrays for the smaller rows, which are then to be copied in (crate
-// copying). All functions here are inner.
+// record_copies). All functions here are inner.
 use block::RowMethodAnswer;
-use copying::FlatRows;
+use record_copies::FlatRows;
 ghost use Prim.Native.Nat.{_≤_};
 ghost use Rattle.promises.specs.Lists.{RowMethodPromise};
-ghost use Rattle.copying.specs.Flat.{heldRows, Sized, listed};
-ghost use Rattle.copying.specs.Yielded.{lentArrays};
+ghost use Rattle.record_copies.specs.Flat.{heldRows, Sized, listed};
+ghost use Rattle.record_copies.specs.Yielded.{lentArrays};
 
 // What the method gives: the smaller rows, their number, and the answer.
 pub struct SmallerRows {
@@ -76,7 +76,7 @@ pub fn method_of(
     ensures { λ r. ⌜ RowMethodPromise n k w (listed flat m) (lentArrays room (r .flat) (r .count))
         (now (basis .entry)) (now (sigma .entry)) (r .answer) (now (basis .exit)) (now (sigma .exit)) ⌝ }
 {
-    let places = copying::fits(room);
-    let smaller = copying::blank();
+    let places = record_copies::fits(room);
+    let smaller = record_copies::blank();
     method_into(n, k, w, flat, m, smaller, places, basis, sigma)
 }

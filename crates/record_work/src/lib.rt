@@ -1,15 +1,15 @@
 // The work of the operations with records that make no rows, which are those of the crate records: records are copied out once into three
-// arrays (crate copying), and for each operation a function lends these as flat slices to the operation of the same name. Those that make
+// arrays (crate record_copies), and for each operation a function lends these as flat slices to the operation of the same name. Those that make
 // rows stand in record_method and read_records. All functions here are inner.
 use block::Answer;
 use block::TextAnswer;
 use block::ValueAnswer;
-use copying::FlatRows;
+use record_copies::FlatRows;
 ghost use Prim.Native.Nat.{_≤_};
 ghost use Rattle.promises.specs.Lists.{RowValuePromise, FillPromise};
 ghost use Rattle.promises.specs.Texts.{WritePromise};
 ghost use Rattle.promises.specs.Sheets.{SheetPromise};
-ghost use Rattle.copying.specs.Flat.{heldRows, Sized, listed};
+ghost use Rattle.record_copies.specs.Flat.{heldRows, Sized, listed};
 
 // A single shift value.
 pub fn value_of(n: usize, k: usize, t: usize, flat: FlatRows, m: usize) -> ValueAnswer

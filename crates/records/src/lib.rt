@@ -1,6 +1,6 @@
 // The operations on lists of rows for a caller that lends the rows as records, one record a row (01, Words and numbers): a single shift
 // value, the row method, filling a table, row text, written and read, and the sheet. Each takes any numbers and any slices, and answers or
-// refuses as 01 says; its promise speaks of the records themselves. The records are copied out into arrays (crate copying), the work on
+// refuses as 01 says; its promise speaks of the records themselves. The records are copied out into arrays (crate record_copies), the work on
 // these is that of the crates record_work, record_method and read_records, and rows that it made are copied in. This crate holds nothing else.
 use block::Answer;
 use block::ReadAnswer;
@@ -20,8 +20,8 @@ ghost use Rattle.promises.specs.Sheets.{SheetPromise};
 pub extern "C" fn row_value(n: usize, k: usize, t: usize, rows: &[Row]) -> ValueAnswer
     ensures { λ r. ⌜ RowValuePromise n k t (now (rows .entry)) r ⌝ }
 {
-    let m = copying::fits(rows.len());
-    let flat = copying::gather(rows, m);
+    let m = record_copies::fits(rows.len());
+    let flat = record_copies::gather(rows, m);
     record_work::value_of(n, k, t, flat, m)
 }
 
@@ -40,10 +40,10 @@ pub extern "C" fn row_method(
     ensures { λ r. ⌜ RowMethodPromise n k w (now (rows .entry)) (lentRecords (now (smaller .entry)) (now (smaller .exit)))
         (now (basis .entry)) (now (sigma .entry)) r (now (basis .exit)) (now (sigma .exit)) ⌝ }
 {
-    let m = copying::fits(rows.len());
-    let flat = copying::gather(rows, m);
+    let m = record_copies::fits(rows.len());
+    let flat = record_copies::gather(rows, m);
     let done = record_method::method_of(n, k, w, flat, m, smaller.len(), basis, sigma);
-    copying::scatter(done.flat, done.count, smaller);
+    record_copies::scatter(done.flat, done.count, smaller);
     done.answer
 }
 
@@ -52,8 +52,8 @@ pub extern "C" fn row_method(
 pub extern "C" fn fill_table(n: usize, k: usize, rows: &[Row], table: &mut [u16]) -> Answer
     ensures { λ r. ⌜ FillPromise n k (now (rows .entry)) (now (table .entry)) r (now (table .exit)) ⌝ }
 {
-    let m = copying::fits(rows.len());
-    let flat = copying::gather(rows, m);
+    let m = record_copies::fits(rows.len());
+    let flat = record_copies::gather(rows, m);
     record_work::fill_of(n, k, flat, m, table)
 }
 
@@ -62,8 +62,8 @@ pub extern "C" fn fill_table(n: usize, k: usize, rows: &[Row], table: &mut [u16]
 pub extern "C" fn write_text(n: usize, k: usize, rows: &[Row], out: &mut [u8]) -> TextAnswer
     ensures { λ r. ⌜ WritePromise n k (now (rows .entry)) (now (out .entry)) r (now (out .exit)) ⌝ }
 {
-    let m = copying::fits(rows.len());
-    let flat = copying::gather(rows, m);
+    let m = record_copies::fits(rows.len());
+    let flat = record_copies::gather(rows, m);
     record_work::write_of(n, k, flat, m, out)
 }
 
@@ -73,7 +73,7 @@ pub fn read_text(text: &[u8], rows: &mut [Row]) -> Reading
     ensures { λ r. ⌜ ReadPromise (now (text .entry)) (lentRecords (now (rows .entry)) (now (rows .exit))) (numbers r) ⌝ }
 {
     let read = read_records::read_of(text, rows.len());
-    copying::scatter(read.flat, read.count, rows);
+    record_copies::scatter(read.flat, read.count, rows);
     read.answer
 }
 
@@ -83,7 +83,7 @@ pub extern "C" fn read_numbers(text: &[u8], rows: &mut [Row]) -> ReadAnswer
     ensures { λ r. ⌜ ReadPromise (now (text .entry)) (lentRecords (now (rows .entry)) (now (rows .exit))) r ⌝ }
 {
     let read = read_records::read_numbers_of(text, rows.len());
-    copying::scatter(read.flat, read.count, rows);
+    record_copies::scatter(read.flat, read.count, rows);
     read.answer
 }
 
@@ -92,7 +92,7 @@ pub extern "C" fn read_numbers(text: &[u8], rows: &mut [Row]) -> ReadAnswer
 pub extern "C" fn sheet(n: usize, k: usize, w: usize, rows: &[Row], out: &mut [u8]) -> TextAnswer
     ensures { λ r. ⌜ SheetPromise n k w (now (rows .entry)) (now (out .entry)) r (now (out .exit)) ⌝ }
 {
-    let m = copying::fits(rows.len());
-    let flat = copying::gather(rows, m);
+    let m = record_copies::fits(rows.len());
+    let flat = record_copies::gather(rows, m);
     record_work::sheet_of(n, k, w, flat, m, out)
 }

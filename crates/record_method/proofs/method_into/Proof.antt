@@ -4,7 +4,7 @@ use native.Mathlib.Omega.{arith}
 use lib.ListN.{length-take}
 use borrow.Author.Needs.{needs}
 use denote.Ref.{now}
-use Rattle.copying.specs.Flat.{listed}
+use Rattle.record_copies.specs.Flat.{listed}
 use Rattle.record_method.specs.Method.{method-yields}
 use Rattle.record_method.proofs.method_into.Statement.{statement}
 use Rattle.record_method.proofs.method_into.Tie as tie

@@ -1,7 +1,7 @@
 -- `record_method::method_of` meets its contract: no more than 513 places are looked at, and the room counts only up to 512. Assumes nothing.
 use borrow.Author.Needs.{needs}
 use denote.Ref.{now}
-use Rattle.copying.specs.Flat.{listed}
+use Rattle.record_copies.specs.Flat.{listed}
 use Rattle.record_method.specs.Method.{method-whole}
 use Rattle.record_method.proofs.method_of.Statement.{statement}
 use Rattle.record_method.proofs.method_of.Tie as tie

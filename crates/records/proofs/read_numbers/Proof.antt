@@ -1,9 +1,9 @@
 -- `records::read_numbers` meets its contract: a walk of its MIR, by hand, over the laws of `Walk.antt` and `Calls.antt` of crate
--- copying. It is two calls in a row. The answer is a struct. Assumes nothing.
-use Rattle.copying.proofs.Thin.{refl, List, [], _∷_, _≡_, length, fullShare, named, w64, Val, vint, id⊢, fat, givenOf, ‵, _$_, !, rewrite, whole, sub, of-opd, and-then, no-more, uint-makes, u8, now, slice-vals, only, cited, Lfts, typesAt, Knowns, a-slice, a-mut-slice, B, framing, concludes, valsOf, made, held, none, arg, field-of, puts, keeps, lends, asks, ends, so, asks-scatter}
+-- record_copies. It is two calls in a row. The answer is a struct. Assumes nothing.
+use Rattle.record_copies.proofs.Thin.{refl, List, [], _∷_, _≡_, length, fullShare, named, w64, Val, vint, id⊢, fat, givenOf, ‵, _$_, !, rewrite, whole, sub, of-opd, and-then, no-more, uint-makes, u8, now, slice-vals, only, cited, Lfts, typesAt, Knowns, a-slice, a-mut-slice, B, framing, concludes, valsOf, made, held, none, arg, field-of, puts, keeps, lends, asks, ends, so, asks-scatter}
 use denote.Struct.Laws as LL
 use Rattle.promises.specs.Texts.{ReadPromise}
-use Rattle.copying.specs.Yielded.{lentArrays}
+use Rattle.record_copies.specs.Yielded.{lentArrays}
 use Rattle.record_work.specs.Records.{read-records}
 use Rattle.block.proofs.Row as T
 use Rattle.block.proofs.ReadAnswer as An
@@ -40,7 +40,7 @@ read-numbers-spec 𝓤 H 𝓜 𝓖 𝓡 =
     keeps ! refl (LL.lawful D.the-type D′.the-laws 𝓤 H A W .typed d _ is-d .0) $
     rewrite ! 3 (λ (us : List Val). ‵ (fat fullShare D′.mir (bs .1 .1 .1 .0) 0 (only us))) (LL.tells D.the-type D′.the-laws d (v₃ ∷ []) is-d) refl $
     lends ! refl (sub ! 0 refl (whole !)) refl (tt, tt) refl refl (sub ! 1 refl (whole !)) refl (tt, (tt, (record { fits = is₁ }, tt))) $
-    asks-scatter 𝓤 H 𝓜 𝓖 𝓡 code.env ! code.calls-copying·scatter (κs .1 .0) (qs .1 .0) (d .flat) _ (fields .0) (d .count) (fields .1 .0 .1) x₁ (e₃ .rows .within) (e₃ .rows .most)
+    asks-scatter 𝓤 H 𝓜 𝓖 𝓡 code.env ! code.calls-record-copies·scatter (κs .1 .0) (qs .1 .0) (d .flat) _ (fields .0) (d .count) (fields .1 .0 .1) x₁ (e₃ .rows .within) (e₃ .rows .most)
     (and-then ! (field-of ! refl (sub ! 0 refl (whole !))) (and-then ! (field-of ! refl (sub ! 1 refl (whole !))) (arg ! refl (no-more !)))) (16 ∷ 17 ∷ []) refl (λ zs e₄. keeps ! refl (tt, tt) $
     puts ! (of-opd ! (field-of ! refl (sub ! 2 refl (whole !)))) refl (LL.lawful An.the-type An′.the-laws 𝓤 H A W .typed (d .answer) _ (fields .1 .1 .0) .0) $
     ends ! f.ended clauses ((κs, qs, bounds, a, valsOf 𝓤 H A W f.ended clauses known κs a), g) _ _ (_ ∷ _ ∷ _ ∷ _ ∷ _ ∷ _ ∷ _ ∷ []) tt refl (0 ∷ 3 ∷ 1 ∷ 6 ∷ [])

@@ -1,17 +1,17 @@
--- `records::row_method` meets its contract: a walk of its MIR, by hand, over the laws of `Walk.antt` and `Calls.antt` of crate copying.
+-- `records::row_method` meets its contract: a walk of its MIR, by hand, over the laws of `Walk.antt` and `Calls.antt` of crate record_copies.
 -- It is four calls in a row. Assumes nothing.
-use Rattle.copying.proofs.Thin.{refl, List, [], _∷_, _≡_, length, fullShare, named, w64, Val, vint, id⊢, fat, givenOf, ‵, _$_, !, rewrite, whole, sub, of-opd, and-then, no-more, uint-makes, u32, now, slice-vals, only, cited, Lfts, typesAt, Knowns, a-num, a-slice, a-mut-slice, B, framing, concludes, valsOf, made, held, none, arg, field-of, puts, puts-over, keeps, lends, asks, ends, so, asks-fits, asks-gather, asks-scatter}
+use Rattle.record_copies.proofs.Thin.{refl, List, [], _∷_, _≡_, length, fullShare, named, w64, Val, vint, id⊢, fat, givenOf, ‵, _$_, !, rewrite, whole, sub, of-opd, and-then, no-more, uint-makes, u32, now, slice-vals, only, cited, Lfts, typesAt, Knowns, a-num, a-slice, a-mut-slice, B, framing, concludes, valsOf, made, held, none, arg, field-of, puts, puts-over, keeps, lends, asks, ends, so, asks-fits, asks-gather, asks-scatter}
 use native.Mathlib.Omega.{arith}
 use denote.Struct.Laws as LL
 use Rattle.promises.specs.Lists.{RowMethodPromise}
-use Rattle.copying.specs.Flat.{listed, gathered-sized}
-use Rattle.copying.specs.Yielded.{lentArrays}
+use Rattle.record_copies.specs.Flat.{listed, gathered-sized}
+use Rattle.record_copies.specs.Yielded.{lentArrays}
 use Rattle.record_work.specs.Records.{method-records}
 use Rattle.block.proofs.Row as T
 use Rattle.block.proofs.RowMethodAnswer as An
 use Rattle.block.proofs.RowMethodAnswer.Laws as An′
-use Rattle.copying.proofs.FlatRows as F
-use Rattle.copying.proofs.FlatRows.Laws as F′
+use Rattle.record_copies.proofs.FlatRows as F
+use Rattle.record_copies.proofs.FlatRows.Laws as F′
 use Rattle.record_method.proofs.SmallerRows as D
 use Rattle.record_method.proofs.SmallerRows.Laws as D′
 use Rattle.record_method.proofs.method_of as work
@@ -44,8 +44,8 @@ row-method-spec 𝓤 H 𝓜 𝓖 𝓡 =
     let is₀ = are .1 .1 .1 .0 .0 .1 .0 in
     let is₃ = are .1 .1 .1 .1 .1 .1 .0 .0 .1 .0 in
     puts ! (of-opd ! (field-of ! refl (sub ! 1 refl (whole !)))) refl (tt, record { fits = is₀ }) $
-    asks-fits 𝓤 H 𝓜 𝓖 𝓡 code.env ! code.calls-copying·fits (length rs) is₀ (arg ! refl (no-more !)) (λ m fit m<. keeps ! refl (tt, record { fits = m< }) $
-    asks-gather 𝓤 H 𝓜 𝓖 𝓡 code.env ! code.calls-copying·gather (κs .0) (qs .0) (a .1 .1 .1 .0) m fit m< (arg ! refl (arg ! refl (no-more !))) (38 ∷ 45 ∷ []) refl (λ v₂ z e₂ is-z. keeps ! refl (LL.lawful F.the-type F′.the-laws 𝓤 H A W .typed z _ is-z .0) $
+    asks-fits 𝓤 H 𝓜 𝓖 𝓡 code.env ! code.calls-record-copies·fits (length rs) is₀ (arg ! refl (no-more !)) (λ m fit m<. keeps ! refl (tt, record { fits = m< }) $
+    asks-gather 𝓤 H 𝓜 𝓖 𝓡 code.env ! code.calls-record-copies·gather (κs .0) (qs .0) (a .1 .1 .1 .0) m fit m< (arg ! refl (arg ! refl (no-more !))) (38 ∷ 45 ∷ []) refl (λ v₂ z e₂ is-z. keeps ! refl (LL.lawful F.the-type F′.the-laws 𝓤 H A W .typed z _ is-z .0) $
     puts-over ! (of-opd ! (field-of ! refl (sub ! 1 refl (whole !)))) refl (tt, record { fits = is₃ }) $
     lends ! refl (sub ! 0 refl (whole !)) refl (tt, tt) refl refl (sub ! 1 refl (whole !)) refl (tt, (tt, (record { fits = are .1 .1 .1 .1 .0 .0 .1 .0 }, tt))) $
     lends ! refl (sub ! 0 refl (whole !)) refl (tt, tt) refl refl (sub ! 1 refl (whole !)) refl (tt, (tt, (record { fits = are .1 .1 .1 .1 .1 .0 .0 .1 .0 }, tt))) $
@@ -61,7 +61,7 @@ row-method-spec 𝓤 H 𝓜 𝓖 𝓡 =
     keeps ! refl (LL.lawful D.the-type D′.the-laws 𝓤 H A W .typed d _ is-d .0) $
     rewrite ! 10 (λ (us : List Val). ‵ (fat fullShare D′.mir (bs .1 .1 .1 .1 .1 .1 .1 .1 .1 .1 .0) 0 (only us))) (LL.tells D.the-type D′.the-laws d (v₃ ∷ []) is-d) refl $
     lends ! refl (sub ! 0 refl (whole !)) refl (tt, tt) refl refl (sub ! 1 refl (whole !)) refl (tt, (tt, (record { fits = is₃ }, tt))) $
-    asks-scatter 𝓤 H 𝓜 𝓖 𝓡 code.env ! code.calls-copying·scatter (κs .1 .1 .1 .0) (qs .1 .1 .1 .0) (d .flat) _ (fields .0) (d .count) (fields .1 .0 .1) x₃ (y .within) (y .most)
+    asks-scatter 𝓤 H 𝓜 𝓖 𝓡 code.env ! code.calls-record-copies·scatter (κs .1 .1 .1 .0) (qs .1 .1 .1 .0) (d .flat) _ (fields .0) (d .count) (fields .1 .0 .1) x₃ (y .within) (y .most)
     (and-then ! (field-of ! refl (sub ! 0 refl (whole !))) (and-then ! (field-of ! refl (sub ! 1 refl (whole !))) (arg ! refl (no-more !)))) (38 ∷ 42 ∷ []) refl (λ zs e₄. keeps ! refl (tt, tt) $
     puts ! (of-opd ! (field-of ! refl (sub ! 2 refl (whole !)))) refl (LL.lawful An.the-type An′.the-laws 𝓤 H A W .typed (d .answer) _ (fields .1 .1 .0) .0) $
     ends ! f.ended clauses ((κs, qs, bounds, a, valsOf 𝓤 H A W f.ended clauses known κs a), g) _ _ (_ ∷ _ ∷ _ ∷ _ ∷ _ ∷ _ ∷ _ ∷ _ ∷ _ ∷ _ ∷ _ ∷ _ ∷ _ ∷ _ ∷ _ ∷ _ ∷ _ ∷ _ ∷ []) tt refl (4 ∷ 7 ∷ 8 ∷ 17 ∷ 3 ∷ 5 ∷ 6 ∷ 9 ∷ 15 ∷ 16 ∷ 20 ∷ [])

@@ -1,16 +1,16 @@
--- `records::write_text` meets its contract: a walk of its MIR, by hand, over the laws of `Walk.antt` and `Calls.antt` of crate copying.
+-- `records::write_text` meets its contract: a walk of its MIR, by hand, over the laws of `Walk.antt` and `Calls.antt` of crate record_copies.
 -- It is three calls in a row. Assumes nothing.
-use Rattle.copying.proofs.Thin.{refl, [], _∷_, _≡_, length, named, w64, vint, givenOf, _$_, !, whole, sub, of-opd, no-more, uint-makes, u8, now, slice-vals, cited, Lfts, typesAt, Knowns, a-num, a-slice, a-mut-slice, B, framing, concludes, valsOf, made, held, none, arg, field-of, puts, keeps, lends, asks, ends, so, id⊢, asks-fits, asks-gather}
+use Rattle.record_copies.proofs.Thin.{refl, [], _∷_, _≡_, length, named, w64, vint, givenOf, _$_, !, whole, sub, of-opd, no-more, uint-makes, u8, now, slice-vals, cited, Lfts, typesAt, Knowns, a-num, a-slice, a-mut-slice, B, framing, concludes, valsOf, made, held, none, arg, field-of, puts, keeps, lends, asks, ends, so, id⊢, asks-fits, asks-gather}
 use native.Mathlib.Omega.{arith}
 use denote.Struct.Laws as LL
 use Rattle.promises.specs.Texts.{WritePromise}
-use Rattle.copying.specs.Flat.{listed, gathered-sized}
+use Rattle.record_copies.specs.Flat.{listed, gathered-sized}
 use Rattle.record_work.specs.Records.{write-records}
 use Rattle.block.proofs.Row as T
 use Rattle.block.proofs.TextAnswer as An
 use Rattle.block.proofs.TextAnswer.Laws as An′
-use Rattle.copying.proofs.FlatRows as F
-use Rattle.copying.proofs.FlatRows.Laws as F′
+use Rattle.record_copies.proofs.FlatRows as F
+use Rattle.record_copies.proofs.FlatRows.Laws as F′
 use Rattle.record_work.proofs.write_of as work
 use Rattle.record_work.proofs.write_of.Symbol as work-def
 use Rattle.record_work.proofs.write_of.Met as work-thm
@@ -36,8 +36,8 @@ write-text-spec 𝓤 H 𝓜 𝓖 𝓡 =
     let x₁ = a .1 .1 .1 .0 in
     let is₀ = are .1 .1 .0 .0 .1 .0 in
     puts ! (of-opd ! (field-of ! refl (sub ! 1 refl (whole !)))) refl (tt, record { fits = is₀ }) $
-    asks-fits 𝓤 H 𝓜 𝓖 𝓡 code.env ! code.calls-copying·fits (length rs) is₀ (arg ! refl (no-more !)) (λ m fit m<. keeps ! refl (tt, record { fits = m< }) $
-    asks-gather 𝓤 H 𝓜 𝓖 𝓡 code.env ! code.calls-copying·gather (κs .0) (qs .0) (a .1 .1 .0) m fit m< (arg ! refl (arg ! refl (no-more !))) (20 ∷ 24 ∷ []) refl (λ v₂ z e₂ is-z. keeps ! refl (LL.lawful F.the-type F′.the-laws 𝓤 H A W .typed z _ is-z .0) $
+    asks-fits 𝓤 H 𝓜 𝓖 𝓡 code.env ! code.calls-record-copies·fits (length rs) is₀ (arg ! refl (no-more !)) (λ m fit m<. keeps ! refl (tt, record { fits = m< }) $
+    asks-gather 𝓤 H 𝓜 𝓖 𝓡 code.env ! code.calls-record-copies·gather (κs .0) (qs .0) (a .1 .1 .0) m fit m< (arg ! refl (arg ! refl (no-more !))) (20 ∷ 24 ∷ []) refl (λ v₂ z e₂ is-z. keeps ! refl (LL.lawful F.the-type F′.the-laws 𝓤 H A W .typed z _ is-z .0) $
     lends ! refl (sub ! 0 refl (whole !)) refl (tt, tt) refl refl (sub ! 1 refl (whole !)) refl (tt, (tt, (record { fits = are .1 .1 .1 .0 .0 .1 .0 }, tt))) $
     asks ! (framing 𝓤 H 𝓜 𝓖 𝓡 code.env) work.ended asked (cited 𝓤 H (B 𝓤 H A W work.ended asked) 𝓜 𝓡 code.env work-def.name work-def.routine code.calls-record-work·write-of (work-thm.met 𝓤 H 𝓜 𝓖 𝓡))
     (((κs .1 .0, tt), (qs .1 .0, tt), tt, (n, (k, (z, (m, (x₁, tt))))), (vint w64 n ∷ [], (vint w64 k ∷ [], (v₂ ∷ [], (vint w64 m ∷ [], (slice-vals x₁, tt)))))), tt)

@@ -28,21 +28,21 @@ use denote.Steps.{only as one}
 use denote.Struct.Laws as LL
 use denote.Triple.Table.{cited}
 use Rattle.block.specs.declared.Row.{Row}
-use Rattle.copying.specs.declared.FlatRows.{FlatRows}
-use Rattle.copying.specs.Flat.{Gathered, Scattered}
-use Rattle.copying.proofs.Walk.{B, asks, framing, made, held, none, others, rel, so}
+use Rattle.record_copies.specs.declared.FlatRows.{FlatRows}
+use Rattle.record_copies.specs.Flat.{Gathered, Scattered}
+use Rattle.record_copies.proofs.Walk.{B, asks, framing, made, held, none, others, rel, so}
 use Rattle.block.proofs.Row as T
-use Rattle.copying.proofs.FlatRows as F
-use Rattle.copying.proofs.FlatRows.Laws as F′
-use Rattle.copying.proofs.fits as fits
-use Rattle.copying.proofs.fits.Symbol as fits-def
-use Rattle.copying.proofs.fits.Met as fits-thm
-use Rattle.copying.proofs.gather as gather
-use Rattle.copying.proofs.gather.Symbol as gather-def
-use Rattle.copying.proofs.gather.Met as gather-thm
-use Rattle.copying.proofs.scatter as scatter
-use Rattle.copying.proofs.scatter.Symbol as scatter-def
-use Rattle.copying.proofs.scatter.Met as scatter-thm
+use Rattle.record_copies.proofs.FlatRows as F
+use Rattle.record_copies.proofs.FlatRows.Laws as F′
+use Rattle.record_copies.proofs.fits as fits
+use Rattle.record_copies.proofs.fits.Symbol as fits-def
+use Rattle.record_copies.proofs.fits.Met as fits-thm
+use Rattle.record_copies.proofs.gather as gather
+use Rattle.record_copies.proofs.gather.Symbol as gather-def
+use Rattle.record_copies.proofs.gather.Met as gather-thm
+use Rattle.record_copies.proofs.scatter as scatter
+use Rattle.record_copies.proofs.scatter.Symbol as scatter-def
+use Rattle.record_copies.proofs.scatter.Met as scatter-thm
 
 module _ {M : Type 1} (𝓤 : URA M) (H : Heap 𝓤) (𝓜 : Model 𝓤 H) (𝓖 : GhostRules 𝓤 H) (𝓡 : Running 𝓤 H 𝓜) (γ : REnv) {K : Type 0} {Γ : List (Item 𝓤)} {E : Env 𝓤 H} {Λ : Loops 𝓤 H} {q : Post 𝓤 H} {xs : List Operand} {d : Place} {rest : Body} where
   pub asks-fits : K → γ fits-def.name ≡ fits-def.routine → (len : ℕ) → len < 2 ^ 64 → Opds K (givenOf 𝓤 H 𝓜 𝓖) Γ E xs (vint w64 len ∷ [])

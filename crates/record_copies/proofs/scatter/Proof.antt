@@ -1,4 +1,4 @@
--- `copying::scatter` meets its contract: a walk of its MIR, by hand, with the loop by `Types/Run.antt`'s `loops`.
+-- `record_copies::scatter` meets its contract: a walk of its MIR, by hand, with the loop by `Types/Run.antt`'s `loops`.
 -- The borrow is opened once, before the loop, and closed once, after it. Each array, in a local of its own, is taken apart into the row of its elements before the loop, and put together after it (`Arrays.antt`).
 -- Assumes nothing.
 use mathlib.Core.Path.{_≡_, refl, sym, ap, subst}
@@ -49,20 +49,20 @@ use denote.Triple.Walked.{says, needs, Stays, stay-slice, stay-dropped, walkOf, 
 use denote.Exit.{yes}
 use borrow.Author.Tests.{ltb-true, ltb-false}
 use Rattle.block.specs.declared.Row.{Row}
-use Rattle.copying.specs.declared.FlatRows.{FlatRows}
-use Rattle.copying.specs.Copied.{Copied, copied-none, copied-more}
-use Rattle.copying.specs.Flat.{Scattered, flatAt, zeroRow}
-use Rattle.copying.proofs.Arrays.{mach, array-in, array-out}
-use Rattle.copying.proofs.Walk.{Blocks, envOf, deaths, alloc-all, free-rooms}
-use Rattle.copying.proofs.FlatRows as F
-use Rattle.copying.proofs.FlatRows.Laws as F′
+use Rattle.record_copies.specs.declared.FlatRows.{FlatRows}
+use Rattle.record_copies.specs.Copied.{Copied, copied-none, copied-more}
+use Rattle.record_copies.specs.Flat.{Scattered, flatAt, zeroRow}
+use Rattle.record_copies.proofs.Arrays.{mach, array-in, array-out}
+use Rattle.record_copies.proofs.Walk.{Blocks, envOf, deaths, alloc-all, free-rooms}
+use Rattle.record_copies.proofs.FlatRows as F
+use Rattle.record_copies.proofs.FlatRows.Laws as F′
 use Rattle.block.proofs.Row as T
 use Rattle.block.proofs.Row.Laws as T′
-use Rattle.copying.proofs.scatter.Key.{name as #copying·scatter}
-use Rattle.copying.proofs.scatter as f
-use Rattle.copying.proofs.scatter.Statement as stated
-use Rattle.copying.proofs.scatter.Code as code
-use Rattle.copying.proofs.scatter.Code.Mir as mir′
+use Rattle.record_copies.proofs.scatter.Key.{name as #record-copies·scatter}
+use Rattle.record_copies.proofs.scatter as f
+use Rattle.record_copies.proofs.scatter.Statement as stated
+use Rattle.record_copies.proofs.scatter.Code as code
+use Rattle.record_copies.proofs.scatter.Code.Mir as mir′
 
 abbrev Arg : Type 0
 Arg = FlatRows × (ℕ × (RefT (List Row) × Unit {0}))
@@ -280,5 +280,5 @@ pub scatter-spec : {M : Type 1} → stated.statement M
 unfolding code.routine tablesOf
 scatter-spec 𝓤 H 𝓜 𝓖 𝓡 =
     entered 𝓤 H (tripleOf 𝓤 H (𝓖 .A) f.signature (f.spec 𝓤 H (𝓖 .A) (𝓜 .mem) (𝓡 .run)))
-    (tables 𝓤 H 𝓜 𝓡 code.env .C) (tables 𝓤 H 𝓜 𝓡 code.env .Λ) #copying·scatter code.function (code.unfolded 𝓤 H 𝓜 𝓡)
+    (tables 𝓤 H 𝓜 𝓡 code.env .C) (tables 𝓤 H 𝓜 𝓡 code.env .Λ) #record-copies·scatter code.function (code.unfolded 𝓤 H 𝓜 𝓡)
     (scatter-meets 𝓤 H (𝓖 .A) (givenOf 𝓤 H 𝓜 𝓖) (𝓜 .mem) (𝓡 .run) (tablesOf 𝓤 H 𝓜 (tables 𝓤 H 𝓜 𝓡 code.env)))

@@ -12,8 +12,8 @@ use Rattle.block.specs.Words.{row, rowsOf}
 use Rattle.block.specs.Refusals.{rowAt}
 use Rattle.block.specs.declared.Row.{Row}
 use Rattle.listing.specs.Listing.{rows-count, row-at}
-use Rattle.copying.specs.declared.FlatRows.{FlatRows}
-use Rattle.copying.specs.Copied.{Copied}
+use Rattle.record_copies.specs.declared.FlatRows.{FlatRows}
+use Rattle.record_copies.specs.Copied.{Copied}
 
 -- one row more than the longest list that an operation takes: no more records are copied out
 abbrev pub heldRows : ℕ

@@ -15,8 +15,8 @@ use Rattle.block.specs.Refusals.{answered, carried, stored, rowAt}
 use Rattle.block.specs.declared.Row.{Row}
 use Rattle.block.specs.declared.Answer.{Answer}
 use Rattle.promises.specs.Lent.{Lent, FlatHolds, shortest}
-use Rattle.copying.specs.declared.FlatRows.{FlatRows}
-use Rattle.copying.specs.Flat.{heldRows, Scattered, Sized, flatAt, zeroRow, lent}
+use Rattle.record_copies.specs.declared.FlatRows.{FlatRows}
+use Rattle.record_copies.specs.Flat.{heldRows, Scattered, Sized, flatAt, zeroRow, lent}
 
 -- with the verdict v and the rows s: on 0 the first `count` rows of the arrays are s, and there is room for them; with a refusal there
 -- are none

@@ -5,7 +5,7 @@ use block::SMALLER_ROWS;
 ghost use mathlib.Core.Path.{_≡_};
 ghost use Prim.Native.Nat.{_≤_, min};
 ghost use lib.ListN.{length};
-ghost use Rattle.copying.specs.Flat.{heldRows, Gathered, Scattered, Sized};
+ghost use Rattle.record_copies.specs.Flat.{heldRows, Gathered, Scattered, Sized};
 
 // One row more than the longest list that an operation takes.
 pub const HELD_ROWS: usize = SMALLER_ROWS + 1;
