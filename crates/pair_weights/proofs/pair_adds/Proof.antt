@@ -1,16 +1,11 @@
--- `cubes::pair_adds` meets its contract: where t lies in the cube of the pair, it adds what the pair weighs, and else nothing.
+-- `pair_weights::pair_adds` meets its contract: where t lies in the cube of the pair, it adds what the pair weighs, and else nothing.
 -- Assumes nothing.
 use mathlib.Core.Path.{sym, _∙_}
-use native.Mathlib.Omega.{arith}
 use denote.Ref.{now}
-use lib.Bits.{or-lt}
-use lib.Dec.{eqb}
-use Rattle.slices.specs.Places.{at}
-use Rattle.cubes.specs.Stored.{cubeOf, hit-taken, hit-left}
-use Rattle.cubes.specs.Summed.{weight-small}
+use Rattle.pair_weights.specs.Places.{cubeOf, hit-taken, hit-left}
 use borrow.Author.Needs.{needs}
-use Rattle.cubes.proofs.pair_adds.Statement.{statement}
-use Rattle.cubes.proofs.pair_adds.Tie as tie
+use Rattle.pair_weights.proofs.pair_adds.Statement.{statement}
+use Rattle.pair_weights.proofs.pair_adds.Tie as tie
 
 mul-mask : tie.Need-mul-mask
 mul-mask c = search needs
@@ -38,23 +33,19 @@ shared-slice-read-if1-2 c = search needs
 
 weight-of-requires : tie.Need-weight-of-requires
 weight-of-requires c κs =
-    let s = c .before .before .before .before .before .before .before in
-    let m = now (s .args .masks) in
-    (s .pre .0 .0, or-lt (s .args .n) (at m (s .args .i)) (at m (s .args .j)) (s .pre .1 .0) (s .pre .1 .1))
+    let p = c .before .before .before .before .before .before .before .pre in
+    (p .0 .0, p .1 .0, p .1 .1)
 
 returns : tie.Need-returns
 returns c =
-    let s = c .before .before .before .before .before .before .before .before in
-    let a = s .args in (
-      c .weight-of .ensures
-          ∙ sym (hit-taken (a .t) (cubeOf (a .n) (now (a .masks)) (now (a .values)) (a .i) (a .j)) (c .before .if1 .taken)),
-      rw (c .weight-of .ensures) (weight-small (a .n) _ (eqb (a .i) (a .j)) (s .pre .0 .0)),
-    )
+    let a = c .before .before .before .before .before .before .before .before .args in
+    c .weight-of .ensures
+    ∙ sym (hit-taken (a .t) (cubeOf (a .n) (now (a .masks)) (now (a .values)) (a .i) (a .j)) (c .before .if1 .taken))
 
 returns-2 : tie.Need-returns-2
 returns-2 c =
     let a = c .before .before .before .before .before .before .before .args in
-    (sym (hit-left (a .t) (cubeOf (a .n) (now (a .masks)) (now (a .values)) (a .i) (a .j)) (c .if1 .left)), omega arith)
+    sym (hit-left (a .t) (cubeOf (a .n) (now (a .masks)) (now (a .values)) (a .i) (a .j)) (c .if1 .left))
 
 pub pair-adds-spec : {M : Type 1} → statement M
 pair-adds-spec =
