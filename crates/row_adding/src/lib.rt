@@ -8,7 +8,7 @@ ghost use Rattle.block.specs.Limits.{listInputs, smallerRows};
 ghost use Rattle.block.specs.Rows.{splitRow};
 ghost use Rattle.row_adding.specs.Held.{Added, Room};
 
-// Adds a row to the list, and answers the new length. Past 512 rows nothing is stored.
+// Adds a row to the list, and answers the new length. Past SMALLER_ROWS rows nothing is stored.
 pub fn add_row(
     r: Row,
     count: usize,

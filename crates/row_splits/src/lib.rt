@@ -24,7 +24,7 @@ pub fn exchange_each(numbers: &mut [u32], p: usize, k: usize, h: usize)
     }
 }
 
-// What becomes of the first p rows of one list, put into three other slices; answers how many rows that is, also past 512.
+// What becomes of the first p rows of one list, put into three other slices; answers how many rows that is, also past SMALLER_ROWS.
 pub fn split_rows(
     k: usize,
     v: u32,
@@ -56,7 +56,7 @@ pub fn split_rows(
 }
 
 // One step of the list of p rows: positions k and h exchanged, then the flips and splits of v. Answers how many rows that is; the
-// slices hold them, unless there are more than 512.
+// slices hold them, unless there are more than SMALLER_ROWS.
 pub fn step_rows(
     k: usize,
     h: usize,

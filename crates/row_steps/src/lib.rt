@@ -12,7 +12,7 @@ ghost use Rattle.matrix.specs.Reached.{Independent};
 ghost use Rattle.row_adding.specs.Held.{Room};
 ghost use Rattle.row_steps.specs.Passed.{Replayed};
 
-// What a replay of the steps answers: the first step, from 1, at which the list passes 512 rows, or 0 and the number of rows.
+// What a replay of the steps answers: the first step, from 1, at which the list passes SMALLER_ROWS rows, or 0 and the number of rows.
 pub struct Replay {
     pub step: usize,
     pub count: usize,

@@ -22,17 +22,17 @@ use Rattle.block.specs.Limits.{tableInputs, outputs}
 use Rattle.block.specs.Words.{none, ofTable}
 use Rattle.block.specs.Measure.{same, shift}
 use Rattle.block.specs.Refusals.{badEntry}
-use Rattle.table_words.specs.Matching.{marked, matching, pairAdds, whole, point-lt}
+use Rattle.table_words.specs.Matching.{hole, marked, matching, pairAdds, whole, point-lt}
 
 -- a full table of at least one block, in which no entry is the mark
 pub record FullTable (table : List ℕ) (n : ℕ) : Type 0 where
   pub entries : length table ≡ 2 ^ n
   pub least : 6 ≤ n
   pub most : n ≤ tableInputs
-  pub unmarked : (i : ℕ) → i < 2 ^ n → at table i ≡ 65534 → ⊥
+  pub unmarked : (i : ℕ) → i < 2 ^ n → at table i ≡ hole → ⊥
 
 -- an entry that passes the checks is not the mark
-pub good-unmarked : (k x : ℕ) → k ≤ outputs → badEntry k x ≡ false → x ≡ 65534 → ⊥
+pub good-unmarked : (k x : ℕ) → k ≤ outputs → badEntry k x ≡ false → x ≡ hole → ⊥
 good-unmarked k x h good e = go (ltb x (2 ^ k)) refl
   where
     go : (b : Bool) → ltb x (2 ^ k) ≡ b → ⊥
@@ -75,11 +75,11 @@ same-turn f t x =
     (and-turn (not (eqb (f (bitXor x t)) none)) (not (eqb (f x) none)) (eqb (f x) (f (bitXor x t))))
 
 -- the copy is compared with at once: both have an output and the words are equal
-same-marked : (a b : ℕ) → (a ≡ 65534 → ⊥) → (not (eqb a none) && (not (eqb b none) && eqb a b)) ≡ eqb a (marked b)
+same-marked : (a b : ℕ) → (a ≡ hole → ⊥) → (not (eqb a none) && (not (eqb b none) && eqb a b)) ≡ eqb a (marked b)
 same-marked a b h = go (ℕ-discrete b none) (ℕ-discrete a none)
   where
     go : Dec (b ≡ none) → Dec (a ≡ none) → (not (eqb a none) && (not (eqb b none) && eqb a b)) ≡ eqb a (marked b)
-    go (yes e) d = rw (eq-eqb b none e, ne-eqb a 65534 h) (and-false (not (eqb a none)))
+    go (yes e) d = rw (eq-eqb b none e, ne-eqb a hole h) (and-false (not (eqb a none)))
     go (no n) (yes e) = rw (ne-eqb b none n, eq-eqb a none e) (sym (ne-eqb a b (omega arith)))
     go (no n) (no m) = rw (ne-eqb b none n, ne-eqb a none m)
 

@@ -8,7 +8,7 @@ ghost use Rattle.slices.specs.Places.{at, tab, over};
 ghost use Rattle.block.specs.Limits.{tableInputs};
 ghost use Rattle.block.specs.Words.{ofTable};
 ghost use Rattle.block.specs.Measure.{shift};
-ghost use Rattle.table_words.specs.Matching.{marked};
+ghost use Rattle.table_words.specs.Matching.{hole, marked};
 ghost use Rattle.shifts.specs.Blocks.{FullTable, Copied};
 ghost use Rattle.shifts.specs.Light.{LightValues, LowPut};
 
@@ -57,9 +57,9 @@ fn shifts_at_low(table: &[u16], n: usize, w: usize, low: usize, out: &mut [u32])
     }
 }
 
-// R(t) for every t of at most w one-bits, each worked out once. No entry is 65,534, which a table with at most 15 outputs never holds.
+// R(t) for every t of at most w one-bits, each worked out once. No entry is the mark of the copy.
 pub fn shifts_of(table: &[u16], n: usize, w: usize, out: &mut [u32])
-    requires { ⌜ (length (now table) ≡ 2 ^ n) × (n ≤ tableInputs) × (2 ^ n ≤ length (now out)) × ((i : ℕ) → i < 2 ^ n → at (now table) i ≡ 65534 → ⊥) ⌝ }
+    requires { ⌜ (length (now table) ≡ 2 ^ n) × (n ≤ tableInputs) × (2 ^ n ≤ length (now out)) × ((i : ℕ) → i < 2 ^ n → at (now table) i ≡ hole → ⊥) ⌝ }
     ensures { λ _. ⌜ LightValues (shift (ofTable (now (table .entry))) n) (2 ^ n) w (now (out .exit)) ⌝ }
 {
     if n < 6 {

@@ -7,10 +7,12 @@ ghost use lib.ListN.{length};
 ghost use Rattle.slices.specs.Places.{at};
 ghost use Rattle.block.specs.Limits.{tableInputs};
 ghost use Rattle.block.specs.Words.{ofTable};
+ghost use Rattle.table_words.specs.Matching.{hole};
 ghost use Rattle.smaller_tables.specs.Work.{Worked};
 
 // Basis, sigma, smaller table and both measures of a table that passed the checks. R is worked out once for every t of at most w one-bits,
-// and then laid by the places of the walk. No entry is 65,534, which a table with at most 15 outputs never holds.
+// and then laid by the places of the walk. No entry is the mark that the values are counted with, 65,534, which a
+// table never holds that passed.
 pub fn linearize(
     table: &[u16],
     n: usize,
@@ -19,7 +21,7 @@ pub fn linearize(
     sigma: &mut [u32],
     smaller: &mut [u16],
 ) -> Measures
-    requires { ⌜ (length (now table) ≡ 2 ^ n) × (n ≤ tableInputs) × (1 ≤ w) × (w ≤ n) × (n ≤ length (now basis)) × (n ≤ length (now sigma)) × (2 ^ n ≤ length (now smaller)) × ((i : ℕ) → i < 2 ^ n → at (now table) i ≡ 65534 → ⊥) ⌝ }
+    requires { ⌜ (length (now table) ≡ 2 ^ n) × (n ≤ tableInputs) × (1 ≤ w) × (w ≤ n) × (n ≤ length (now basis)) × (n ≤ length (now sigma)) × (2 ^ n ≤ length (now smaller)) × ((i : ℕ) → i < 2 ^ n → at (now table) i ≡ hole → ⊥) ⌝ }
     ensures { λ r. ⌜ Worked (ofTable (now (table .entry))) n w (now (basis .entry)) (now (sigma .entry)) (now (smaller .entry)) (now (basis .exit)) (now (sigma .exit)) (now (smaller .exit)) r ⌝ }
 {
     let mut by_t = [0u32; TABLE_POINTS];

@@ -14,9 +14,13 @@ use Rattle.slices.specs.Places.{at}
 use Rattle.sums.specs.Sums.{count}
 use Rattle.block.specs.Words.{none}
 
--- an entry as the copy holds it: no output is marked by 65,534, which no entry is
+-- the mark for no output in the copy, which no entry is
+abbrev pub hole : ℕ
+hole = 65534
+
+-- an entry as the copy holds it
 abbrev pub marked : ℕ → ℕ
-marked w = cond (eqb w none) 65534 w
+marked w = cond (eqb w none) hole w
 
 -- how many of the 64 points of block b hold in a what the same points of block c hold in p
 unfoldable pub matching : List ℕ → List ℕ → ℕ → ℕ → ℕ

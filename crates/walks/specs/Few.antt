@@ -1,5 +1,5 @@
--- How long the walk is: no longer than the count of the numbers of at most w one-bits, which is a sum of binomial coefficients. With 16
--- inputs and a weight limit of 3 it fits 697 places. Assumes nothing.
+-- How long the walk is: no longer than the count of the numbers of at most w one-bits, which is a sum of binomial coefficients. With the
+-- inputs of a list and a weight limit of 3 it fits 697 places. Assumes nothing.
 use mathlib.Core.Path.{_≡_, ap, ap₂, _∙_}
 use mathlib.Core.Bool.{Bool, true, false, cond, _&&_}
 use mathlib.Core.List.{[], _∷_, _++_}
@@ -14,11 +14,12 @@ use lib.ListN.{length, length-append}
 use lib.Pow.{pow-mono}
 use Rattle.sums.specs.Sums.{sum, one, count}
 use Rattle.sums.specs.Laws.{sum-split, sum-cong, sum-none, count-more, count-mono}
+use Rattle.block.specs.Limits.{listInputs}
 use Rattle.candidates.specs.Light.{light}
 use Rattle.walks.specs.Walk.{walkTo, walk}
 
 -- how many numbers of n bits have at most w one-bits, by the highest bit
-fewOf : ℕ → ℕ → ℕ
+unfoldable pub fewOf : ℕ → ℕ → ℕ
 fewOf zero w = 1
 fewOf (suc n) zero = fewOf n zero
 fewOf (suc n) (suc w) = fewOf n (suc w) + fewOf n w
@@ -71,14 +72,27 @@ walk-length w (suc m) = rw (← add-one m, count-more (within w) m) (go (leb 1 (
     go true false h = omega arith
     go false b h = omega arith
 
--- with at most 16 inputs and a weight limit of at most 3
-pub walk-few : (n w : ℕ) → n ≤ 16 → w ≤ 3 → length (walk n w) ≤ 697
-unfolding walk fewOf
-walk-few n w h l = omega (arith, walk-length w (2 ^ n), count-mono (within w) (2 ^ n) (2 ^ 16) (pow-mono h), most w l)
-  where
-    most : (w : ℕ) → w ≤ 3 → count (within w) (2 ^ 16) ≤ 697
-    most zero l = omega (arith, few-count 16 0)
-    most (suc zero) l = omega (arith, few-count 16 1)
-    most (suc (suc zero)) l = omega (arith, few-count 16 2)
-    most (suc (suc (suc zero))) l = omega (arith, few-count 16 3)
-    most (suc (suc (suc (suc w)))) l = absurd (omega arith)
+few-mono : (n w v : ℕ) → w ≤ v → fewOf n w ≤ fewOf n v
+unfolding fewOf
+few-mono zero w v h = omega arith
+few-mono (suc n) zero zero h = omega arith
+few-mono (suc n) zero (suc v) h = omega (arith, few-mono n zero (suc v) (omega arith))
+few-mono (suc n) (suc w) zero h = absurd (omega arith)
+few-mono (suc n) (suc w) (suc v) h = omega (arith, few-mono n (suc w) (suc v) h, few-mono n w v (omega arith))
+
+-- with at most so many inputs and a weight limit of at most so much
+pub walk-at-most : (inputs limit n w : ℕ) → n ≤ inputs → w ≤ limit → length (walk n w) ≤ fewOf inputs limit
+unfolding walk
+walk-at-most inputs limit n w h l =
+    omega (
+      arith,
+      walk-length w (2 ^ n),
+      count-mono (within w) (2 ^ n) (2 ^ inputs) (pow-mono h),
+      few-count inputs w,
+      few-mono inputs w limit l,
+    )
+
+-- with the inputs of a list and a weight limit of at most 3
+pub walk-few : (n w : ℕ) → n ≤ listInputs → w ≤ 3 → length (walk n w) ≤ 697
+unfolding fewOf
+walk-few = walk-at-most listInputs 3

@@ -1,5 +1,5 @@
 -- `walks::sum_of` meets its contract. The loop's invariant: r is the sum of the first i values; it fits, since each is below 2^32
--- and there are at most 24. The measure is what is left. Assumes nothing.
+-- and there are no more than a list has inputs. The measure is what is left. Assumes nothing.
 use mathlib.Core.Path.{_≡_, sym, ap₂, _∙_}
 use Prim.Native.Nat.{ℕ, _≤_, _-_, _^_, _+_, _*_}
 use native.Mathlib.Omega.{arith}
