@@ -1,3 +1,3 @@
--- R by cubes: `Stored` has cubes that lie in three lent lists, `Summed` their sum pair by pair.
+-- R by cubes: `Looped` has the cubes as two loops over pairs meet them, `Stored` cubes that lie in three lent lists.
+pub mod Looped
 pub mod Stored
-pub mod Summed

@@ -1,5 +1,6 @@
 // R of a list of rows by cubes (document 003, Theorem 1), one for each pair of rows with equal words: at one t, pair by pair; and at each
-// t of a list, with the parts of the cubes laid out in three slices. Every function here is inner.
+// t of a list, with the parts of the cubes laid out in three slices. What one pair adds is in pair_weights. Every function here is inner.
+use block::GIVEN_ROWS;
 ghost use mathlib.Core.Path.{_≡_};
 ghost use mathlib.Core.Bool.{cond};
 ghost use Prim.Native.Nat.{ℕ, _-_, _*_, _≤_, _<_, _^_};
@@ -8,33 +9,18 @@ ghost use lib.Count.{ones};
 ghost use lib.Dec.{eqb};
 ghost use lib.ListN.{length, set};
 ghost use Rattle.slices.specs.Places.{at, tab, over};
+ghost use Rattle.block.specs.Limits.{listInputs, givenRows, smallerRows};
 ghost use Rattle.block.specs.Words.{ofRows, rowsOf};
 ghost use Rattle.block.specs.Measure.{shift};
 ghost use Rattle.pairs.specs.Cube.{Sound};
 ghost use Rattle.pairs.specs.Theorem.{Every, Disjoint};
-ghost use Rattle.pairs.specs.Symmetric.{hit, cubesOf};
+ghost use Rattle.pairs.specs.Symmetric.{cubesOf};
 ghost use Rattle.listing.specs.Listing.{Listed};
-ghost use Rattle.cubes.specs.Stored.{CubesAt, addedBy, cubeOf};
+ghost use Rattle.cubes.specs.Looped.{cubesRoom};
+ghost use Rattle.cubes.specs.Stored.{CubesAt, addedBy};
 
-// Whether two words are equal, in all their columns; word 0 is a word like any other.
-pub fn same_word(a: u32, b: u32) -> bool
-    ensures { λ r. ⌜ r ≡ eqb a b ⌝ }
-{
-    a == b
-}
-
-// What a pair of rows weighs: 2 to the number of inputs that neither fixes, once for a row with itself, and twice for two rows, whose
-// pair counts in both orders. A one-bit of `fixed` is an input that one of the two fixes.
-pub fn weight_of(n: usize, fixed: u32, single: bool) -> u32
-    requires { ⌜ (n ≤ 16) × (fixed < 2 ^ n) ⌝ }
-    ensures { λ r. ⌜ r ≡ 2 ^ (n - ones fixed) * cond single 1 2 ⌝ }
-{
-    let once = numbers::power(n - u32::count_ones(fixed) as usize);
-    if single {
-        return once;
-    }
-    once * 2
-}
+// The cubes of the rows given: one for each pair i up to j.
+pub const CUBES: usize = GIVEN_ROWS * (GIVEN_ROWS + 1) / 2;
 
 // Puts the cube of the rows i and j at a place of the three slices.
 pub fn put_cube(
@@ -48,7 +34,7 @@ pub fn put_cube(
     cube_weights: &mut [u32],
     place: usize,
 )
-    requires { ⌜ (n ≤ 16) × (i < length (now masks)) × (j < length (now masks)) × (length (now values) ≡ length (now masks)) ⌝ }
+    requires { ⌜ (n ≤ listInputs) × (i < length (now masks)) × (j < length (now masks)) × (length (now values) ≡ length (now masks)) ⌝ }
     requires { ⌜ (at (now masks) i < 2 ^ n) × (at (now masks) j < 2 ^ n) ⌝ }
     requires { ⌜ (place < length (now «cube_masks»)) × (place < length (now «cube_values»)) × (place < length (now «cube_weights»)) ⌝ }
     ensures { λ _. ⌜ now («cube_masks» .exit) ≡ set (now («cube_masks» .entry)) place (bitAnd (at (now (masks .entry)) i) (at (now (masks .entry)) j)) ⌝ }
@@ -59,7 +45,7 @@ pub fn put_cube(
     let mask2 = masks[j];
     cube_masks[place] = mask & mask2;
     cube_values[place] = (mask & mask2) & (values[i] ^ values[j]);
-    cube_weights[place] = weight_of(n, mask | mask2, i == j);
+    cube_weights[place] = pair_weights::weight_of(n, mask, mask2, i == j);
 }
 
 // Puts the cubes of all pairs of rows with equal words, i up to j, in the order of the loops, and answers how many there are.
@@ -72,16 +58,16 @@ pub fn put_cubes(
     cube_values: &mut [u32],
     cube_weights: &mut [u32],
 ) -> usize
-    requires { ⌜ (n ≤ 16) × Listed 128 (now masks) (now values) (now words) ⌝ }
+    requires { ⌜ (n ≤ listInputs) × Listed givenRows (now masks) (now values) (now words) ⌝ }
     requires { ⌜ Every (Sound n) (rowsOf (now masks) (now values) (now words)) ⌝ }
-    requires { ⌜ (8256 ≤ length (now «cube_masks»)) × (8256 ≤ length (now «cube_values»)) × (8256 ≤ length (now «cube_weights»)) ⌝ }
+    requires { ⌜ (cubesRoom ≤ length (now «cube_masks»)) × (cubesRoom ≤ length (now «cube_values»)) × (cubesRoom ≤ length (now «cube_weights»)) ⌝ }
     ensures { λ r. ⌜ CubesAt (cubesOf n (rowsOf (now (masks .entry)) (now (values .entry)) (now (words .entry)))) (now («cube_masks» .entry)) (now («cube_values» .entry)) (now («cube_weights» .entry)) (now («cube_masks» .exit)) (now («cube_values» .exit)) (now («cube_weights» .exit)) r ⌝ }
 {
     let p = masks.len();
     let mut count: usize = 0;
     for i in 0..p {
         for j in i..p {
-            if same_word(words[i], words[j]) {
+            if pair_weights::same_word(words[i], words[j]) {
                 put_cube(
                     n,
                     masks,
@@ -109,7 +95,7 @@ pub fn shift_by_cubes(
     t: u32,
 ) -> u32
     requires { ⌜ (count ≤ length (now «cube_masks»)) × (count ≤ length (now «cube_values»)) × (count ≤ length (now «cube_weights»)) ⌝ }
-    requires { ⌜ addedBy (now «cube_masks») (now «cube_values») (now «cube_weights») count t ≤ 65536 ⌝ }
+    requires { ⌜ addedBy (now «cube_masks») (now «cube_values») (now «cube_weights») count t ≤ 2 ^ listInputs ⌝ }
     ensures { λ r. ⌜ r ≡ addedBy (now («cube_masks» .entry)) (now («cube_values» .entry)) (now («cube_weights» .entry)) count t ⌝ }
 {
     let mut sum: u32 = 0;
@@ -135,7 +121,7 @@ pub fn shifts_by_cubes(
 )
     requires { ⌜ (count ≤ length (now «cube_masks»)) × (count ≤ length (now «cube_values»)) × (count ≤ length (now «cube_weights»)) ⌝ }
     requires { ⌜ (places ≤ length (now ts)) × (places ≤ length (now out)) ⌝ }
-    requires { ⌜ ((i : ℕ) → i < places → addedBy (now «cube_masks») (now «cube_values») (now «cube_weights») count (at (now ts) i) ≤ 65536) ⌝ }
+    requires { ⌜ ((i : ℕ) → i < places → addedBy (now «cube_masks») (now «cube_values») (now «cube_weights») count (at (now ts) i) ≤ 2 ^ listInputs) ⌝ }
     ensures { λ _. ⌜ now (out .exit) ≡ over (tab places (λ i. addedBy (now («cube_masks» .entry)) (now («cube_values» .entry)) (now («cube_weights» .entry)) count (at (now (ts .entry)) i))) (now (out .entry)) ⌝ }
 {
     let mut i: usize = 0;
@@ -145,25 +131,9 @@ pub fn shifts_by_cubes(
     }
 }
 
-// What the rows i and j, whose words are equal, add to R(t): what their pair weighs where t lies in its cube, and else nothing.
-fn pair_adds(n: usize, masks: &[u32], values: &[u32], i: usize, j: usize, t: u32) -> u32
-    requires { ⌜ (n ≤ 16) × (i < length (now masks)) × (j < length (now masks)) × (length (now values) ≡ length (now masks)) ⌝ }
-    requires { ⌜ (at (now masks) i < 2 ^ n) × (at (now masks) j < 2 ^ n) ⌝ }
-    ensures { λ r. ⌜ r ≡ hit t (cubeOf n (now (masks .entry)) (now (values .entry)) i j) ⌝ }
-    ensures { λ r. ⌜ r ≤ 131072 ⌝ }
-{
-    let mask = masks[i];
-    let mask2 = masks[j];
-    let both = mask & mask2;
-    if t & both == both & (values[i] ^ values[j]) {
-        return weight_of(n, mask | mask2, i == j);
-    }
-    0
-}
-
 // R(t) of a list of disjoint rows. No cube is stored.
 pub fn shift_of_rows(n: usize, masks: &[u32], values: &[u32], words: &[u32], t: u32) -> u32
-    requires { ⌜ (n ≤ 16) × (t < 2 ^ n) × Listed 128 (now masks) (now values) (now words) ⌝ }
+    requires { ⌜ (n ≤ listInputs) × (t < 2 ^ n) × Listed smallerRows (now masks) (now values) (now words) ⌝ }
     requires { ⌜ Disjoint n (rowsOf (now masks) (now values) (now words)) ⌝ }
     ensures { λ r. ⌜ r ≡ shift (ofRows (rowsOf (now (masks .entry)) (now (values .entry)) (now (words .entry)))) n t ⌝ }
 {
@@ -171,8 +141,8 @@ pub fn shift_of_rows(n: usize, masks: &[u32], values: &[u32], words: &[u32], t: 
     let mut sum: u32 = 0;
     for i in 0..p {
         for j in i..p {
-            if same_word(words[i], words[j]) {
-                sum += pair_adds(n, masks, values, i, j, t);
+            if pair_weights::same_word(words[i], words[j]) {
+                sum += pair_weights::pair_adds(n, masks, values, i, j, t);
             }
         }
     }
@@ -189,14 +159,14 @@ pub fn shifts_of_rows(
     places: usize,
     out: &mut [u32],
 )
-    requires { ⌜ (n ≤ 16) × Listed 128 (now masks) (now values) (now words) ⌝ }
+    requires { ⌜ (n ≤ listInputs) × Listed givenRows (now masks) (now values) (now words) ⌝ }
     requires { ⌜ Disjoint n (rowsOf (now masks) (now values) (now words)) ⌝ }
     requires { ⌜ (places ≤ length (now ts)) × (places ≤ length (now out)) × ((i : ℕ) → i < places → at (now ts) i < 2 ^ n) ⌝ }
     ensures { λ _. ⌜ now (out .exit) ≡ over (tab places (λ i. shift (ofRows (rowsOf (now (masks .entry)) (now (values .entry)) (now (words .entry)))) n (at (now (ts .entry)) i))) (now (out .entry)) ⌝ }
 {
-    let mut cube_masks = [0u32; 8256];
-    let mut cube_values = [0u32; 8256];
-    let mut cube_weights = [0u32; 8256];
+    let mut cube_masks = [0u32; CUBES];
+    let mut cube_values = [0u32; CUBES];
+    let mut cube_weights = [0u32; CUBES];
     let count = put_cubes(
         n,
         masks,

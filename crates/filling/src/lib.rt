@@ -3,6 +3,7 @@ ghost use mathlib.Core.Path.{_≡_};
 ghost use Prim.Native.Nat.{ℕ, _≤_, _<_, _^_};
 ghost use lib.ListN.{length};
 ghost use Rattle.slices.specs.Places.{at, tab, over};
+ghost use Rattle.block.specs.Limits.{tableInputs, smallerRows};
 ghost use Rattle.block.specs.Words.{none, row, rowsOf};
 ghost use Rattle.block.specs.Lists.{filled};
 ghost use Rattle.pairs.specs.Cube.{Sound};
@@ -25,7 +26,7 @@ fn clear(size: usize, out: &mut [u16])
 // The row's word at each point under the row: its values at the fixed inputs, and at the free ones each part of them in turn, from the
 // greatest down to 0.
 fn put_row(n: usize, mask: u32, values: u32, word: u16, out: &mut [u16])
-    requires { ⌜ (n ≤ 12) × (2 ^ n ≤ length (now out)) × Sound n (row mask values word) ⌝ }
+    requires { ⌜ (n ≤ tableInputs) × (2 ^ n ≤ length (now out)) × Sound n (row mask values word) ⌝ }
     ensures { λ _. ⌜ RowPut n (row mask values word) (now (out .entry)) (now (out .exit)) ⌝ }
 {
     let free = (numbers::power(n) - 1) ^ mask;
@@ -39,7 +40,7 @@ fn put_row(n: usize, mask: u32, values: u32, word: u16, out: &mut [u16])
 
 // The full table of a list of rows, put from the last row to the first: at a point under two rows the first one's word stays.
 pub fn fill_rows(n: usize, masks: &[u32], values: &[u32], words: &[u32], out: &mut [u16])
-    requires { ⌜ (n ≤ 12) × (2 ^ n ≤ length (now out)) × Listed 512 (now masks) (now values) (now words) ⌝ }
+    requires { ⌜ (n ≤ tableInputs) × (2 ^ n ≤ length (now out)) × Listed smallerRows (now masks) (now values) (now words) ⌝ }
     requires { ⌜ Every (Sound n) (rowsOf (now masks) (now values) (now words)) ⌝ }
     requires { ⌜ ((i : ℕ) → i < length (now words) → at (now words) i < 65536) ⌝ }
     ensures { λ _. ⌜ now (out .exit) ≡ over (filled n (rowsOf (now (masks .entry)) (now (values .entry)) (now (words .entry)))) (now (out .entry)) ⌝ }

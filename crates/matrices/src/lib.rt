@@ -2,17 +2,16 @@
 // made of. Every function here is inner.
 ghost use mathlib.Core.Path.{_≡_};
 ghost use Prim.Native.Nat.{_+_, _≤_, _<_, _^_};
-ghost use lib.Bits.{bitXor};
 ghost use lib.ListN.{length};
 ghost use Rattle.slices.specs.Places.{at, tab, over};
+ghost use Rattle.block.specs.Limits.{listInputs};
 ghost use Rattle.block.specs.Basis.{apply};
-ghost use Rattle.block.specs.Rows.{highest, partner, exchange};
 ghost use Rattle.matrix.specs.Reach.{exchangeRows, shearRows};
 ghost use Rattle.matrix.specs.Images.{Images};
 
 // The matrix with rows s at x: bit j is the parity of (row j AND x).
 pub fn apply_rows(s: &[u32], n: usize, x: u32) -> u32
-    requires { ⌜ (n ≤ length (now s)) × (n ≤ 24) ⌝ }
+    requires { ⌜ (n ≤ length (now s)) × (n ≤ listInputs) ⌝ }
     ensures { λ r. ⌜ r ≡ apply (at (now (s .entry))) n x ⌝ }
 {
     let mut r: u32 = 0;
@@ -26,7 +25,7 @@ pub fn apply_rows(s: &[u32], n: usize, x: u32) -> u32
 
 // Doubles the values of the matrix with columns c that are there: those at each z below 2^i become those below 2^(i + 1).
 fn double_images(c: &[u32], n: usize, i: usize, images: &mut [u32])
-    requires { ⌜ (i < n) × (n ≤ 24) × (n ≤ length (now c)) × (2 ^ n ≤ length (now images)) ⌝ }
+    requires { ⌜ (i < n) × (n ≤ listInputs) × (n ≤ length (now c)) × (2 ^ n ≤ length (now images)) ⌝ }
     requires { ⌜ Images (at (now c)) n (2 ^ i) (now images) ⌝ }
     ensures { λ _. ⌜ Images (at (now (c .entry))) n (2 ^ (i + 1)) (now (images .exit)) ⌝ }
 {
@@ -41,7 +40,7 @@ fn double_images(c: &[u32], n: usize, i: usize, images: &mut [u32])
 
 // The matrix with columns c at every z below 2^n: the XOR of the columns at the one-bits of z. Each value is one XOR from another.
 pub fn put_images(c: &[u32], n: usize, images: &mut [u32])
-    requires { ⌜ (n ≤ 24) × (n ≤ length (now c)) × (2 ^ n ≤ length (now images)) ⌝ }
+    requires { ⌜ (n ≤ listInputs) × (n ≤ length (now c)) × (2 ^ n ≤ length (now images)) ⌝ }
     ensures { λ _. ⌜ Images (at (now (c .entry))) n (2 ^ n) (now (images .exit)) ⌝ }
 {
     images[0] = 0;
@@ -54,7 +53,7 @@ pub fn put_images(c: &[u32], n: usize, images: &mut [u32])
 
 // The columns of the matrix with rows s: its values at 1, 2, 4, ..
 pub fn put_columns(s: &[u32], n: usize, c: &mut [u32])
-    requires { ⌜ (n ≤ length (now s)) × (n ≤ 24) × (n ≤ length (now c)) ⌝ }
+    requires { ⌜ (n ≤ length (now s)) × (n ≤ listInputs) × (n ≤ length (now c)) ⌝ }
     ensures { λ _. ⌜ now (c .exit) ≡ over (tab n (λ j. apply (at (now (s .entry))) n (2 ^ j))) (now (c .entry)) ⌝ }
 {
     let mut j: usize = 0;
@@ -66,7 +65,7 @@ pub fn put_columns(s: &[u32], n: usize, c: &mut [u32])
 
 // The unit numbers 1, 2, 4, .., which are the rows of the matrix that changes nothing.
 pub fn put_units(s: &mut [u32], n: usize)
-    requires { ⌜ (n ≤ length (now s)) × (n ≤ 24) ⌝ }
+    requires { ⌜ (n ≤ length (now s)) × (n ≤ listInputs) ⌝ }
     ensures { λ _. ⌜ now (s .exit) ≡ over (tab n (λ j. 2 ^ j)) (now (s .entry)) ⌝ }
 {
     let mut j: usize = 0;
@@ -74,49 +73,6 @@ pub fn put_units(s: &mut [u32], n: usize)
         s[j] = numbers::power(j);
         j += 1;
     }
-}
-
-// The position of the highest one-bit of y below n, 0 where there is none.
-pub fn highest_bit(n: usize, y: u32) -> usize
-    requires { ⌜ n ≤ 24 ⌝ }
-    ensures { λ r. ⌜ r ≡ highest n y ⌝ }
-{
-    let mut m = n;
-    while 0 < m {
-        m -= 1;
-        if numbers::bit_of(y, m) == 1 {
-            return m;
-        }
-    }
-    0
-}
-
-// The position that is exchanged with k, for the chosen number y in the coordinates reached.
-pub fn partner_of(n: usize, k: usize, y: u32) -> usize
-    requires { ⌜ (k < n) × (n ≤ 24) ⌝ }
-    ensures { λ r. ⌜ r ≡ partner n k y ⌝ }
-{
-    if numbers::bit_of(y, k) == 1 {
-        return k;
-    }
-    highest_bit(n, y)
-}
-
-// y with positions k and h exchanged.
-pub fn exchange_bits(k: usize, h: usize, y: u32) -> u32
-    requires { ⌜ (k < 24) × (h < 24) ⌝ }
-    ensures { λ r. ⌜ r ≡ exchange k h y ⌝ }
-{
-    let d = (numbers::bit_of(y, k) + numbers::bit_of(y, h)) % 2;
-    numbers::xor_where(y, numbers::power(k) ^ numbers::power(h), d)
-}
-
-// The chosen number y after the exchange with h, without bit k.
-pub fn rest_of(k: usize, h: usize, y: u32) -> u32
-    requires { ⌜ (k < 24) × (h < 24) ⌝ }
-    ensures { λ r. ⌜ r ≡ bitXor (exchange k h y) (2 ^ k) ⌝ }
-{
-    exchange_bits(k, h, y) ^ numbers::power(k)
 }
 
 // Rows k and h exchanged.
@@ -132,7 +88,7 @@ pub fn exchange_rows(s: &mut [u32], n: usize, k: usize, h: usize)
 
 // Row k added to the rows where v has a one.
 pub fn shear_rows(s: &mut [u32], n: usize, k: usize, v: u32)
-    requires { ⌜ (n ≤ length (now s)) × (k < n) × (n ≤ 24) ⌝ }
+    requires { ⌜ (n ≤ length (now s)) × (k < n) × (n ≤ listInputs) ⌝ }
     ensures { λ _. ⌜ now (s .exit) ≡ over (tab n (shearRows k v (at (now (s .entry))))) (now (s .entry)) ⌝ }
 {
     let r = s[k];

@@ -7,7 +7,7 @@ ghost use Rattle.bits.specs.Digits.{bit, parity};
 
 // 2 to the power k.
 pub fn power(k: usize) -> u32
-    requires { ⌜ k ≤ 24 ⌝ }
+    requires { ⌜ k < 32 ⌝ }
     ensures { λ r. ⌜ r ≡ 2 ^ k ⌝ }
 {
     1u32 << k
@@ -15,7 +15,7 @@ pub fn power(k: usize) -> u32
 
 // The same as a size.
 pub fn size(k: usize) -> usize
-    requires { ⌜ k ≤ 24 ⌝ }
+    requires { ⌜ k < 64 ⌝ }
     ensures { λ r. ⌜ r ≡ 2 ^ k ⌝ }
 {
     1usize << k
@@ -30,7 +30,7 @@ pub fn parity_of(a: u32) -> u32
 
 // Bit j of a.
 pub fn bit_of(a: u32, j: usize) -> u32
-    requires { ⌜ j ≤ 24 ⌝ }
+    requires { ⌜ j < 32 ⌝ }
     ensures { λ r. ⌜ r ≡ bit a j ⌝ }
 {
     (a >> j) % 2

@@ -1,12 +1,13 @@
 -- R of disjoint rows by unordered pairs: one cube (mask, value, weight) for each pair i ≤ j with equal words, in the order of two
 -- nested loops, its weight doubled where i < j; R(t) is the sum over the cubes. Then the list of cubes as such loops build it, how
--- long it can be, and the sum as a loop over three stored lists has it. Not here: the sum over ordered pairs (`Theorem`).
+-- long it can be, the sum as the loops reach it, which never passes 2^n, and the sum as a loop over three stored lists has it. Not
+-- here: the sum over ordered pairs (`Theorem`).
 -- Assumes nothing.
 use mathlib.Core.Path.{_≡_, refl, sym, ap, ap₂, _∙_}
 use mathlib.Core.Bool.{Bool, true, false, cond, _&&_, and-false}
 use mathlib.Core.List.{List, [], _∷_, _++_, map, append-assoc, append-nil}
 use Prim.Native.Nat.{ℕ, zero, suc, _+_, _-_, _*_, _^_, _≤_, _<_}
-use native.Mathlib.Nat.{mul-le-mul, zero-mul}
+use native.Mathlib.Nat.{mul-le-mul, zero-mul, add-zero, add-suc}
 use native.Mathlib.Numerals.{add-one}
 use native.Mathlib.Omega.{arith}
 use borrow.Author.Tests.{eq-eqb, ne-eqb, le-leb, lt-leb, leb-true}
@@ -25,7 +26,7 @@ use Rattle.block.specs.Refusals.{rowAt}
 use Rattle.block.specs.declared.Row.{Row}
 use Rattle.pairs.specs.Cube.{Sound}
 use Rattle.pairs.specs.Closed.{fixedBoth, demanded, freeBoth, pair-closed, pair-turn}
-use Rattle.pairs.specs.Theorem.{Every, Disjoint, pairAt, shift-pairs}
+use Rattle.pairs.specs.Theorem.{Every, Disjoint, pairAt, shift-pairs, shift-le}
 
 -- where t, under the mask, has the value, the cube adds its weight to R(t)
 pub record Cube : Type 0 where
@@ -160,15 +161,28 @@ cubes-length n rs m k =
 
 -- ---- the sum over the cubes
 
+module _ (t : ℕ) where
+  pub added-none : added t [] ≡ 0
+  added-none = sum-zero (λ q. hit t (getD [] q (cube 0 0 0)))
+
+  added-append : (cs ds : List Cube) → added t (cs ++ ds) ≡ added t cs + added t ds
+  added-append cs ds = sum-append (hit t) (cube 0 0 0) cs ds
+
+  added-alone : (c : Cube) → added t (c ∷ []) ≡ hit t c
+  added-alone c = sum-suc (λ q. hit t (getD (c ∷ []) q (cube 0 0 0))) 0 ∙ omega (arith, sum-zero (λ q. hit t (getD (c ∷ []) q (cube 0 0 0))))
+
+  added-last : (b : Bool) (c : Cube) → added t (cond b (c ∷ []) []) ≡ cond b (hit t c) 0
+  added-last true c = added-alone c
+  added-last false c = added-none
+
+  -- one cube more
+  pub added-push : (cs : List Cube) (c : Cube) → added t (cs ++ (c ∷ [])) ≡ added t cs + hit t c
+  added-push cs c = added-append cs (c ∷ []) ∙ ap (λ (x : ℕ). added t cs + x) (added-alone c)
+
 module _ (n : ℕ) (rs : List Row) (t : ℕ) where
   -- what the pair i, j adds if only pairs i ≤ j are counted
   abbrev portion : ℕ → ℕ → ℕ
   portion i j = cond (leb i j) (pairAt n rs t i j * cond (eqb i j) 1 2) 0
-
-  added-last : (b : Bool) (c : Cube) → added t (cond b (c ∷ []) []) ≡ cond b (hit t c) 0
-  added-last true c =
-      sum-suc (λ q. hit t (getD (c ∷ []) q (cube 0 0 0))) 0 ∙ omega (arith, sum-zero (λ q. hit t (getD (c ∷ []) q (cube 0 0 0))))
-  added-last false c = sum-zero (λ q. hit t (getD [] q (cube 0 0 0)))
 
   conds : (a b e : Bool) (w d : ℕ) → cond (a && b) (cond e (w * d) 0) 0 ≡ cond a (cond b (cond e w 0) 0 * d) 0
   conds true true true w d = refl
@@ -178,11 +192,11 @@ module _ (n : ℕ) (rs : List Row) (t : ℕ) where
 
   row-added : Every (Sound n) rs → (i j : ℕ) → i < length rs → j ≤ length rs → added t (rowCubes n rs i j) ≡ sum (portion i) j
   unfolding rowCubes
-  row-added s i zero hi hj = sum-zero (λ q. hit t (getD [] q (cube 0 0 0))) ∙ sym (sum-zero (portion i))
+  row-added s i zero hi hj = added-none t ∙ sym (sum-zero (portion i))
   row-added s i (suc j) hi hj =
-      sum-append (hit t) (cube 0 0 0) (rowCubes n rs i j) (cond (listed rs i j) (cubeAt n rs i j ∷ []) [])
+      added-append t (rowCubes n rs i j) (cond (listed rs i j) (cubeAt n rs i j ∷ []) [])
       ∙ ap₂ _+_ (row-added s i j hi (omega arith))
-      (added-last (listed rs i j) (cubeAt n rs i j)
+      (added-last t (listed rs i j) (cubeAt n rs i j)
       ∙ conds (leb i j) (eqb (rowAt rs i .word) (rowAt rs j .word))
       (eqb (bitAnd t (fixedBoth (rowAt rs i) (rowAt rs j))) (demanded (rowAt rs i) (rowAt rs j)))
       (2 ^ freeBoth n (rowAt rs i) (rowAt rs j)) (cond (eqb i j) 1 2)
@@ -192,11 +206,47 @@ module _ (n : ℕ) (rs : List Row) (t : ℕ) where
 
   below-added : Every (Sound n) rs → (i : ℕ) → i ≤ length rs → added t (cubesBelow n rs i) ≡ sum (λ i. sum (portion i) (length rs)) i
   unfolding cubesBelow
-  below-added s zero h = sum-zero (λ q. hit t (getD [] q (cube 0 0 0))) ∙ sym (sum-zero (λ i. sum (portion i) (length rs)))
+  below-added s zero h = added-none t ∙ sym (sum-zero (λ i. sum (portion i) (length rs)))
   below-added s (suc i) h =
-      sum-append (hit t) (cube 0 0 0) (cubesBelow n rs i) (rowCubes n rs i (length rs))
+      added-append t (cubesBelow n rs i) (rowCubes n rs i (length rs))
       ∙ ap₂ _+_ (below-added s i (omega arith)) (row-added s i (length rs) (omega arith) (omega arith))
       ∙ sym (sum-suc (λ i. sum (portion i) (length rs)) i)
+
+  row-fewer : (i j d : ℕ) → added t (rowCubes n rs i j) ≤ added t (rowCubes n rs i (j + d))
+  unfolding rowCubes
+  row-fewer i j zero = rw (add-zero j) (omega arith)
+  row-fewer i j (suc d) =
+      rw (add-suc j d)
+      (omega (
+        arith,
+        row-fewer i j d,
+        added-append t (rowCubes n rs i (j + d)) (cond (listed rs i (j + d)) (cubeAt n rs i (j + d) ∷ []) []),
+      ))
+
+  below-fewer : (i d : ℕ) → added t (cubesBelow n rs i) ≤ added t (cubesBelow n rs (i + d))
+  unfolding cubesBelow
+  below-fewer i zero = rw (add-zero i) (omega arith)
+  below-fewer i (suc d) =
+      rw (add-suc i d)
+      (omega (arith, below-fewer i d, added-append t (cubesBelow n rs (i + d)) (rowCubes n rs (i + d) (length rs))))
+
+  -- the pairs before i, j add no more than all
+  pub added-fewer : (i j : ℕ) → i < length rs → j ≤ length rs → added t (cubesTo n rs i j) ≤ added t (cubesOf n rs)
+  unfolding cubesOf cubesTo cubesBelow
+  added-fewer i j hi hj =
+      let p : ℕ = length rs in
+      let last : j + (p - j) ≡ p = omega arith in
+      let row : added t (rowCubes n rs i j) ≤ added t (rowCubes n rs i p) = rw last at (row-fewer i j (p - j)) in
+      let end : suc i + (p - suc i) ≡ p = omega arith in
+      let below : added t (cubesBelow n rs (suc i)) ≤ added t (cubesBelow n rs p) = rw end at (below-fewer (suc i) (p - suc i)) in
+      omega (
+        arith,
+        row,
+        below,
+        added-append t (cubesBelow n rs i) (rowCubes n rs i j),
+        added-append t (cubesBelow n rs i) (rowCubes n rs i p),
+        added-append t (cubesBelow n rs p) (rowCubes n rs p p),
+      )
 
   -- R(t) is what the cubes add
   pub shift-cubes : Disjoint n rs → t < 2 ^ n → shift (ofRows rs) n t ≡ added t (cubesOf n rs)
@@ -214,6 +264,10 @@ module _ (n : ℕ) (rs : List Row) (t : ℕ) where
       turn i j hi hj =
           ap₂ (λ (b : Bool) (x : ℕ). cond b x 0) (eqb-turn (rowAt rs i .word) (rowAt rs j .word))
           (pair-turn n (rowAt rs i) (rowAt rs j) t (d .sound i hi) (d .sound j hj))
+
+  -- so no sum on the way passes the number of points
+  pub added-small : Disjoint n rs → t < 2 ^ n → (i j : ℕ) → i < length rs → j ≤ length rs → added t (cubesTo n rs i j) ≤ 2 ^ n
+  added-small d h i j hi hj = omega (arith, added-fewer i j hi hj, shift-cubes d h, shift-le (ofRows rs) n t)
 
 -- the same sum over cubes whose parts lie at the front of three lists
 pub added-stored : (t : ℕ) (cs : List Cube) (masks values weights : List ℕ)

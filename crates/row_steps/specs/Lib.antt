@@ -1,4 +1,2 @@
--- Lists of rows in flat slices, a row's halves, and the step at which a list passes 512 rows.
-pub mod Held
-pub mod Split
+-- The step at which a list passes the most rows of a smaller block, and the replay of the steps.
 pub mod Passed

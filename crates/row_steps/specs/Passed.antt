@@ -1,4 +1,4 @@
--- The step at which a list passes 512 rows, for numbers c chosen at the steps, and what a replay of the n steps answers.
+-- The step at which a list passes smallerRows rows, for numbers c chosen at the steps, and what a replay of the n steps answers.
 -- Assumes nothing.
 use mathlib.Core.Path.{_≡_, sym, ap, _∙_}
 use mathlib.Core.Bool.{cond}
@@ -22,42 +22,42 @@ use Rattle.matrix.specs.Reached.{Independent, independent-fewer}
 use Rattle.matrix.specs.Reach.{reachRows}
 use Rattle.moves.specs.Step.{stepRows}
 use Rattle.moves.specs.Moved.{moved-suc, moved-length}
-use Rattle.choosing.specs.Steps.{apply-held}
+use Rattle.matrix_steps.specs.Steps.{apply-held}
 use Rattle.row_steps.specs.declared.Replay.{Replay}
 
--- the least i with more than 512 rows after step i + 1; n where there is none
+-- the least i with more than smallerRows rows after step i + 1; n where there is none
 unfoldable pub passingBy : ℕ → (ℕ → ℕ) → List Row → ℕ
 passingBy n c rs = first n (λ i. ltb smallerRows (length (moved n c (suc i) rs)))
 
--- what comes back: the first step, from 1, at which the list passes 512 rows, or 0 with the number of the rows that the slices hold
+-- what comes back: the first step, from 1, at which the list passes smallerRows rows, or 0 with the number of the rows that the slices hold
 pub record Replayed (n : ℕ) (c : ℕ → ℕ) (rs : List Row) (masks values words : List ℕ) (r : Replay) : Type 0 where
   pub stopped : r .step ≡ cond (ltb (passingBy n c rs) n) (suc (passingBy n c rs)) 0
   pub counted : r .count ≡ cond (ltb (passingBy n c rs) n) 0 (length (moved n c n rs))
-  pub few : r .count ≤ 512
+  pub few : r .count ≤ smallerRows
   pub rows : r .step ≡ 0 → rowsFrom (r .count) masks values words ≡ moved n c n rs
 
 module _ (n : ℕ) (c : ℕ → ℕ) (rs : List Row) where
-  fewer : (k j : ℕ) → j < k → length (moved n c k rs) ≤ 512 → length (moved n c (suc j) rs) ≤ 512
+  fewer : (k j : ℕ) → j < k → length (moved n c k rs) ≤ smallerRows → length (moved n c (suc j) rs) ≤ smallerRows
   fewer k j h l = omega (arith, moved-length n c (suc j) k rs (omega arith))
 
-  -- after k steps there are no more than 512, and after one more there are
-  pub passes-at : (k : ℕ) → k < n → length (moved n c k rs) ≤ 512 → 512 < length (moved n c (suc k) rs) → passingBy n c rs ≡ k
+  -- after k steps there are no more than smallerRows, and after one more there are
+  pub passes-at : (k : ℕ) → k < n → length (moved n c k rs) ≤ smallerRows → smallerRows < length (moved n c (suc k) rs) → passingBy n c rs ≡ k
   unfolding passingBy
   passes-at k h l m =
       first-is n (λ i. ltb smallerRows (length (moved n c (suc i) rs))) k (omega arith)
-      (λ j u. le-ltb 512 (length (moved n c (suc j) rs)) (fewer k j u l))
-      (λ u. lt-ltb 512 (length (moved n c (suc k) rs)) m)
+      (λ j u. le-ltb smallerRows (length (moved n c (suc j) rs)) (fewer k j u l))
+      (λ u. lt-ltb smallerRows (length (moved n c (suc k) rs)) m)
 
-  -- after all steps there are no more than 512
-  pub passes-never : length (moved n c n rs) ≤ 512 → passingBy n c rs ≡ n
+  -- after all steps there are no more than smallerRows
+  pub passes-never : length (moved n c n rs) ≤ smallerRows → passingBy n c rs ≡ n
   unfolding passingBy
   passes-never l =
       first-is n (λ i. ltb smallerRows (length (moved n c (suc i) rs))) n (omega arith)
-      (λ j u. le-ltb 512 (length (moved n c (suc j) rs)) (fewer n j u l))
+      (λ j u. le-ltb smallerRows (length (moved n c (suc j) rs)) (fewer n j u l))
       (λ u. absurd (omega arith))
 
-  -- what comes back where the list passes 512 rows at step k + 1
-  pub replay-stopped : (k : ℕ) (m v w : List ℕ) → k < n → length (moved n c k rs) ≤ 512 → 512 < length (moved n c (suc k) rs)
+  -- what comes back where the list passes smallerRows rows at step k + 1
+  pub replay-stopped : (k : ℕ) (m v w : List ℕ) → k < n → length (moved n c k rs) ≤ smallerRows → smallerRows < length (moved n c (suc k) rs)
       → Replayed n c rs m v w (record { step = k + 1; count = 0 })
   replay-stopped k m v w h l u =
       let e : passingBy n c rs ≡ k = passes-at k h l u in
@@ -69,7 +69,7 @@ module _ (n : ℕ) (c : ℕ → ℕ) (rs : List Row) where
       }
 
   -- and where it never does
-  pub replay-done : (count : ℕ) (m v w : List ℕ) → count ≤ 512 → rowsFrom count m v w ≡ moved n c n rs
+  pub replay-done : (count : ℕ) (m v w : List ℕ) → count ≤ smallerRows → rowsFrom count m v w ≡ moved n c n rs
       → Replayed n c rs m v w (record { step = 0; count = count })
   replay-done count m v w l d =
       let length-is : count ≡ length (moved n c n rs)

@@ -24,7 +24,7 @@ use Rattle.matrix.specs.Inverse.{length-inverse}
 use Rattle.moves.specs.Moved.{moved-cong}
 use Rattle.choosing.specs.Found.{Found}
 use Rattle.choosing.specs.declared.Measures.{Measures}
-use Rattle.row_steps.specs.Held.{rows-copied}
+use Rattle.row_adding.specs.Held.{rows-copied}
 use Rattle.row_steps.specs.Passed.{passingBy, Replayed}
 use Rattle.row_steps.specs.declared.Replay.{Replay}
 use Rattle.row_work.specs.declared.RowWork.{RowWork}

@@ -12,9 +12,9 @@ ghost use Rattle.block.specs.Words.{ofRows, rowsOf};
 ghost use Rattle.pairs.specs.Theorem.{Disjoint};
 ghost use Rattle.listing.specs.Listing.{Listed, rowsFrom};
 ghost use Rattle.matrix.specs.Reached.{Independent};
-ghost use Rattle.choosing.specs.Walk.{walk};
+ghost use Rattle.walks.specs.Walk.{walk};
 ghost use Rattle.choosing.specs.Found.{Found};
-ghost use Rattle.row_steps.specs.Held.{Room};
+ghost use Rattle.row_adding.specs.Held.{Room};
 ghost use Rattle.row_steps.specs.Passed.{Replayed};
 ghost use Rattle.row_work.specs.Work.{ListPut, RowsWorked};
 ghost use Rattle.row_work.specs.Method.{MethodDone};
@@ -37,7 +37,7 @@ fn find_basis_in(
     requires { ⌜ Disjoint n (rowsOf (now masks) (now values) (now words)) ⌝ }
     ensures { λ r. ⌜ Found (ofRows (rowsOf (now (masks .entry)) (now (values .entry)) (now (words .entry)))) n w (now (basis .entry)) (now (sigma .entry)) (now (basis .exit)) (now (sigma .exit)) r ⌝ }
 {
-    let count = choosing::put_walk(n, w, candidates);
+    let count = walks::put_walk(n, w, candidates);
     cubes::shifts_of_rows(n, masks, values, words, candidates, count, shifts);
     choosing::choose_basis(candidates, shifts, count, n, w, basis, sigma)
 }
@@ -105,9 +105,9 @@ pub fn replay_rows(
     ensures { λ r. ⌜ Replayed n (at (now (basis .entry))) (rowsOf (now (masks .entry)) (now (values .entry)) (now (words .entry))) (now («new_masks» .exit)) (now («new_values» .exit)) (now («new_words» .exit)) r ⌝ }
 {
     let p = masks.len();
-    row_steps::copy_first(masks, p, new_masks);
-    row_steps::copy_first(values, p, new_values);
-    row_steps::copy_first(words, p, new_words);
+    copying::copy_first(masks, p, new_masks);
+    copying::copy_first(values, p, new_values);
+    copying::copy_first(words, p, new_words);
     row_steps::move_rows(n, basis, p, new_masks, new_values, new_words)
 }
 
@@ -125,9 +125,9 @@ pub fn put_list(
     requires { ⌜ (count ≤ length (now «out_masks»)) × (count ≤ length (now «out_values»)) × (count ≤ length (now «out_words»)) ⌝ }
     ensures { λ _. ⌜ ListPut (rowsFrom count (now (masks .entry)) (now (values .entry)) (now (words .entry))) (now («out_masks» .entry)) (now («out_values» .entry)) (now («out_words» .entry)) (now («out_masks» .exit)) (now («out_values» .exit)) (now («out_words» .exit)) ⌝ }
 {
-    row_steps::copy_first(masks, count, out_masks);
-    row_steps::copy_first(values, count, out_values);
-    row_steps::copy_first(words, count, out_words);
+    copying::copy_first(masks, count, out_masks);
+    copying::copy_first(values, count, out_values);
+    copying::copy_first(words, count, out_words);
 }
 
 // What the work comes to: the first step, from 1, at which the list passes 512 rows, or 0, both measures and the number of rows.
@@ -181,8 +181,8 @@ pub fn work_rows(
             count: 0,
         };
     }
-    row_steps::copy_first(&t, n, basis);
-    row_steps::copy_first(&s, n, sigma);
+    copying::copy_first(&t, n, basis);
+    copying::copy_first(&s, n, sigma);
     put_list(
         m.count,
         &new_masks,

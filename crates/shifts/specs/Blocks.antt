@@ -1,49 +1,38 @@
 -- R of a full table by blocks of 64 points: t is high * 64 + low. The table is held to a copy of itself that is moved by low and marks
 -- the points without an output, so that one comparison says all of a point. Blocks b and b XOR high add the same, so each such pair is
--- counted once. First the definitions, then the copy, the number of blocks, what a pair adds, and R. Not here: the order in which the
--- values are stored (`Light`). Assumes nothing.
+-- counted once. First the copy, then R, and that no sum on the way passes 2^n. Not here: what a pair of blocks adds (table_words), and
+-- the order in which the values are stored (`Light`). Assumes nothing.
 use mathlib.Core.Path.{_≡_, refl, sym, ap, _∙_}
 use mathlib.Core.Bool.{Bool, true, false, not, cond, _&&_, and-false}
 use mathlib.Core.List.{List}
-use Prim.Native.Nat.{ℕ, _+_, _*_, _-_, _/_, _^_, _≤_, _<_}
+use Prim.Native.Nat.{ℕ, _+_, _*_, _-_, _^_, _≤_, _<_}
 use native.Mathlib.Decide.{ℕ-discrete}
 use native.Mathlib.Omega.{arith}
-use native.Mathlib.Nat.{mul-one}
-use borrow.Author.Tests.{ltb-true, eq-eqb, ne-eqb, lt-leb, le-leb}
+use borrow.Author.Tests.{ltb-true, eq-eqb, ne-eqb}
 use lib.Bits.{bitXor, xor-lt, xor-block, xor-zero-r}
 use lib.Dec.{eqb, ltb, leb}
 use lib.ListN.{length}
-use lib.Pow.{pow-mono, pow-add}
+use lib.Pow.{pow-mono}
 use Rattle.bits.specs.Xor.{xor-cancel-r, eqb-turn}
 use Rattle.slices.specs.Places.{at, tab, over}
 use Rattle.slices.specs.Filled.{length-over, over-at, getD-any}
 use Rattle.sums.specs.Sums.{sum, count}
-use Rattle.sums.specs.Laws.{count-cong, count-le, count-blocks, count-moved, sum-cong, sum-paired}
+use Rattle.sums.specs.Laws.{count-cong, count-le, count-blocks, count-moved, sum-cong, sum-mono, sum-paired}
+use Rattle.block.specs.Limits.{tableInputs, outputs}
 use Rattle.block.specs.Words.{none, ofTable}
 use Rattle.block.specs.Measure.{same, shift}
 use Rattle.block.specs.Refusals.{badEntry}
-
--- an entry as the copy holds it: no output is marked by 65,534, which no entry is
-abbrev pub marked : ℕ → ℕ
-marked w = cond (eqb w none) 65534 w
-
--- how many of the 64 points of block b hold in a what the same points of block c hold in p
-unfoldable pub matching : List ℕ → List ℕ → ℕ → ℕ → ℕ
-matching a p b c = count (λ i. eqb (at a (b * 64 + i)) (at p (c * 64 + i))) 64
-
--- what the blocks b and b XOR high add to R together, counted at the smaller of the two
-unfoldable pub pairAdds : List ℕ → List ℕ → ℕ → ℕ → ℕ
-pairAdds a p high b = cond (leb b (bitXor b high)) (matching a p b (bitXor b high) * cond (eqb b (bitXor b high)) 1 2) 0
+use Rattle.table_words.specs.Matching.{hole, marked, matching, pairAdds, whole, point-lt}
 
 -- a full table of at least one block, in which no entry is the mark
 pub record FullTable (table : List ℕ) (n : ℕ) : Type 0 where
   pub entries : length table ≡ 2 ^ n
   pub least : 6 ≤ n
-  pub most : n ≤ 12
-  pub unmarked : (i : ℕ) → i < 2 ^ n → at table i ≡ 65534 → ⊥
+  pub most : n ≤ tableInputs
+  pub unmarked : (i : ℕ) → i < 2 ^ n → at table i ≡ hole → ⊥
 
 -- an entry that passes the checks is not the mark
-pub good-unmarked : (k x : ℕ) → k ≤ 15 → badEntry k x ≡ false → x ≡ 65534 → ⊥
+pub good-unmarked : (k x : ℕ) → k ≤ outputs → badEntry k x ≡ false → x ≡ hole → ⊥
 good-unmarked k x h good e = go (ltb x (2 ^ k)) refl
   where
     go : (b : Bool) → ltb x (2 ^ k) ≡ b → ⊥
@@ -71,47 +60,6 @@ copy-made table p l n low b h r e =
       copy = λ y hy. ap (λ (k : List ℕ). at k y) e ∙ over-at (2 ^ n) (λ y. marked (at table (bitXor y low))) l 0 y hy;
     }
 
--- 2^(n-6) blocks
-pub whole : (n : ℕ) → 6 ≤ n → 2 ^ n ≡ 2 ^ (n - 6) * 64
-whole n h = ap (λ (k : ℕ). 2 ^ k) (omega arith) ∙ pow-add 2 (n - 6) 6
-
-pub number-of-blocks : (n size : ℕ) → 6 ≤ n → size ≡ 2 ^ n → size / 64 ≡ 2 ^ (n - 6)
-number-of-blocks n size h e = omega (arith, whole n h)
-
-pub block-le : (n b : ℕ) → 6 ≤ n → b < 2 ^ (n - 6) → b * 64 + 64 ≤ 2 ^ n
-block-le n b h hb = omega (arith, whole n h)
-
--- a point of a block
-pub point-lt : (n b i : ℕ) → 6 ≤ n → b < 2 ^ (n - 6) → i < 64 → b * 64 + i < 2 ^ n
-point-lt n b i h hb hi = omega (arith, whole n h)
-
-pub matching-le : (a p : List ℕ) (b c : ℕ) → matching a p b c ≤ 64
-unfolding matching
-matching-le a p b c = count-le (λ i. eqb (at a (b * 64 + i)) (at p (c * 64 + i))) 64
-
--- what a pair adds, by which block is the smaller
-module _ (a p : List ℕ) (high b : ℕ) where
-  pub pair-counted : bitXor b high < b → 0 ≡ pairAdds a p high b
-  unfolding pairAdds
-  pair-counted h = rw (lt-leb b (bitXor b high) h)
-
-  pub pair-alone : b ≡ bitXor b high → matching a p b (bitXor b high) ≡ pairAdds a p high b
-  unfolding pairAdds
-  pair-alone e = rw (le-leb b (bitXor b high) (omega arith), eq-eqb b (bitXor b high) e) (sym (mul-one _))
-
-  pub pair-both : b ≤ bitXor b high → (b ≡ bitXor b high → ⊥) → matching a p b (bitXor b high) * 2 ≡ pairAdds a p high b
-  unfolding pairAdds
-  pair-both h n = rw (le-leb b (bitXor b high) h, ne-eqb b (bitXor b high) n)
-
-  pub pair-le : pairAdds a p high b ≤ 128
-  unfolding pairAdds
-  pair-le = go (leb b (bitXor b high)) (eqb b (bitXor b high)) (matching-le a p b (bitXor b high))
-    where
-      go : (c d : Bool) → matching a p b (bitXor b high) ≤ 64 → cond c (matching a p b (bitXor b high) * cond d 1 2) 0 ≤ 128
-      go true true h = omega arith
-      go true false h = omega arith
-      go false d h = omega arith
-
 -- ---- R
 
 and-turn : (a b c : Bool) → (a && (b && c)) ≡ (b && (a && c))
@@ -127,11 +75,11 @@ same-turn f t x =
     (and-turn (not (eqb (f (bitXor x t)) none)) (not (eqb (f x) none)) (eqb (f x) (f (bitXor x t))))
 
 -- the copy is compared with at once: both have an output and the words are equal
-same-marked : (a b : ℕ) → (a ≡ 65534 → ⊥) → (not (eqb a none) && (not (eqb b none) && eqb a b)) ≡ eqb a (marked b)
+same-marked : (a b : ℕ) → (a ≡ hole → ⊥) → (not (eqb a none) && (not (eqb b none) && eqb a b)) ≡ eqb a (marked b)
 same-marked a b h = go (ℕ-discrete b none) (ℕ-discrete a none)
   where
     go : Dec (b ≡ none) → Dec (a ≡ none) → (not (eqb a none) && (not (eqb b none) && eqb a b)) ≡ eqb a (marked b)
-    go (yes e) d = rw (eq-eqb b none e, ne-eqb a 65534 h) (and-false (not (eqb a none)))
+    go (yes e) d = rw (eq-eqb b none e, ne-eqb a hole h) (and-false (not (eqb a none)))
     go (no n) (yes e) = rw (ne-eqb b none n, eq-eqb a none e) (sym (ne-eqb a b (omega arith)))
     go (no n) (no m) = rw (ne-eqb b none n, ne-eqb a none m)
 
@@ -196,3 +144,14 @@ module _ (table p : List ℕ) (n low high : ℕ) (c : Copied table p n low) (hh 
       ∙ sum-paired adds (λ b. bitXor b high) (2 ^ (n - 6)) other-lt (λ b hb. xor-cancel-r b high) adds-turn
       ∙ sum-cong _ _ (2 ^ (n - 6))
       (λ b hb. ap (λ (x : ℕ). cond (leb b (bitXor b high)) (x * cond (eqb b (bitXor b high)) 1 2) 0) (adds-matching b hb))
+
+  -- so no sum on the way passes the number of points
+  pub pairs-small : (b : ℕ) → b < 2 ^ (n - 6) → sum (pairAdds table p high) (b + 1) ≤ 2 ^ n
+  unfolding shift
+  pairs-small b h =
+      omega (
+        arith,
+        sum-mono (pairAdds table p high) (b + 1) (2 ^ (n - 6)) (omega arith),
+        shift-blocks,
+        count-le (same (ofTable table) (high * 64 + low)) (2 ^ n),
+      )

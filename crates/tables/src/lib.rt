@@ -20,7 +20,7 @@ pub fn table_value(n: usize, k: usize, t: usize, table: &[u16]) -> ValueAnswer
             value: 0,
         };
     }
-    let value = shifts::shift_at(table, n, t);
+    let value = table_values::shift_at(table, n, t);
     ValueAnswer {
         number: v.number,
         a: v.a,
@@ -85,10 +85,10 @@ pub fn restore_table(
         return v;
     }
     let mut reached = [0u32; TABLE_INPUTS];
-    let j = choosing::first_dependent(n, sigma, &mut reached);
+    let j = matrix_steps::first_dependent(n, sigma, &mut reached);
     if j < n {
         return checks::refuse(8, j, 0);
     }
-    smaller_tables::put_restored(sigma, n, smaller, table);
+    restoring::put_restored(sigma, n, smaller, table);
     checks::refuse(0, 0, 0)
 }

@@ -6,8 +6,9 @@ use Prim.Native.Nat.{_≤_, _-_}
 use native.Mathlib.Omega.{arith}
 use denote.Ref.{now}
 use Rattle.slices.specs.Places.{at}
+use Rattle.walks.specs.Walk.{valueAt, walked-light, value-here}
 use Rattle.choosing.specs.Steps.{candidateBy}
-use Rattle.choosing.specs.Walk.{valueAt, Leads, leads-none, leads-taken, leads-left, leads-all, walked-light, value-here}
+use Rattle.choosing.specs.Search.{Leads, leads-none, leads-taken, leads-left, leads-all}
 use borrow.Author.Needs.{needs}
 use Rattle.choosing.proofs.choose.Statement.{statement}
 use Rattle.choosing.proofs.choose.Tie as tie

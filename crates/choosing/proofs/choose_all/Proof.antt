@@ -9,8 +9,9 @@ use Rattle.slices.specs.Places.{tab, over}
 use Rattle.slices.specs.Filled.{over-none, over-more, over-over}
 use Rattle.choice.specs.Chosen.{pick}
 use Rattle.matrix.specs.Reach.{reachRows}
-use Rattle.choosing.specs.Steps.{reach-start, reach-turn, choose-turn}
-use Rattle.choosing.specs.Walk.{valueAt}
+use Rattle.matrix_steps.specs.Steps.{reach-start, reach-turn}
+use Rattle.walks.specs.Walk.{valueAt}
+use Rattle.choosing.specs.Steps.{choose-turn}
 use borrow.Author.Needs.{needs}
 use Rattle.choosing.proofs.choose_all.Statement.{statement}
 use Rattle.choosing.proofs.choose_all.Tie as tie

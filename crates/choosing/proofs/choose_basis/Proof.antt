@@ -7,8 +7,8 @@ use Rattle.slices.specs.Places.{tab, over}
 use Rattle.slices.specs.Filled.{over-over}
 use Rattle.choice.specs.Chosen.{pick}
 use Rattle.matrix.specs.Reach.{reachRows}
+use Rattle.walks.specs.Walk.{valueAt}
 use Rattle.choosing.specs.Steps.{sum-held}
-use Rattle.choosing.specs.Walk.{valueAt}
 use borrow.Author.Needs.{needs}
 use Rattle.choosing.proofs.choose_basis.Statement.{statement}
 use Rattle.choosing.proofs.choose_basis.Tie as tie

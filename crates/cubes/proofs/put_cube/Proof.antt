@@ -2,9 +2,7 @@
 use mathlib.Core.Path.{refl, ap}
 use Prim.Native.Nat.{ℕ}
 use denote.Ref.{now}
-use lib.Bits.{or-lt}
 use lib.ListN.{set}
-use Rattle.slices.specs.Places.{at}
 use borrow.Author.Needs.{needs}
 use Rattle.cubes.proofs.put_cube.Statement.{statement}
 use Rattle.cubes.proofs.put_cube.Tie as tie
@@ -47,9 +45,8 @@ slice-write-cube-values c = search needs
 
 weight-of-requires : tie.Need-weight-of-requires
 weight-of-requires c κs =
-    let s = c .before .before .before .before .before .before .before .before .before in
-    let m = now (s .args .masks) in
-    (s .pre .0 .0, or-lt (s .args .n) (at m (s .args .i)) (at m (s .args .j)) (s .pre .1 .0 .0) (s .pre .1 .0 .1))
+    let p = c .before .before .before .before .before .before .before .before .before .pre in
+    (p .0 .0, p .1 .0 .0, p .1 .0 .1)
 
 mul-cube-weights : tie.Need-mul-cube-weights
 mul-cube-weights c = search needs

@@ -9,15 +9,13 @@ use denote.Ref.{now}
 use lib.ListN.{length}
 use Rattle.block.specs.Words.{rowsOf}
 use Rattle.pairs.specs.Symmetric.{cubesTo, cubes-none}
-use Rattle.cubes.specs.Stored.{CubesAt, Grown, cubes-at-none, cubeOf, cubes-put, cubes-pass, mask-fixed, cubes-fit, row-done, rows-done, grown-more, grown-same}
+use Rattle.pair_weights.specs.Places.{cubeOf}
+use Rattle.cubes.specs.Looped.{cubesRoom, cubes-put, cubes-pass, mask-fixed, cubes-fit, row-done, rows-done}
+use Rattle.cubes.specs.Stored.{CubesAt, Grown, cubes-at-none, grown-more, grown-same}
 use borrow.Author.Tests.{eqb-true, eqb-false}
 use borrow.Author.Needs.{needs}
 use Rattle.cubes.proofs.put_cubes.Statement.{statement}
 use Rattle.cubes.proofs.put_cubes.Tie as tie
-use Rattle.cubes.proofs.put_cubes.Reads as reads
-use Rattle.cubes.proofs.put_cubes.Lts as lts
-use Rattle.cubes.proofs.put_cube.Reads as put-cube-reads
-use Rattle.cubes.proofs.same_word.Reads as same-word-reads
 
 abbrev Inv-loop2 : tie.InvT-loop2
 Inv-loop2 n masks values words cube-masks₀ cube-values₀ cube-weights₀ p count₀ i j₀ cube-masks cube-values cube-weights count j =
@@ -42,16 +40,14 @@ abbrev μ-loop : tie.MeasureT-loop
     p - i
 
 -- one cube more has room
-fits : (c : tie.In-loop2 Inv-loop2 μ-loop2 Inv-loop μ-loop) → c .before .loop2 .count < 8256
+fits : (c : tie.In-loop2 Inv-loop2 μ-loop2 Inv-loop μ-loop) → c .before .loop2 .count < cubesRoom
 fits c =
     let s = c .before .before .before .before .before .before .before .before .before .before in
     let a = s .args in
     let l = s .pre .0 .1 in
     omega (
       arith,
-      cubes-fit (a .n) (now (a .masks)) (now (a .values)) (now (a .words)) (l .values-too) (l .words-too)
-          (c .before .before .before .loop .i) (c .before .loop2 .j)
-          (omega arith) (omega arith) (l .few),
+      cubes-fit (a .n) l (c .before .before .before .loop .i) (c .before .loop2 .j) (omega arith) (omega arith),
     )
 
 loop-holds : tie.Need-loop-holds Inv-loop2 μ-loop2 Inv-loop μ-loop
@@ -96,8 +92,7 @@ put-cube-requires c κs =
     let a = s .args in
     let l = s .pre .0 .1 in
     let small = fits (c .before .before .before .before .before .before .before) in
-    let below = mask-fixed (a .n) (now (a .masks)) (now (a .values)) (now (a .words)) (l .values-too) (l .words-too)
-    (s .pre .1 .0) in (
+    let below = mask-fixed (a .n) l (s .pre .1 .0) in (
       (search needs, search needs, search needs, search needs),
       ((below _ (omega arith), below _ (omega arith)), (omega arith, omega arith, omega arith)),
     )
@@ -120,9 +115,9 @@ loop2-again c =
     let i = c .before .before .before .before .before .before .before .loop .i in
     let o = c .before .before .before .before .before .loop2 in
     let small = fits (c .before .before .before .before) in
-    let put = cubes-put (a .n) (now (a .masks)) (now (a .values)) (now (a .words)) (l .values-too) (l .words-too) i (o .j)
+    let put = cubes-put (a .n) l i (o .j)
     (omega arith) (omega arith) in
-    let pass = cubes-pass (a .n) (now (a .masks)) (now (a .values)) (now (a .words)) (l .values-too) (l .words-too) i (o .j)
+    let pass = cubes-pass (a .n) l i (o .j)
     (omega arith) (omega arith) in (
       search needs,
       search needs,
@@ -153,7 +148,7 @@ loop-again c =
     let l = s .pre .0 .1 in
     let i = c .before .before .before .loop .i in
     let o = c .before .before .before .loop in
-    let d = row-done (a .n) (now (a .masks)) (now (a .values)) (now (a .words)) (l .values-too) (l .words-too) i
+    let d = row-done (a .n) l i
     (c .before .loop2 .j) (omega arith) in (
       search needs,
       omega arith,
@@ -176,8 +171,7 @@ returns c =
     let s = c .before .before .before .before .before .before .before .before in
     let a = s .args in
     let l = s .pre .0 .1 in
-    let d = rows-done (a .n) (now (a .masks)) (now (a .values)) (now (a .words)) (l .values-too) (l .words-too)
-    (c .before .loop .i) (omega arith) in
+    let d = rows-done (a .n) l (c .before .loop .i) (omega arith) in
     rw d (c .before .loop .inv .4)
 
 pub put-cubes-spec : {M : Type 1} → statement M

@@ -8,7 +8,8 @@ use denote.Ref.{now}
 use Rattle.sums.specs.Laws.{sum-zero}
 use Rattle.slices.specs.Places.{at}
 use Rattle.pairs.specs.Symmetric.{cube}
-use Rattle.cubes.specs.Stored.{addedBy, hit-taken, hit-left, added-more, added-step}
+use Rattle.pair_weights.specs.Places.{hit-taken, hit-left}
+use Rattle.cubes.specs.Stored.{addedBy, added-more, added-step}
 use borrow.Author.Needs.{needs}
 use Rattle.cubes.proofs.shift_by_cubes.Statement.{statement}
 use Rattle.cubes.proofs.shift_by_cubes.Tie as tie

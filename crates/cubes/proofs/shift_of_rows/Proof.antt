@@ -1,33 +1,33 @@
 -- `cubes::shift_of_rows` meets its contract. The invariant of both loops: the sum is what the cubes of the pairs before i, j add. The
--- measures are the numbers of rows left. Assumes nothing.
-use mathlib.Core.Path.{sym, ap, _∙_}
+-- measures are the numbers of rows left. No sum on the way passes R, which is at most 2^n. Assumes nothing.
+use mathlib.Core.Path.{_≡_, sym, ap, _∙_}
 use mathlib.Core.Logic.{⊎-elim}
 use Prim.Native.Nat.{_≤_, _<_, _-_}
 use native.Mathlib.Omega.{arith}
 use denote.Ref.{now}
+use Rattle.block.specs.Limits.{listInputs}
 use Rattle.block.specs.Words.{rowsOf}
-use Rattle.pairs.specs.Symmetric.{added, cubesTo, cubes-none, shift-cubes}
-use Rattle.cubes.specs.Stored.{cubeOf, cubes-put, cubes-pass, mask-fixed, cubes-fit, row-done, rows-done}
-use Rattle.cubes.specs.Summed.{Summed, summed-none, summed-more, summed-same}
+use Rattle.pairs.specs.Symmetric.{added, added-none, cubesTo, cubes-none}
+use Rattle.cubes.specs.Looped.{cubes-pass, mask-fixed, sum-put, sum-small, row-done, sum-done}
 use borrow.Author.Tests.{eqb-true, eqb-false}
 use borrow.Author.Needs.{needs}
 use Rattle.cubes.proofs.shift_of_rows.Statement.{statement}
 use Rattle.cubes.proofs.shift_of_rows.Tie as tie
 
 abbrev Inv-loop2 : tie.InvT-loop2
-Inv-loop2 n masks values words t p sum₀ i j₀ sum j = (i < p) × (i ≤ j) × (j ≤ p) × Summed t (cubesTo n (rowsOf masks values words) i j) sum
+Inv-loop2 n masks values words t p sum₀ i j₀ sum j = (i < p) × (i ≤ j) × (j ≤ p) × (sum ≡ added t (cubesTo n (rowsOf masks values words) i j))
 
 abbrev μ-loop2 : tie.MeasureT-loop2
 μ-loop2 n masks values words t p sum₀ i j₀ sum j = p - j
 
 abbrev Inv-loop : tie.InvT-loop
-Inv-loop n masks values words t p sum₀ i₀ sum i = (i ≤ p) × Summed t (cubesTo n (rowsOf masks values words) i i) sum
+Inv-loop n masks values words t p sum₀ i₀ sum i = (i ≤ p) × (sum ≡ added t (cubesTo n (rowsOf masks values words) i i))
 
 abbrev μ-loop : tie.MeasureT-loop
 μ-loop n masks values words t p sum₀ i₀ sum i = p - i
 
 loop-holds : tie.Need-loop-holds Inv-loop2 μ-loop2 Inv-loop μ-loop
-loop-holds c = (search needs, rw (cubes-none _ _) (summed-none _))
+loop-holds c = (search needs, rw (cubes-none _ _) (sym (added-none (c .before .before .before .args .t))))
 
 loop2-holds : tie.Need-loop2-holds Inv-loop2 μ-loop2 Inv-loop μ-loop
 loop2-holds c = (search needs, search needs, search needs, c .before .loop .inv .1)
@@ -54,7 +54,7 @@ pair-adds-requires c κs =
     let s = c .before .before .before .before .before .before .before .before .before .before .before in
     let a = s .args in
     let l = s .pre .0 .2 in
-    let below = mask-fixed (a .n) (now (a .masks)) (now (a .values)) (now (a .words)) (l .values-too) (l .words-too) (s .pre .1 .sound) in
+    let below = mask-fixed (a .n) l (s .pre .1 .sound) in
     ((search needs, search needs, search needs, l .values-too), (below _ (omega arith), below _ (omega arith)))
 
 add-sum : tie.Need-add-sum Inv-loop2 μ-loop2 Inv-loop μ-loop
@@ -62,11 +62,13 @@ add-sum c =
     let s = c .before .before .before .before .before .before .before .before .before .before .before .before in
     let a = s .args in
     let l = s .pre .0 .2 in
+    let i = c .before .before .before .before .before .before .before .before .loop .i in
+    let o = c .before .before .before .before .before .before .loop2 in
     omega (
       arith,
-      c .pair-adds .ensures .1,
-      c .before .before .before .before .before .before .loop2 .inv .3 .small,
-      cubes-fit (a .n) (now (a .masks)) (now (a .values)) (now (a .words)) (l .values-too) (l .words-too) (c .before .before .before .before .before .before .before .before .loop .i) (c .before .before .before .before .before .before .loop2 .j) (omega arith) (omega arith) (l .few),
+      sum-put (a .n) l i (o .j) (omega arith) (omega arith) (omega arith)
+          (eqb-true _ _ (sym (c .before .before .same-word .ensures) ∙ c .before .if1 .taken)) (a .t) _ _ (o .inv .3) (c .pair-adds .ensures),
+      sum-small (a .n) l i (o .j) (omega arith) (omega arith) (s .pre .1) listInputs (a .t) (s .pre .0 .1) (s .pre .0 .0),
     )
 
 add-j : tie.Need-add-j Inv-loop2 μ-loop2 Inv-loop μ-loop
@@ -82,18 +84,18 @@ loop2-again c =
     let l = s .pre .0 .2 in
     let i = c .before .before .before .before .before .before .before .loop .i in
     let o = c .before .before .before .before .before .loop2 in
-    let put = cubes-put (a .n) (now (a .masks)) (now (a .values)) (now (a .words)) (l .values-too) (l .words-too) i (o .j) (omega arith) (omega arith) in
-    let pass = cubes-pass (a .n) (now (a .masks)) (now (a .values)) (now (a .words)) (l .values-too) (l .words-too) i (o .j) (omega arith) (omega arith) in (
+    let same = sym (c .before .same-word .ensures) in (
       search needs,
       search needs,
       search needs,
       ⊎-elim
           (λ w.
-          summed-more _ _ _ _ _ (o .inv .3) (cubeOf (a .n) (now (a .masks)) (now (a .values)) i (o .j)) _
-          (put (omega arith) (eqb-true _ _ (sym (c .before .same-word .ensures) ∙ w .0 .taken)))
-          (w .1 .ensures .0) (w .1 .ensures .1) (w .2))
+          w .2
+          ∙ sum-put (a .n) l i (o .j) (omega arith) (omega arith) (omega arith) (eqb-true _ _ (same ∙ w .0 .taken)) (a .t) _ _
+          (o .inv .3) (w .1 .ensures))
           (λ w.
-          summed-same _ _ _ _ _ (o .inv .3) (pass (eqb-false _ _ (sym (c .before .same-word .ensures) ∙ w .0 .left))) (w .1))
+          w .1 ∙ o .inv .3
+          ∙ ap (added (a .t)) (sym (cubes-pass (a .n) l i (o .j) (omega arith) (omega arith) (eqb-false _ _ (same ∙ w .0 .left)))))
           (c .if1 .came),
     )
 
@@ -108,18 +110,13 @@ loop-again c =
     let s = c .before .before .before .before .before .before .before in
     let a = s .args in
     let l = s .pre .0 .2 in
-    let d = row-done (a .n) (now (a .masks)) (now (a .values)) (now (a .words)) (l .values-too) (l .words-too) (c .before .before .before .loop .i) (c .before .loop2 .j) (omega arith) in
+    let d = row-done (a .n) l (c .before .before .before .loop .i) (c .before .loop2 .j) (omega arith) in
     (search needs, rw d (c .before .loop2 .inv .3))
 
 returns : tie.Need-returns Inv-loop2 μ-loop2 Inv-loop μ-loop
 returns c =
     let s = c .before .before .before .before .before in
-    let a = s .args in
-    let l = s .pre .0 .2 in
-    let d = rows-done (a .n) (now (a .masks)) (now (a .values)) (now (a .words)) (l .values-too) (l .words-too) (c .before .loop .i) (omega arith) in
-    c .before .loop .inv .1 .adds
-    ∙ ap (added (a .t)) (sym d)
-    ∙ sym (shift-cubes (a .n) (rowsOf (now (a .masks)) (now (a .values)) (now (a .words))) (a .t) (s .pre .1) (s .pre .0 .1))
+    sum-done (s .args .n) (s .pre .0 .2) (s .pre .1) (c .before .loop .i) (s .args .t) _ (s .pre .0 .1) (omega arith) (c .before .loop .inv .1)
 
 pub shift-of-rows-spec : {M : Type 1} → statement M
 shift-of-rows-spec =

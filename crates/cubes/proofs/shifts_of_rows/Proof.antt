@@ -5,8 +5,10 @@ use Prim.Native.Nat.{ℕ}
 use native.Mathlib.Omega.{arith}
 use denote.Ref.{now}
 use Rattle.slices.specs.Places.{at, over}
+use Rattle.block.specs.Limits.{listInputs}
 use Rattle.block.specs.Words.{rowsOf}
-use Rattle.cubes.specs.Stored.{cubes-shifts, cubes-small, cubes-few}
+use Rattle.cubes.specs.Looped.{cubes-few}
+use Rattle.cubes.specs.Stored.{cubes-shifts, cubes-small}
 use borrow.Author.Needs.{needs}
 use Rattle.cubes.proofs.shifts_of_rows.Statement.{statement}
 use Rattle.cubes.proofs.shifts_of_rows.Tie as tie
@@ -40,12 +42,13 @@ shifts-by-cubes-requires c κs =
     let a = s .args in
     let p = c .before .before .before .before .before .before .before .put-cubes in
     let k = p .kept .1 .1 .1 .1 in
-    let few = cubes-few (a .n) (now (a .masks)) (now (a .values)) (now (a .words)) _ _ _ _ _ _ _ (s .pre .0 .1) (p .ensures) in (
+    let few = cubes-few (a .n) (s .pre .0 .1) in
+    let number = p .ensures .count in (
       (omega (arith, k .0), omega (arith, k .1 .0), omega (arith, k .1 .1 .0)),
       (
         (s .pre .1 .1 .0, s .pre .1 .1 .1),
         λ i h. cubes-small (a .n) (rowsOf (now (a .masks)) (now (a .values)) (now (a .words))) (s .pre .1 .0) _ _ _ _ _ _ _
-            (p .ensures) (at (now (a .ts)) i) (s .pre .1 .1 .2 i h) (s .pre .0 .0),
+            (p .ensures) listInputs (at (now (a .ts)) i) (s .pre .1 .1 .2 i h) (s .pre .0 .0),
       ),
     )
 

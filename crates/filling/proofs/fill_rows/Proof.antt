@@ -5,6 +5,7 @@ use Prim.Native.Nat.{_≤_, _-_, _^_}
 use native.Mathlib.Omega.{arith}
 use denote.Ref.{now}
 use lib.ListN.{length}
+use Rattle.block.specs.Limits.{smallerRows}
 use Rattle.block.specs.Words.{rowsOf}
 use Rattle.filling.specs.Points.{TableFrom, table-none, table-all, sound-row, table-row}
 use Rattle.listing.specs.Listing.{rows-count}
@@ -18,6 +19,10 @@ Inv-loop n masks values words out₀ i₀ out i =
 
 abbrev μ-loop : tie.MeasureT-loop
 μ-loop n masks values words out₀ i₀ out i = i
+
+-- where the function begins, from the loop
+abbrev start : tie.At-loop Inv-loop μ-loop → tie.Start Inv-loop μ-loop
+start c = c .before .before .before .before .before .before .before .before .before .before
 
 size-requires : tie.Need-size-requires Inv-loop μ-loop
 size-requires c κs = search needs
@@ -59,26 +64,27 @@ shared-slice-read-put-row-3 c = search needs
 
 cast-put-row : tie.Need-cast-put-row Inv-loop μ-loop
 cast-put-row c =
-    let s = c .before .before .before .before .before .before .before .before .before .before .before .before .before .before in
-    omega (arith, s .pre .1 .1 (c .before .before .before .before .loop .i - 1) (omega arith))
+    let turn = c .before .before .before .before in
+    omega (arith, start turn .pre .1 .1 (turn .loop .i - 1) (omega arith))
 
 put-row-requires : tie.Need-put-row-requires Inv-loop μ-loop
 put-row-requires c κs =
-    let s = c .before .before .before .before .before .before .before .before .before .before .before .before .before .before .before in
-    (search needs, search needs, sound-row (s .args .n) 512 (now (s .args .masks)) (now (s .args .values)) (now (s .args .words)) (s .pre .0 .2) _ (omega arith) (s .pre .1 .0))
+    let s = start (c .before .before .before .before .before) in
+    (search needs, search needs, sound-row (s .args .n) smallerRows (now (s .args .masks)) (now (s .args .values)) (now (s .args .words)) (s .pre .0 .2) _ (omega arith) (s .pre .1 .0))
 
 loop-less : tie.Need-loop-less Inv-loop μ-loop
 loop-less c = search needs
 
 loop-again : tie.Need-loop-again Inv-loop μ-loop
 loop-again c =
-    let s = c .before .before .before .before .before .before .before .before .before .before .before .before .before .before .before .before .before .before in
-    let i = c .before .before .before .before .before .before .before .before .loop .inv in (
+    let turn = c .before .before .before .before .before .before .before .before in
+    let s = start turn in
+    let l = turn .loop in (
       search needs,
       search needs,
       search needs,
-      table-row (s .args .n) 512 (now (s .args .masks)) (now (s .args .values)) (now (s .args .words)) (s .pre .0 .2) (c .before .before .before .before .before .before .before .before .loop .i - 1) (omega arith)
-          (c .before .before .before .before .before .before .before .before .loop .i) _ _ _ (omega arith) (i .1) (i .3) (c .before .before .put-row .ensures),
+      table-row (s .args .n) smallerRows (now (s .args .masks)) (now (s .args .values)) (now (s .args .words)) (s .pre .0 .2) (l .i - 1) (omega arith)
+          (l .i) _ _ _ (omega arith) (l .inv .1) (l .inv .3) (c .before .before .put-row .ensures),
     )
 
 same-length : tie.Need-same-length Inv-loop μ-loop

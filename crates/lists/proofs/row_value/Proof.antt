@@ -31,7 +31,8 @@ shift-of-rows-requires c κs =
     let a = checked .before .before .before .before .args in
     let w = value-checked (a .n) (a .k) (a .t) (now (a .masks)) (now (a .values)) (now (a .words)) _
     (checked .row-value-verdict .ensures) (c .if1 .left) in
-    ((w .0 .size .1, w .1, w .0 .listed), w .0 .disjoint)
+    let l = w .0 .listed in
+    ((w .0 .size .1, w .1, record { values-too = l .values-too; words-too = l .words-too; some = l .some; few = omega arith }), w .0 .disjoint)
 
 cast-t11 : tie.Need-cast-t11
 cast-t11 c = search needs

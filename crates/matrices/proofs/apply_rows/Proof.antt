@@ -6,6 +6,7 @@ use native.Mathlib.Omega.{arith}
 use lib.Pow.{pow-mono}
 use denote.Ref.{now}
 use Rattle.slices.specs.Places.{at}
+use Rattle.block.specs.Limits.{listInputs}
 use Rattle.block.specs.Basis.{apply}
 use Rattle.matrix.specs.Linear.{apply-none, apply-more, apply-lt}
 use borrow.Author.Needs.{needs}
@@ -26,10 +27,10 @@ next c =
     ap₂ _+_ (c .before .before .before .before .loop .inv .1) (ap₂ _*_ (c .before .parity-of .ensures) (c .power .ensures))
     ∙ sym (apply-more _ _ _)
 
-small : (c : tie.After-power Inv-loop μ-loop) → c .before .before .before .before .loop .r + c .before .parity-of .result * c .power .result < 2 ^ 24
+small : (c : tie.After-power Inv-loop μ-loop) → c .before .before .before .before .loop .r + c .before .parity-of .result * c .power .result < 2 ^ listInputs
 small c =
     let a = c .before .before .before .before .before .before .args in
-    let most = pow-mono {i = c .before .before .before .before .loop .j + 1} {j = 24} (omega arith) in
+    let most = pow-mono {i = c .before .before .before .before .loop .j + 1} {j = listInputs} (omega arith) in
     rw (next c) (omega (arith, apply-lt (at (now (a .s))) (c .before .before .before .before .loop .j + 1) (a .x)))
 
 loop-holds : tie.Need-loop-holds Inv-loop μ-loop

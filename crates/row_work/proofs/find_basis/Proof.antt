@@ -2,8 +2,8 @@
 -- nothing.
 use native.Mathlib.Omega.{arith}
 use lib.Pow.{pow-mono}
-use Rattle.choosing.specs.Walk.{walk-below}
-use Rattle.choosing.specs.Few.{walk-few}
+use Rattle.walks.specs.Walk.{walk-below}
+use Rattle.walks.specs.Few.{walk-few}
 use borrow.Author.Needs.{needs}
 use Rattle.row_work.proofs.find_basis.Statement.{statement}
 use Rattle.row_work.proofs.find_basis.Tie as tie

@@ -4,7 +4,7 @@ use native.Mathlib.Omega.{arith}
 use denote.Ref.{now}
 use Rattle.block.specs.Words.{ofRows, rowsOf}
 use Rattle.block.specs.Measure.{shift}
-use Rattle.choosing.specs.Walk.{walked, walked-lt, value-agree}
+use Rattle.walks.specs.Walk.{walked, walked-lt, value-agree}
 use Rattle.choosing.specs.Found.{found}
 use borrow.Author.Needs.{needs}
 use Rattle.row_work.proofs.find_basis_in.Statement.{statement}

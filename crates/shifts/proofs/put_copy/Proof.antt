@@ -8,7 +8,7 @@ use lib.ListN.{length}
 use denote.Ref.{now}
 use Rattle.slices.specs.Places.{at, tab, over}
 use Rattle.slices.specs.Filled.{over-none, over-more}
-use Rattle.shifts.specs.Blocks.{marked}
+use Rattle.table_words.specs.Matching.{marked}
 use borrow.Author.Needs.{needs}
 use Rattle.shifts.proofs.put_copy.Statement.{statement}
 use Rattle.shifts.proofs.put_copy.Tie as tie

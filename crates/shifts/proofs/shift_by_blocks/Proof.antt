@@ -7,8 +7,9 @@ use lib.ListN.{length}
 use lib.Pow.{pow-mono}
 use denote.Ref.{now}
 use Rattle.sums.specs.Sums.{sum}
-use Rattle.sums.specs.Laws.{sum-zero, sum-more, sum-le}
-use Rattle.shifts.specs.Blocks.{pairAdds, pair-le, number-of-blocks, shift-blocks}
+use Rattle.sums.specs.Laws.{sum-zero, sum-more}
+use Rattle.table_words.specs.Matching.{pairAdds, number-of-blocks}
+use Rattle.shifts.specs.Blocks.{shift-blocks, pairs-small}
 use borrow.Author.Needs.{needs}
 use Rattle.shifts.proofs.shift_by_blocks.Statement.{statement}
 use Rattle.shifts.proofs.shift_by_blocks.Tie as tie
@@ -27,8 +28,8 @@ number c =
 loop-holds : tie.Need-loop-holds Inv-loop μ-loop
 loop-holds c = (search needs, sym (sum-zero _))
 
-pair-adds-requires : tie.Need-pair-adds-requires Inv-loop μ-loop
-pair-adds-requires c κs =
+blocks-add-requires : tie.Need-blocks-add-requires Inv-loop μ-loop
+blocks-add-requires c κs =
     let h = c .before .before .before .before .pre in
     (h .0 .full .entries, h .0 .full .least, h .0 .room, h .1, omega (arith, number (c .before)))
 
@@ -37,13 +38,12 @@ add-r c =
     let s = c .before .before .before .before .before in
     let f = pairAdds (now (s .args .table)) (now (s .args .copy)) (s .args .high) in
     let b = c .before .before .loop .b in
-    let most : s .args .n - 6 ≤ 6 = omega arith in
     omega (
       arith,
-      sum-le f 128 b (λ i h. pair-le (now (s .args .table)) (now (s .args .copy)) (s .args .high) i),
-      pair-le (now (s .args .table)) (now (s .args .copy)) (s .args .high) b,
-      c .pair-adds .ensures,
-      pow-mono most,
+      sum-more f b,
+      pairs-small _ _ _ _ _ (s .pre .0) (s .pre .1) b (omega (arith, number (c .before .before))),
+      c .blocks-add .ensures,
+      pow-mono (s .pre .0 .full .most),
     )
 
 add-b : tie.Need-add-b Inv-loop μ-loop
@@ -53,7 +53,7 @@ loop-less : tie.Need-loop-less Inv-loop μ-loop
 loop-less c = search needs
 
 loop-again : tie.Need-loop-again Inv-loop μ-loop
-loop-again c = (omega (arith, number (c .before .before)), rw sum-more (omega (arith, c .pair-adds .ensures)))
+loop-again c = (omega (arith, number (c .before .before)), rw sum-more (omega (arith, c .blocks-add .ensures)))
 
 returns : tie.Need-returns Inv-loop μ-loop
 returns c =
@@ -68,7 +68,7 @@ shift-by-blocks-spec =
     Inv-loop
     μ-loop
     loop-holds
-    pair-adds-requires
+    blocks-add-requires
     add-r
     add-b
     loop-less

@@ -7,9 +7,11 @@ use native.Mathlib.Omega.{arith}
 use lib.ListN.{length, replicate}
 use lib.Pow.{pow-mono}
 use denote.Ref.{now}
+use Rattle.block.specs.Limits.{tableInputs}
 use Rattle.block.specs.Words.{ofTable}
 use Rattle.block.specs.Measure.{shift}
-use Rattle.shifts.specs.Blocks.{number-of-blocks, point-lt, whole, copy-made}
+use Rattle.table_words.specs.Matching.{number-of-blocks, point-lt, whole}
+use Rattle.shifts.specs.Blocks.{copy-made}
 use Rattle.shifts.specs.Light.{LowPut, low-none, low-more, low-skip}
 use borrow.Author.Needs.{needs}
 use Rattle.shifts.proofs.shifts_at_low.Statement.{statement}
@@ -21,17 +23,17 @@ Inv-loop table n w low out₀ copy end high₀ out high = (high ≤ 2 ^ (n - 6))
 abbrev μ-loop : tie.MeasureT-loop
 μ-loop table n w low out₀ copy end high₀ out high = end - high
 
-number : (c : tie.At-loop Inv-loop μ-loop)
-    → length (now (c .before .before .before .before .before .before .args .table)) / 64 ≡ 2 ^ (c .before .before .before .before .before .before .args .n - 6)
-number c =
-    let b = c .before .before .before .before .before .before .pre .0 in
-    number-of-blocks _ _ (b .least) (b .entries)
+-- where the function begins, from the loop
+abbrev start : tie.At-loop Inv-loop μ-loop → tie.Start Inv-loop μ-loop
+start c = c .before .before .before .before .before .before
+
+number : (c : tie.At-loop Inv-loop μ-loop) → length (now (start c .args .table)) / 64 ≡ 2 ^ (start c .args .n - 6)
+number c = number-of-blocks _ _ (start c .pre .0 .least) (start c .pre .0 .entries)
 
 -- the place written is one of the table's points
-within : (c : tie.In-loop Inv-loop μ-loop)
-    → c .before .loop .high * 64 + c .before .before .before .before .before .before .before .args .low < 2 ^ (c .before .before .before .before .before .before .before .args .n)
+within : (c : tie.In-loop Inv-loop μ-loop) → c .before .loop .high * 64 + start (c .before) .args .low < 2 ^ start (c .before) .args .n
 within c =
-    let s = c .before .before .before .before .before .before .before in
+    let s = start (c .before) in
     point-lt (s .args .n) (c .before .loop .high) (s .args .low) (s .pre .0 .least) (omega (arith, number (c .before))) (s .pre .1)
 
 slice-aggregate-put-copy : tie.Need-slice-aggregate-put-copy Inv-loop μ-loop
@@ -52,15 +54,15 @@ add-t : tie.Need-add-t Inv-loop μ-loop
 add-t c = omega (arith, within c)
 
 has-few-requires : tie.Need-has-few-requires Inv-loop μ-loop
-has-few-requires c κs = omega (arith, within c, pow-mono (c .before .before .before .before .before .before .before .pre .0 .most))
+has-few-requires c κs = omega (arith, within c, pow-mono (start (c .before) .pre .0 .most))
 
 slice-aggregate-shift-by-blocks : tie.Need-slice-aggregate-shift-by-blocks Inv-loop μ-loop
 slice-aggregate-shift-by-blocks c = search needs
 
 shift-by-blocks-requires : tie.Need-shift-by-blocks-requires Inv-loop μ-loop
 shift-by-blocks-requires c κs =
-    let s = c .before .before .before .before .before .before .before .before .before .before in (
-      copy-made _ _ (replicate 4096 0) _ _ (s .pre .0) (s .pre .1) (pow-mono (s .pre .0 .most)) (c .before .before .before .before .before .before .put-copy .ensures),
+    let s = start (c .before .before .before .before) in (
+      copy-made _ _ (replicate (2 ^ tableInputs) 0) _ _ (s .pre .0) (s .pre .1) (pow-mono (s .pre .0 .most)) (c .before .before .before .before .before .before .put-copy .ensures),
       omega (arith, number (c .before .before .before .before)),
     )
 
@@ -78,7 +80,7 @@ loop-less c = search needs
 
 loop-again : tie.Need-loop-again Inv-loop μ-loop
 loop-again c =
-    let s = c .before .before .before .before .before .before .before .before .before in
+    let s = start (c .before .before .before) in
     let o = c .before .before .before .loop in (
       omega (arith, number (c .before .before .before)),
       ⊎-elim
@@ -94,7 +96,7 @@ same-length c = c .before .loop .inv .1 .size
 
 returns : tie.Need-returns Inv-loop μ-loop
 returns c =
-    let s = c .before .before .before .before .before .before .before in
+    let s = start (c .before) in
     let end : c .before .loop .high * 64 ≡ 2 ^ s .args .n =
     omega (arith, number (c .before), whole (s .args .n) (s .pre .0 .least)) in
     rw end at (c .before .loop .inv .1)

@@ -1,0 +1,2 @@
+-- A step of the matrix reached.
+pub mod Steps

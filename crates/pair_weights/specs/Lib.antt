@@ -1,0 +1,2 @@
+-- The cube of two rows, by their places.
+pub mod Places

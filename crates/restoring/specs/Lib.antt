@@ -1,0 +1,2 @@
+-- The restored table as a table read through a matrix.
+pub mod Through

@@ -1,0 +1,2 @@
+-- What becomes of a row at a step.
+pub mod Halves

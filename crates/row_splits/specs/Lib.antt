@@ -1,0 +1,2 @@
+-- What becomes of a list of rows at a step.
+pub mod Split

@@ -1,0 +1,2 @@
+-- R of a table, one point at a time.
+pub mod Points

@@ -1,0 +1,100 @@
+-- `walks::put_walk` meets its contract. The loop's invariant: the walk below t lies at the front, and the rest holds what it held.
+-- The measure is what is left. Assumes nothing.
+use mathlib.Core.Path.{_≡_, sym, _∙_}
+use mathlib.Core.Bool.{true}
+use mathlib.Core.Logic.{⊎-elim}
+use Prim.Native.Nat.{_≤_, _<_, _-_, _^_}
+use native.Mathlib.Omega.{arith}
+use lib.ListN.{length}
+use lib.Pow.{pow-mono}
+use Rattle.candidates.specs.Light.{light}
+use Rattle.walks.specs.Walk.{walk, Laid, laid-none, laid-room, laid-taken, laid-left}
+use borrow.Author.Needs.{needs}
+use Rattle.walks.proofs.put_walk.Statement.{statement}
+use Rattle.walks.proofs.put_walk.Tie as tie
+
+abbrev Inv-loop : tie.InvT-loop
+Inv-loop n w out₀ size count₀ t₀ out count t = (t ≤ size) × (size ≡ 2 ^ n) × Laid w t out₀ out count
+
+abbrev μ-loop : tie.MeasureT-loop
+μ-loop n w out₀ size count₀ t₀ out count t = size - t
+
+-- a number of the walk has room
+room : (c : tie.Then1 Inv-loop μ-loop) → light (c .before .before .before .before .before .before .args .w) (c .before .before .before .loop .t) ≡ true
+    → c .before .before .before .loop .count < length (walk (c .before .before .before .before .before .before .args .n) (c .before .before .before .before .before .before .args .w))
+room c h = let p = c .before .before .before .loop in laid-room _ _ (p .t) _ _ _ (p .inv .2) h (omega arith)
+
+size-requires : tie.Need-size-requires Inv-loop μ-loop
+size-requires c κs = search needs
+
+loop-holds : tie.Need-loop-holds Inv-loop μ-loop
+loop-holds c = (search needs, c .size .ensures, laid-none _ _)
+
+cast-is-light : tie.Need-cast-is-light Inv-loop μ-loop
+cast-is-light c = omega (arith, pow-mono (c .before .before .before .before .pre .1))
+
+is-light-requires : tie.Need-is-light-requires Inv-loop μ-loop
+is-light-requires c κs = search needs
+
+cast-out : tie.Need-cast-out Inv-loop μ-loop
+cast-out c = omega (arith, pow-mono (c .before .before .before .before .before .before .pre .1))
+
+mul-out : tie.Need-mul-out Inv-loop μ-loop
+mul-out c = omega (arith, room c (sym (c .before .is-light .ensures) ∙ c .if1 .taken))
+
+slice-write-out : tie.Need-slice-write-out Inv-loop μ-loop
+slice-write-out c = omega (arith, room c (sym (c .before .is-light .ensures) ∙ c .if1 .taken), c .before .before .before .loop .inv .2 .size)
+
+add-count : tie.Need-add-count Inv-loop μ-loop
+add-count c = search needs
+
+add-t : tie.Need-add-t Inv-loop μ-loop
+add-t c = search needs
+
+loop-less : tie.Need-loop-less Inv-loop μ-loop
+loop-less c = search needs
+
+loop-again : tie.Need-loop-again Inv-loop μ-loop
+loop-again c =
+    let s = c .before .before .before .before .before .before in
+    let p = c .before .before .before .loop in
+    let light = sym (c .before .is-light .ensures) in (
+      search needs,
+      search needs,
+      ⊎-elim
+          (λ d. laid-taken _ (p .t) _ _ _ _ _ (p .inv .2) (light ∙ d .0 .taken)
+          (omega (arith, laid-room (s .args .n) (s .args .w) (p .t) _ _ _ (p .inv .2) (light ∙ d .0 .taken) (omega arith))) (d .1) (d .2))
+          (λ d. laid-left _ (p .t) _ _ _ _ _ (p .inv .2) (light ∙ d .0 .left) (d .1) (d .2))
+          (c .if1 .came),
+    )
+
+same-length : tie.Need-same-length Inv-loop μ-loop
+same-length c = search needs
+
+returns : tie.Need-returns Inv-loop μ-loop
+unfolding walk
+returns c =
+    let p = c .before .loop in
+    let end : p .t ≡ 2 ^ c .before .before .before .before .args .n = omega arith in
+    let all = rw end at (p .inv .2) in
+    (all .holds, all .counted)
+
+pub put-walk-spec : {M : Type 1} → statement M
+put-walk-spec =
+    tie.close
+    (tie.spec
+    Inv-loop
+    μ-loop
+    size-requires
+    loop-holds
+    cast-is-light
+    is-light-requires
+    cast-out
+    mul-out
+    slice-write-out
+    add-count
+    add-t
+    loop-less
+    loop-again
+    same-length
+    returns)
