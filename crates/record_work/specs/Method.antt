@@ -12,7 +12,7 @@ use lib.ListN.{length, take, drop}
 use Rattle.slices.specs.Places.{first}
 use Rattle.slices.specs.Least.{first-below}
 use Rattle.block.specs.Limits.{listInputs, givenRows, smallerRows}
-use Rattle.block.specs.Words.{ofRows}
+use Rattle.block.specs.Words.{ofRows, maskPart, valuesPart, wordPart}
 use Rattle.block.specs.Basis.{basisOf, sigmaOf}
 use Rattle.block.specs.Refusals.{check, verdict, answered, carried, stored, outside, sizeChecks}
 use Rattle.block.specs.Lists.{countCheck, badRowCheck, shareCheck, rowsAfter, passing, methodChecks, rowMethodVerdict, rowMethod, smallerList}
@@ -22,7 +22,6 @@ use Rattle.block.specs.declared.RowMethodAnswer.{RowMethodAnswer}
 use Rattle.verdicts.specs.Verdicts.{answered-clear}
 use Rattle.checks.specs.Sizes.{inside}
 use Rattle.record_work.specs.declared.FlatRows.{FlatRows}
-use Rattle.lines.specs.ByPlace.{maskPart, valuesPart, wordPart}
 use Rattle.record_work.specs.Flat.{Sized}
 use Rattle.record_work.specs.Yielded.{Yielded, yields}
 

@@ -3,15 +3,16 @@
 use mathlib.Core.Path.{_≡_, refl, sym, ap, _∙_}
 use mathlib.Core.Bool.{Bool, true, false}
 use mathlib.Core.List.{List, [], _∷_, _++_, map}
-use Prim.Native.Nat.{ℕ, suc, _+_, _≤_, _<_, min}
+use Prim.Native.Nat.{ℕ, _≤_, _<_, min}
 use native.Mathlib.Decide.{decLt}
 use native.Mathlib.Omega.{arith}
 use borrow.Author.Tests.{lt-ltb, le-ltb, ltb-false}
 use lib.Dec.{ltb}
 use lib.ListN.{length, take, drop}
 use Rattle.block.specs.Limits.{listInputs, givenRows}
+use Rattle.block.specs.Words.{maskPart, valuesPart, wordPart}
 use Rattle.block.specs.Refusals.{Check, check, verdict, answered, carried, stored, outside, sizeChecks}
-use Rattle.block.specs.Text.{headNumber, faulty, readVerdict, readText, rowsIn, numbers}
+use Rattle.block.specs.Text.{inputsIn, outputsIn, countIn, headCheck, bodyCheck, readChecks, readVerdict, withHeadings, readText, rowsIn, numbers}
 use Rattle.block.specs.declared.Answer.{Answer}
 use Rattle.block.specs.declared.ReadAnswer.{ReadAnswer}
 use Rattle.block.specs.declared.Reading.{Reading}
@@ -19,7 +20,6 @@ use Rattle.verdicts.specs.Verdicts.{answered-clear}
 use Rattle.checks.specs.Sizes.{inside}
 use Rattle.record_work.specs.declared.FlatRows.{FlatRows}
 use Rattle.lines.specs.Front.{rows-count}
-use Rattle.lines.specs.ByPlace.{maskPart, valuesPart, wordPart}
 use Rattle.record_work.specs.Flat.{Sized}
 use Rattle.record_work.specs.Cut.{past}
 use Rattle.record_work.specs.Yielded.{Yielded, yields}
@@ -38,58 +38,39 @@ unfolding readVerdict
 read-cut text room = go (outside 1 givenRows p) refl
   where
     n : ℕ
-    n = headNumber text 0
+    n = inputsIn text
 
     k : ℕ
-    k = headNumber text 1
+    k = outputsIn text
 
     p : ℕ
-    p = headNumber text 2
+    p = countIn text
 
     pre : List Check
-    pre = check (ltb (faulty text 3) 3) 10 (suc (faulty text 3)) 0 ∷ sizeChecks listInputs n k []
+    pre = headCheck text ∷ sizeChecks listInputs n k []
 
     rest : ℕ → List Check
-    rest r = check (ltb r p) 5 0 0 ∷ check (ltb (faulty text (5 + p)) (5 + p)) 10 (suc (faulty text (5 + p))) 0 ∷ []
+    rest r = check (ltb r p) 5 0 0 ∷ bodyCheck text ∷ []
 
     go : (b : Bool) → outside 1 givenRows p ≡ b
         → verdict (pre ++ (check (outside 1 givenRows p) 4 0 0 ∷ rest (min room 513))) ≡ verdict (pre ++ (check (outside 1 givenRows p) 4 0 0 ∷ rest room))
     go true e = past pre (check (outside 1 givenRows p) 4 0 0) (rest (min room 513)) (rest room) e
     go false e =
-        ap (λ (b : Bool). verdict (pre ++ (check (outside 1 givenRows p) 4 0 0 ∷ check b 5 0 0 ∷ check (ltb (faulty text (5 + p)) (5 + p)) 10 (suc (faulty text (5 + p))) 0 ∷ [])))
+        ap (λ (b : Bool). verdict (pre ++ (check (outside 1 givenRows p) 4 0 0 ∷ check b 5 0 0 ∷ bodyCheck text ∷ [])))
         (fits-alike room p (inside 1 givenRows p e .1))
 
 -- the answer in numbers depends on the room through the verdict alone
-answerOf : List ℕ → Answer → ReadAnswer
-answerOf text v =
-    record {
-      number = v .number;
-      a = v .a;
-      b = v .b;
-      n = carried v (headNumber text 0);
-      k = carried v (headNumber text 1);
-      count = carried v (headNumber text 2);
-    }
-
 pub read-text-cut : (text : List ℕ) (room : ℕ) → readText text (min room 513) ≡ readText text room
-unfolding readText answerOf
-read-text-cut text room = ap (answerOf text) (read-cut text room)
+unfolding readText
+read-text-cut text room = ap (λ (v : Answer). withHeadings v (inputsIn text) (outputsIn text) (countIn text)) (read-cut text room)
 
 -- ---- on 0 there is room for the rows
 
 room-enough : (text : List ℕ) (room : ℕ) → answered (readVerdict text room) ≡ true → length (rowsIn text) ≤ room
 unfolding readVerdict
 room-enough text room e =
-    let p : ℕ = headNumber text 2 in
-    let clear =
-    answered-clear (
-    check (ltb (faulty text 3) 3) 10 (suc (faulty text 3)) 0
-    ∷ sizeChecks listInputs (headNumber text 0) (headNumber text 1) (
-    check (outside 1 givenRows p) 4 0 0
-    ∷ check (ltb room p) 5 0 0
-    ∷ check (ltb (faulty text (5 + p)) (5 + p)) 10 (suc (faulty text (5 + p))) 0
-    ∷ [])) (refl, (refl, (refl, (refl, (refl, (refl, tt)))))) e in
-    let l : p ≤ room = ltb-false room p (clear 4 (omega arith)) in
+    let clear = answered-clear (readChecks text room) (refl, (refl, (refl, (refl, (refl, (refl, tt)))))) e in
+    let l : countIn text ≤ room = ltb-false room (countIn text) (clear 4 (omega arith)) in
     omega (arith, rows-count text)
 
 count-of : (text : List ℕ) (room : ℕ) → readText text room .count ≡ carried (readVerdict text room) (length (rowsIn text))

@@ -10,12 +10,11 @@ use lib.ListN.{length, getD, take, drop, List·getD-append}
 use lib.Seq.{ext-getD, length-take-le}
 use Rattle.slices.specs.Places.{at, tab, over}
 use Rattle.slices.specs.Filled.{length-tab, tab-at, over-is, over-map-at, length-over-map}
-use Rattle.block.specs.Words.{row}
+use Rattle.block.specs.Words.{row, maskPart, valuesPart, wordPart}
 use Rattle.block.specs.Refusals.{answered, carried, stored, rowAt}
 use Rattle.block.specs.declared.Row.{Row}
 use Rattle.block.specs.declared.Answer.{Answer}
 use Rattle.record_work.specs.declared.FlatRows.{FlatRows}
-use Rattle.lines.specs.ByPlace.{maskPart, valuesPart, wordPart}
 use Rattle.record_work.specs.Flat.{Scattered, Sized, flatAt, zeroRow}
 
 -- with the verdict v and the rows s: on 0 the first `count` rows of the arrays are s, and there is room for them; with a refusal there
