@@ -11,7 +11,7 @@ use Rattle.block.specs.Measure.{measure}
 use Rattle.block.specs.Basis.{basisOf, sigmaOf, smallerOf}
 use Rattle.block.specs.Refusals.{verdict, answered}
 use Rattle.block.specs.Lists.{methodChecks, smallerList}
-use Rattle.block.specs.Text.{decimal, bits, rowLines, withBytes, readVerdict, headNumber, rowsIn}
+use Rattle.block.specs.Text.{decimal, bits, rowLines, withBytes, readVerdict, inputsIn, outputsIn, rowsIn}
 use Rattle.block.specs.declared.Row.{Row}
 use Rattle.block.specs.declared.Answer.{Answer}
 use Rattle.block.specs.declared.TextAnswer.{TextAnswer}
@@ -91,4 +91,4 @@ printedList n k rs = orRefused (sheetVerdict n k (min 3 n) rs sheetRoom) (sheetT
 unfoldable pub printed : List ℕ → List ℕ
 printed input =
     let text : List ℕ = take readBytes input in
-    orRefused (readVerdict text givenRows) (printedList (headNumber text 0) (headNumber text 1) (rowsIn text))
+    orRefused (readVerdict text givenRows) (printedList (inputsIn text) (outputsIn text) (rowsIn text))

@@ -8,9 +8,9 @@ use lib.ListN.{length, getD, take, drop}
 use Rattle.bits.specs.Digits.{bit}
 use Rattle.slices.specs.Places.{tab, first}
 use Rattle.sums.specs.Sums.{one}
-use Rattle.block.specs.Limits.{listInputs, outputs, givenRows, textRoom}
+use Rattle.block.specs.Limits.{listInputs, givenRows, textRoom}
 use Rattle.block.specs.Words.{row}
-use Rattle.block.specs.Refusals.{check, verdict, carried, outside, sizeChecks}
+use Rattle.block.specs.Refusals.{Check, check, verdict, carried, outside, sizeChecks}
 use Rattle.block.specs.Lists.{countCheck, badRowCheck}
 use Rattle.block.specs.declared.Row.{Row}
 use Rattle.block.specs.declared.Answer.{Answer}
@@ -91,9 +91,12 @@ unfoldable pub lines : List ℕ → List (List ℕ)
 lines [] = []
 lines (b ∷ bs) = cond (eqb b 10) ((10 ∷ []) ∷ lines bs) (onto b (lines bs))
 
--- line i, from 0; the empty list where the text has ended
+-- line i of some lines, from 0; the empty list where they have ended
+abbrev pub lineIn : List (List ℕ) → ℕ → List ℕ
+lineIn ls i = getD ls i []
+
 abbrev pub lineAt : List ℕ → ℕ → List ℕ
-lineAt text i = getD (lines text) i []
+lineAt text i = lineIn (lines text) i
 
 -- ---- the form of a line
 
@@ -107,11 +110,17 @@ unfoldable pub every : (ℕ → Bool) → List ℕ → Bool
 every p [] = true
 every p (x ∷ xs) = p x && every p xs
 
--- 1 to 3 decimal digits without leading zeros; "0" has form
-unfoldable pub numeral : List ℕ → Bool
-numeral ds =
-    (leb 1 (length ds) && leb (length ds) 3)
-    && (every (λ d. leb 48 d && leb d 57) ds && (eqb (length ds) 1 || not (eqb (getD ds 0 0) 48)))
+abbrev pub isDigit : ℕ → Bool
+isDigit b = leb 48 b && leb b 57
+
+-- 1 to `most` decimal digits without leading zeros; "0" has form
+unfoldable pub numeral : ℕ → List ℕ → Bool
+numeral most ds =
+    (leb 1 (length ds) && leb (length ds) most) && (every isDigit ds && (eqb (length ds) 1 || not (eqb (getD ds 0 0) 48)))
+
+-- the most digits of a heading's number
+abbrev pub headDigits : ℕ
+headDigits = 3
 
 -- the bytes between ".x " and LF
 abbrev pub numberPart : List ℕ → List ℕ
@@ -119,7 +128,7 @@ numberPart l = take (length l - 4) (drop 3 l)
 
 unfoldable pub headForm : ℕ → List ℕ → Bool
 headForm letter l =
-    equal (take 3 l) (46 ∷ letter ∷ 32 ∷ []) && (numeral (numberPart l) && eqb (getD l (length l - 1) 0) 10)
+    equal (take 3 l) (46 ∷ letter ∷ 32 ∷ []) && (numeral headDigits (numberPart l) && eqb (getD l (length l - 1) 0) 10)
 
 -- n of 0, 1, -, one space, k of 0, 1, and LF
 unfoldable pub rowForm : ℕ → ℕ → List ℕ → Bool
@@ -130,16 +139,6 @@ rowForm n k l =
     && (every (λ b. eqb b 48 || eqb b 49) (take k (drop (n + 1) l))
     && eqb (getD l (n + 1 + k) 0) 10)))
 
--- line i, from 0, has the form due there in a text with p rows: three headings, the rows, ".e", and nothing more
-unfoldable pub due : ℕ → ℕ → ℕ → ℕ → List ℕ → Bool
-due n k p i l =
-    cond (eqb i 0) (headForm 105 l)
-    (cond (eqb i 1) (headForm 111 l)
-    (cond (eqb i 2) (headForm 112 l)
-    (cond (ltb i (3 + p)) (rowForm n k l)
-    (cond (eqb i (3 + p)) (equal l endLine)
-    (equal l [])))))
-
 -- ---- what the lines say
 
 -- the number that bytes spell in a base, each byte's digit by f
@@ -147,8 +146,9 @@ unfoldable pub spelled : ℕ → (ℕ → ℕ) → ℕ → List ℕ → ℕ
 spelled base f v [] = v
 spelled base f v (b ∷ bs) = spelled base f (v * base + f b) bs
 
-abbrev pub headNumber : List ℕ → ℕ → ℕ
-headNumber text i = spelled 10 (λ b. b - 48) 0 (numberPart (lineAt text i))
+-- the number that decimal digits spell
+abbrev pub valueOf : List ℕ → ℕ
+valueOf ds = spelled 10 (λ b. b - 48) 0 ds
 
 -- the row that a line of row form spells
 unfoldable pub rowOn : ℕ → ℕ → List ℕ → Row
@@ -157,41 +157,97 @@ rowOn n k l =
     (spelled 2 (λ b. one (eqb b 49)) 0 (take n l))
     (spelled 2 (λ b. one (eqb b 49)) 0 (take k (drop (n + 1) l)))
 
--- ---- reading: 10 for a heading; 1, 2, 4, 5 (the .p count of rows); 10 for the rest
+-- ---- the headings: ".i n", ".o k", ".p rows"
 
--- the least line, from 0, of the first m that lacks the form due there; m where there is none
-unfoldable pub faulty : List ℕ → ℕ → ℕ
-faulty text m =
-    first m (λ i. not (due (headNumber text 0) (headNumber text 1) (headNumber text 2) i (lineAt text i)))
+-- their letters, in the order of their lines
+abbrev pub headLetters : List ℕ
+headLetters = 105 ∷ 111 ∷ 112 ∷ []
+
+-- so many lines are headings
+abbrev pub headCount : ℕ
+headCount = length headLetters
+
+-- line i, from 0, has the form of heading i
+abbrev pub headDue : ℕ → List ℕ → Bool
+headDue i l = headForm (getD headLetters i 0) l
+
+-- the least heading, from 0, that lacks its form; `headCount` where there is none
+unfoldable pub headFault : List ℕ → ℕ
+headFault text = first headCount (λ i. not (headDue i (lineAt text i)))
+
+abbrev pub headNumber : List ℕ → ℕ → ℕ
+headNumber text i = valueOf (numberPart (lineAt text i))
+
+-- n, k and the number of rows that the headings say
+abbrev pub inputsIn : List ℕ → ℕ
+inputsIn text = headNumber text 0
+
+abbrev pub outputsIn : List ℕ → ℕ
+outputsIn text = headNumber text 1
+
+abbrev pub countIn : List ℕ → ℕ
+countIn text = headNumber text 2
+
+-- ---- the body: the lines after the headings, counted from its own first line
+
+abbrev pub body : List ℕ → List (List ℕ)
+body text = drop headCount (lines text)
+
+-- line i of the body, from 0, has the form due there: p rows, ".e", and nothing more
+unfoldable pub bodyDue : ℕ → ℕ → ℕ → ℕ → List ℕ → Bool
+bodyDue n k p i l = cond (ltb i p) (rowForm n k l) (cond (eqb i p) (equal l endLine) (equal l []))
+
+-- the least line of the body, from 0, that lacks the form due there; p + 2 where there is none
+unfoldable pub bodyFault : ℕ → ℕ → ℕ → List (List ℕ) → ℕ
+bodyFault n k p ls = first (p + 2) (λ i. not (bodyDue n k p i (lineIn ls i)))
+
+-- the rows that the body says
+unfoldable pub rowsOn : ℕ → ℕ → ℕ → List (List ℕ) → List Row
+rowsOn n k p ls = tab p (λ i. rowOn n k (lineIn ls i))
+
+-- ---- reading: 10 for a heading; 1, 2, 4, 5 (the .p count of rows); 10 for the body
+
+-- the text's first line and the body's, as lines are answered
+abbrev pub firstLine : ℕ
+firstLine = 1
+
+abbrev pub bodyLine : ℕ
+bodyLine = firstLine + headCount
+
+-- 10: a fault among m lines, of which the first has the number `line`; m where there is none
+abbrev pub formCheck : ℕ → ℕ → ℕ → Check
+formCheck line m fault = check (ltb fault m) 10 (line + fault) 0
+
+abbrev pub headCheck : List ℕ → Check
+headCheck text = formCheck firstLine headCount (headFault text)
+
+abbrev pub bodyCheck : List ℕ → Check
+bodyCheck text =
+    formCheck bodyLine (countIn text + 2) (bodyFault (inputsIn text) (outputsIn text) (countIn text) (body text))
+
+abbrev pub readChecks : List ℕ → ℕ → List Check
+readChecks text room =
+    headCheck text
+    ∷ sizeChecks listInputs (inputsIn text) (outputsIn text) (
+    check (outside 1 givenRows (countIn text)) 4 0 0
+    ∷ check (ltb room (countIn text)) 5 0 0
+    ∷ bodyCheck text
+    ∷ [])
 
 unfoldable pub readVerdict : List ℕ → ℕ → Answer
-readVerdict text room =
-    let n : ℕ = headNumber text 0 in
-    let k : ℕ = headNumber text 1 in
-    let p : ℕ = headNumber text 2 in
-    verdict (
-    check (ltb (faulty text 3) 3) 10 (suc (faulty text 3)) 0
-    ∷ sizeChecks listInputs n k (
-    check (outside 1 givenRows p) 4 0 0
-    ∷ check (ltb room p) 5 0 0
-    ∷ check (ltb (faulty text (5 + p)) (5 + p)) 10 (suc (faulty text (5 + p))) 0
-    ∷ []))
+readVerdict text room = verdict (readChecks text room)
+
+-- an answer with n, k and the number of rows
+abbrev pub withHeadings : Answer → ℕ → ℕ → ℕ → ReadAnswer
+withHeadings v n k p =
+    record { number = v .number; a = v .a; b = v .b; n = carried v n; k = carried v k; count = carried v p }
 
 unfoldable pub readText : List ℕ → ℕ → ReadAnswer
-readText text room =
-    let v : Answer = readVerdict text room in
-    record {
-      number = v .number;
-      a = v .a;
-      b = v .b;
-      n = carried v (headNumber text 0);
-      k = carried v (headNumber text 1);
-      count = carried v (headNumber text 2);
-    }
+readText text room = withHeadings (readVerdict text room) (inputsIn text) (outputsIn text) (countIn text)
 
 -- the rows that a text says
 unfoldable pub rowsIn : List ℕ → List Row
-rowsIn text = tab (headNumber text 2) (λ i. rowOn (headNumber text 0) (headNumber text 1) (lineAt text (3 + i)))
+rowsIn text = rowsOn (inputsIn text) (outputsIn text) (countIn text) (body text)
 
 -- ---- the reader's answer in 01's numbers
 

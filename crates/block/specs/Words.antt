@@ -33,6 +33,16 @@ ofRows rs = wordAt none rs
 abbrev pub row : ℕ → ℕ → ℕ → Row
 row m v w = record { mask = m; values = v; word = w }
 
+-- the parts of a row
+abbrev pub maskPart : Row → ℕ
+maskPart r = r .mask
+
+abbrev pub valuesPart : Row → ℕ
+valuesPart r = r .values
+
+abbrev pub wordPart : Row → ℕ
+wordPart r = r .word
+
 -- the list whose rows lie in three flat slices; slices of unequal length are no list
 unfoldable pub rowsOf : List ℕ → List ℕ → List ℕ → List Row
 rowsOf masks values words =

@@ -13,7 +13,7 @@ use Rattle.block.specs.Basis.{span, candidate, before, better, best, next, chos
 use Rattle.block.specs.Rows.{highest, partner, exchange, rest, shear, reached, splitRow, splitRows, moved}
 use Rattle.block.specs.Refusals.{verdict, badRow, share, second, sharing}
 use Rattle.block.specs.Lists.{rowsAfter, passing, methodChecks, smallerList}
-use Rattle.block.specs.Text.{digits, symbols, bits, rowLine, rowLines, headLine, textOf, lines, equal, every, numeral, headForm, rowForm, due, spelled, rowOn, faulty, readVerdict, rowsIn}
+use Rattle.block.specs.Text.{digits, symbols, bits, rowLine, rowLines, headLine, textOf, lines, equal, every, numeral, headForm, rowForm, spelled, rowOn, headFault, bodyDue, bodyFault, rowsOn, readVerdict, rowsIn}
 use Rattle.block.specs.Sheet.{section, numberLines, matrixLines, sheetOf, sheetText, sheetVerdict, refusalLine, orRefused, printedList, printed}
 use Rattle.cases.specs.Cases.{rowsE}
 
@@ -61,7 +61,7 @@ unfolding
     input sheetLines ones onesIn parity tab first sum count wordAt same shift measure span candidate before better best next chosen
     columns inverse basisOf sigmaOf smallerOf highest partner exchange rest shear reached splitRow splitRows moved verdict badRow
     share second sharing rowsAfter passing methodChecks smallerList digits symbols bits rowLine rowLines lines equal every numeral
-    headForm rowForm due spelled rowOn faulty readVerdict rowsIn section numberLines matrixLines sheetOf sheetText sheetVerdict
+    headForm rowForm spelled rowOn headFault bodyDue bodyFault rowsOn readVerdict rowsIn section numberLines matrixLines sheetOf sheetText sheetVerdict
     orRefused printedList printed
 example-sheet = refl
 

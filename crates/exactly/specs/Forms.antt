@@ -1,27 +1,27 @@
--- The form of a line (01, Row text) in its words: a heading, a row, and which is due at line a, counted from 1; the first line that is not
--- of its form (10); and that the tests decide them. Assumes nothing.
+-- The form of a line (01, Row text) in its words: a heading, a row, and which is due at a line of the headings and of the body, each
+-- counted from 0; the first line that is not of its form (10); and that the tests decide them. Assumes nothing.
 use mathlib.Core.Path.{_≡_, refl, sym, ap, ap₂, _∙_}
-use mathlib.Core.Bool.{Bool, true, not, _&&_}
+use mathlib.Core.Bool.{Bool, true, not}
 use mathlib.Core.List.{List, [], _∷_, _++_, append-assoc}
 use mathlib.Core.Logic.{_⊎_}
-use Prim.Native.Nat.{ℕ, zero, suc, _+_, _-_, _≤_, _<_}
-use native.Mathlib.Decide.{decLt, ℕ-discrete}
+use Prim.Native.Nat.{ℕ, zero, suc, _+_, _≤_, _<_}
+use native.Mathlib.Decide.{decLt}
 use native.Mathlib.Numerals.{add-one}
 use native.Mathlib.Omega.{arith}
-use borrow.Author.Tests.{le-leb, leb-true, lt-ltb, le-ltb, ltb-true, eq-eqb, ne-eqb, not-true, not-false}
+use borrow.Author.Tests.{le-leb, leb-true, lt-ltb, ltb-true, not-true, not-false}
 use lib.Dec.{ltb, leb}
 use lib.ListN.{length, take, drop, length-append, length-drop, take-append-drop}
 use lib.Seq.{length-take-le, drop-cons, take-at, drop-at, getD-at, getD-drop, getD-append-add}
 use Rattle.slices.specs.Places.{at, first}
 use Rattle.slices.specs.Least.{first-below}
-use Rattle.block.specs.Refusals.{check}
-use Rattle.block.specs.Text.{decimal, headLine, numeral, every, equal, headForm, rowForm, due, lineAt, headNumber, faulty, numberPart}
+use Rattle.block.specs.Text.{decimal, headLine, lineIn, lineAt, equal, every, isDigit, numeral, headDigits, numberPart, headForm, rowForm, valueOf, headCount, headDue, headFault, inputsIn, outputsIn, countIn, body, bodyDue, bodyFault, firstLine, bodyLine, formCheck, headCheck, bodyCheck}
 use Rattle.lines.specs.Tests.{every-at, every-all, equal-true, equal-same}
-use Rattle.lines.specs.Numerals.{valueOf, numeral-written, written-numeral}
+use Rattle.lines.specs.Numerals.{head-decimal, decimal-head}
 use Rattle.lines.specs.HeadLines.{last-apart, form-written, written-form}
 use Rattle.lines.specs.RowLines.{symbolTest, bitTest}
+use Rattle.lines.specs.Whole.{row-due, end-due, past-due}
 use Rattle.exactly.specs.General.{placed, Decides}
-use Rattle.exactly.specs.Conditions.{Says, eq-says, ne-says, or-says, and-says, says-not, says-false, Least, first-least, least-first}
+use Rattle.exactly.specs.Conditions.{Says, eq-says, ne-says, or-says, and-says, says-not, says-false, first-least, least-first}
 
 le-says : (a b : ℕ) → Says (leb a b) (a ≤ b)
 le-says a b = (leb-true a b, le-leb a b)
@@ -32,23 +32,23 @@ every-says p P l s = (λ e i h. s (at l i) .0 (every-at p l e i h), λ w. every-
 
 -- ---- a heading
 
--- 1 to 3 decimal digits without leading zeros; "0" has form
-abbrev pub DecimalDigits : List ℕ → Type 0
-DecimalDigits ds =
-    ((1 ≤ length ds) × (length ds ≤ 3))
+-- 1 to `most` decimal digits without leading zeros; "0" has form
+abbrev pub DecimalDigits : ℕ → List ℕ → Type 0
+DecimalDigits most ds =
+    ((1 ≤ length ds) × (length ds ≤ most))
     × (((i : ℕ) → i < length ds → (48 ≤ at ds i) × (at ds i ≤ 57)) × ((length ds ≡ 1) ⊎ (at ds 0 ≡ 48 → ⊥)))
 
-numeral-says : (ds : List ℕ) → Says (numeral ds) (DecimalDigits ds)
+numeral-says : (most : ℕ) (ds : List ℕ) → Says (numeral most ds) (DecimalDigits most ds)
 unfolding numeral
-numeral-says ds =
-    and-says (and-says (le-says 1 (length ds)) (le-says (length ds) 3))
+numeral-says most ds =
+    and-says (and-says (le-says 1 (length ds)) (le-says (length ds) most))
     (and-says
-    (every-says (λ d. leb 48 d && leb d 57) (λ d. (48 ≤ d) × (d ≤ 57)) ds (λ d. and-says (le-says 48 d) (le-says d 57)))
+    (every-says isDigit (λ d. (48 ≤ d) × (d ≤ 57)) ds (λ d. and-says (le-says 48 d) (le-says d 57)))
     (or-says (eq-says (length ds) 1) (ne-says (at ds 0) 48)))
 
 -- ".x number" and LF
 abbrev pub Heading : ℕ → List ℕ → Type 0
-Heading letter l = (ds : List ℕ) × DecimalDigits ds × (l ≡ 46 ∷ letter ∷ 32 ∷ (ds ++ (10 ∷ [])))
+Heading letter l = (ds : List ℕ) × DecimalDigits headDigits ds × (l ≡ 46 ∷ letter ∷ 32 ∷ (ds ++ (10 ∷ [])))
 
 pub heading-says : (letter : ℕ) (l : List ℕ) → Says (headForm letter l) (Heading letter l)
 unfolding headLine
@@ -57,11 +57,11 @@ heading-says letter l = (λ e. has e, λ (ds, w, e). form ds w e)
     has : headForm letter l ≡ true → Heading letter l
     has e =
         let f = form-written letter l e in
-        (decimal (valueOf (numberPart l)), numeral-says (decimal (valueOf (numberPart l))) .0 (written-numeral (valueOf (numberPart l)) (f .1) .0), f .0)
+        (decimal (valueOf (numberPart l)), numeral-says headDigits (decimal (valueOf (numberPart l))) .0 (head-decimal (valueOf (numberPart l)) (f .1) .0), f .0)
 
-    form : (ds : List ℕ) → DecimalDigits ds → l ≡ 46 ∷ letter ∷ 32 ∷ (ds ++ (10 ∷ [])) → headForm letter l ≡ true
+    form : (ds : List ℕ) → DecimalDigits headDigits ds → l ≡ 46 ∷ letter ∷ 32 ∷ (ds ++ (10 ∷ [])) → headForm letter l ≡ true
     form ds w e =
-        let q = numeral-written ds (numeral-says ds .1 w) in
+        let q = decimal-head ds (numeral-says headDigits ds .1 w) in
         let same : l ≡ headLine letter (valueOf ds) = e ∙ ap (λ (x : List ℕ). 46 ∷ letter ∷ 32 ∷ (x ++ (10 ∷ []))) (q .0) in
         rw same (written-form letter (valueOf ds) (q .1) .0)
 
@@ -152,150 +152,108 @@ row-shape-says n k l = (λ e. shape (parts-says n k l .0 e), λ w. parts-says n 
                   ∙ getD-at y 10 [] 0 k hy;
             }
 
--- ---- what is due at line a, from 1, of a text with p rows: three headings, the rows, ".e", and nothing more
+-- ---- what is due
 
-pub record FormDue (n k p a : ℕ) (l : List ℕ) : Type 0 where
-  pub inputs : a ≡ 1 → Heading 105 l
-  pub outputs : a ≡ 2 → Heading 111 l
-  pub count : a ≡ 3 → Heading 112 l
-  pub row : 4 ≤ a → a ≤ 3 + p → RowShape n k l
-  pub close : a ≡ 4 + p → l ≡ 46 ∷ 101 ∷ 10 ∷ []
-  pub nothing : 5 + p ≤ a → l ≡ []
+-- at line i of the headings: ".i n", ".o k", ".p rows"
+pub record HeadingDue (i : ℕ) (l : List ℕ) : Type 0 where
+  pub inputs : i ≡ 0 → Heading 105 l
+  pub outputs : i ≡ 1 → Heading 111 l
+  pub count : i ≡ 2 → Heading 112 l
+
+pub heading-due-says : (i : ℕ) (l : List ℕ) → i < headCount → Says (headDue i l) (HeadingDue i l)
+heading-due-says zero l h = (
+  λ e. record { inputs = λ q. heading-says 105 l .0 e; outputs = λ q. absurd (omega arith); count = λ q. absurd (omega arith) },
+  λ d. heading-says 105 l .1 (d .inputs refl),
+)
+heading-due-says (suc zero) l h = (
+  λ e. record { inputs = λ q. absurd (omega arith); outputs = λ q. heading-says 111 l .0 e; count = λ q. absurd (omega arith) },
+  λ d. heading-says 111 l .1 (d .outputs refl),
+)
+heading-due-says (suc (suc zero)) l h = (
+  λ e. record { inputs = λ q. absurd (omega arith); outputs = λ q. absurd (omega arith); count = λ q. heading-says 112 l .0 e },
+  λ d. heading-says 112 l .1 (d .count refl),
+)
+heading-due-says (suc (suc (suc i))) l h = absurd (omega arith)
+
+-- at line i of the body of a text with p rows: the rows, ".e", and nothing more
+pub record BodyLineDue (n k p i : ℕ) (l : List ℕ) : Type 0 where
+  pub row : i < p → RowShape n k l
+  pub close : i ≡ p → l ≡ 46 ∷ 101 ∷ 10 ∷ []
+  pub nothing : p < i → l ≡ []
 
 equal-says : (a b : List ℕ) → Says (equal a b) (a ≡ b)
 equal-says a b = (equal-true a b, λ e. rw e (equal-same b))
 
-module _ (n k p i : ℕ) (l : List ℕ) where
-  at-inputs : i ≡ 0 → due n k p i l ≡ headForm 105 l
-  unfolding due
-  at-inputs e = rw (eq-eqb i 0 e)
+pub body-due-says : (n k p i : ℕ) (l : List ℕ) → Says (bodyDue n k p i l) (BodyLineDue n k p i l)
+body-due-says n k p i l = (
+  λ e.
+      record {
+        row = λ h. row-shape-says n k l .0 (sym (row-due n k p i l h) ∙ e);
+        close = λ q. equal-says l (46 ∷ 101 ∷ 10 ∷ []) .0 (sym (at-end q) ∙ e);
+        nothing = λ h. equal-says l [] .0 (sym (past-due n k p i l h) ∙ e);
+      },
+  λ d. go d (decLt i p) (decLt p i),
+)
+  where
+    at-end : i ≡ p → bodyDue n k p i l ≡ equal l (46 ∷ 101 ∷ 10 ∷ [])
+    at-end q = ap (λ (j : ℕ). bodyDue n k p j l) q ∙ end-due n k p l
 
-  at-outputs : i ≡ 1 → due n k p i l ≡ headForm 111 l
-  unfolding due
-  at-outputs e = rw (ne-eqb i 0 (λ z. omega arith), eq-eqb i 1 e)
-
-  at-count : i ≡ 2 → due n k p i l ≡ headForm 112 l
-  unfolding due
-  at-count e = rw (ne-eqb i 0 (λ z. omega arith), ne-eqb i 1 (λ z. omega arith), eq-eqb i 2 e)
-
-  at-row : 3 ≤ i → i < 3 + p → due n k p i l ≡ rowForm n k l
-  unfolding due
-  at-row g h = rw (ne-eqb i 0 (λ z. omega arith), ne-eqb i 1 (λ z. omega arith), ne-eqb i 2 (λ z. omega arith), lt-ltb i (3 + p) h)
-
-  at-close : i ≡ 3 + p → due n k p i l ≡ equal l (46 ∷ 101 ∷ 10 ∷ [])
-  unfolding due
-  at-close e =
-      rw (
-        ne-eqb i 0 (λ z. omega arith),
-        ne-eqb i 1 (λ z. omega arith),
-        ne-eqb i 2 (λ z. omega arith),
-        le-ltb i (3 + p) (omega arith),
-        eq-eqb i (3 + p) e,
-      )
-
-  at-nothing : 4 + p ≤ i → due n k p i l ≡ equal l []
-  unfolding due
-  at-nothing h =
-      rw (
-        ne-eqb i 0 (λ z. omega arith),
-        ne-eqb i 1 (λ z. omega arith),
-        ne-eqb i 2 (λ z. omega arith),
-        le-ltb i (3 + p) (omega arith),
-        ne-eqb i (3 + p) (λ z. omega arith),
-      )
-
-  pub due-says : Says (due n k p i l) (FormDue n k p (suc i) l)
-  due-says = (
-    λ e.
-        record {
-          inputs = λ q. heading-says 105 l .0 (sym (at-inputs (omega arith)) ∙ e);
-          outputs = λ q. heading-says 111 l .0 (sym (at-outputs (omega arith)) ∙ e);
-          count = λ q. heading-says 112 l .0 (sym (at-count (omega arith)) ∙ e);
-          row = λ g h. row-shape-says n k l .0 (sym (at-row (omega arith) (omega arith)) ∙ e);
-          close = λ q. equal-says l (46 ∷ 101 ∷ 10 ∷ []) .0 (sym (at-close (omega arith)) ∙ e);
-          nothing = λ h. equal-says l [] .0 (sym (at-nothing (omega arith)) ∙ e);
-        },
-    λ d. go d (ℕ-discrete i 0) (ℕ-discrete i 1) (ℕ-discrete i 2) (decLt i (3 + p)) (ℕ-discrete i (3 + p)),
-  )
-    where
-      go : FormDue n k p (suc i) l → Dec (i ≡ 0) → Dec (i ≡ 1) → Dec (i ≡ 2) → Dec (i < 3 + p) → Dec (i ≡ 3 + p) → due n k p i l ≡ true
-      go d (yes q) _ _ _ _ = at-inputs q ∙ heading-says 105 l .1 (d .inputs (omega arith))
-      go d (no a) (yes q) _ _ _ = at-outputs q ∙ heading-says 111 l .1 (d .outputs (omega arith))
-      go d (no a) (no b) (yes q) _ _ = at-count q ∙ heading-says 112 l .1 (d .count (omega arith))
-      go d (no a) (no b) (no c) (yes h) _ = at-row (omega arith) h ∙ row-shape-says n k l .1 (d .row (omega arith) (omega arith))
-      go d (no a) (no b) (no c) (no f) (yes q) = at-close q ∙ equal-says l (46 ∷ 101 ∷ 10 ∷ []) .1 (d .close (omega arith))
-      go d (no a) (no b) (no c) (no f) (no g) = at-nothing (omega arith) ∙ equal-says l [] .1 (d .nothing (omega arith))
+    go : BodyLineDue n k p i l → Dec (i < p) → Dec (p < i) → bodyDue n k p i l ≡ true
+    go d (yes h) _ = row-due n k p i l h ∙ row-shape-says n k l .1 (d .row h)
+    go d (no a) (no b) = at-end (omega arith) ∙ equal-says l (46 ∷ 101 ∷ 10 ∷ []) .1 (d .close (omega arith))
+    go d (no a) (yes h) = past-due n k p i l h ∙ equal-says l [] .1 (d .nothing h)
 
 -- ---- 10: a text line not of the form due there
 
--- line a, from 1, has the form due there
-abbrev pub DueAt : List ℕ → ℕ → Type 0
-DueAt text a = FormDue (headNumber text 0) (headNumber text 1) (headNumber text 2) a (lineAt text (a - 1))
+-- a is the first of m lines that has not the form due there; the first of them all is `line`
+pub record FirstFaulty (line m : ℕ) (Due : ℕ → Type 0) (a : ℕ) : Type 0 where
+  pub i : ℕ
+  pub place : a ≡ line + i
+  pub below : i < m
+  pub faulty : Due i → ⊥
+  pub before : (j : ℕ) → j < i → Due j
 
--- a is the first of m lines that has not
-pub record FirstFaulty (text : List ℕ) (m a : ℕ) : Type 0 where
-  pub line : (1 ≤ a) × (a ≤ m)
-  pub faulty : DueAt text a → ⊥
-  pub before : (j : ℕ) → 1 ≤ j → j < a → DueAt text j
+module _ (line m : ℕ) (t : ℕ → Bool) (Due : ℕ → Type 0) (s : (i : ℕ) → i < m → Says (t i) (Due i)) where
+  lacks-says : (i : ℕ) → i < m → Says (not (t i)) (Due i → ⊥)
+  lacks-says i b = (λ e d. says-false (s i b) (not-true (t i) e) d, λ w. ap not (says-not (s i b) w))
 
-module _ (text : List ℕ) (m : ℕ) where
-  abbrev n : ℕ
-  n = headNumber text 0
-
-  abbrev k : ℕ
-  k = headNumber text 1
-
-  abbrev p : ℕ
-  p = headNumber text 2
-
-  -- line i + 1 has not the form due there
-  abbrev Lacks : ℕ → Type 0
-  Lacks i = DueAt text (suc i) → ⊥
-
-  line-says : (i : ℕ) → Says (due n k p i (lineAt text i)) (DueAt text (suc i))
-  line-says i = rw (less i) (due-says n k p i (lineAt text i))
+  pub form-decided : Decides (formCheck line m (first m (λ i. not (t i)))) (placed 10 (λ a b. FirstFaulty line m Due a × (b ≡ 0)))
+  form-decided = record { same = refl; refuses = λ e. omega arith; sound = λ e. (sound (ltb-true _ _ e), refl); only = only }
     where
-      less : (i : ℕ) → suc i - 1 ≡ i
-      less i = omega arith
+      sound : first m (λ i. not (t i)) < m → FirstFaulty line m Due (line + first m (λ i. not (t i)))
+      sound l =
+          record {
+            i = first m (λ i. not (t i));
+            place = refl;
+            below = l;
+            faulty = first-least m (λ i. not (t i)) (λ i. Due i → ⊥) lacks-says l .holds;
+            before = λ j h. s j (omega arith) .0 (not-false (t j) (first-below m (λ i. not (t i)) j h));
+          }
 
-  lacks-says : (i : ℕ) → Says (not (due n k p i (lineAt text i))) (Lacks i)
-  lacks-says i = (
-    λ e d. says-false (line-says i) (not-true (due n k p i (lineAt text i)) e) d,
-    λ w. ap not (says-not (line-says i) w),
-  )
-
-  faulty-least : faulty text m < m → Least m Lacks (faulty text m)
-  unfolding faulty
-  faulty-least = first-least m _ Lacks (λ i b. lacks-says i)
-
-  least-faulty : (i : ℕ) → Least m Lacks i → (faulty text m < m) × (faulty text m ≡ i)
-  unfolding faulty
-  least-faulty = least-first m _ Lacks (λ i b. lacks-says i)
-
-  faultless : (j : ℕ) → j < faulty text m → DueAt text (suc j)
-  unfolding faulty
-  faultless j h =
-      line-says j .0
-      (not-false (due n k p j (lineAt text j)) (first-below m (λ i. not (due n k p i (lineAt text i))) j h))
-
-  pub faulty-decided : Decides (check (ltb (faulty text m) m) 10 (suc (faulty text m)) 0) (placed 10 (λ a b. FirstFaulty text m a × (b ≡ 0)))
-  faulty-decided = record { same = refl; refuses = λ e. omega arith; sound = λ e. (sound (ltb-true _ _ e), refl); only = only }
-    where
-      sound : faulty text m < m → FirstFaulty text m (suc (faulty text m))
-      sound l = record { line = (omega arith, omega arith); faulty = faulty-least l .holds; before = before }
-        where
-          before : (j : ℕ) → 1 ≤ j → j < suc (faulty text m) → DueAt text j
-          before zero g h = absurd (omega arith)
-          before (suc j) g h = faultless j (omega arith)
-
-      only : (a b : ℕ) → FirstFaulty text m a × (b ≡ 0) → (ltb (faulty text m) m ≡ true) × (suc (faulty text m) ≡ a) × (0 ≡ b)
-      only zero b (f, u) = absurd (omega (arith, f .line .0))
-      only (suc i) b (f, u) =
+      only : (a b : ℕ) → FirstFaulty line m Due a × (b ≡ 0)
+          → (ltb (first m (λ i. not (t i))) m ≡ true) × (line + first m (λ i. not (t i)) ≡ a) × (0 ≡ b)
+      only a b (f, u) =
           let l =
-          least-faulty i
-          (record {
-            below = omega (arith, f .line .1);
-            holds = f .faulty;
-            earlier = λ j h w. w (f .before (suc j) (omega arith) (omega arith));
-          }) in
-          (lt-ltb _ _ (l .0), ap suc (l .1), sym u)
+          least-first m (λ i. not (t i)) (λ i. Due i → ⊥) lacks-says (f .i)
+          (record { below = f .below; holds = f .faulty; earlier = λ j h w. w (f .before j h) }) in
+          (lt-ltb _ _ (l .0), ap (λ (i : ℕ). line + i) (l .1) ∙ sym (f .place), sym u)
+
+-- of the headings, and of the body
+abbrev pub FaultyHeading : List ℕ → ℕ → Type 0
+FaultyHeading text = FirstFaulty firstLine headCount (λ i. HeadingDue i (lineAt text i))
+
+abbrev pub FaultyBody : List ℕ → ℕ → Type 0
+FaultyBody text =
+    FirstFaulty bodyLine (countIn text + 2)
+    (λ i. BodyLineDue (inputsIn text) (outputsIn text) (countIn text) i (lineIn (body text) i))
+
+pub heading-decided : (text : List ℕ) → Decides (headCheck text) (placed 10 (λ a b. FaultyHeading text a × (b ≡ 0)))
+unfolding headFault
+heading-decided text =
+    form-decided firstLine headCount (λ i. headDue i (lineAt text i)) (λ i. HeadingDue i (lineAt text i)) (λ i. heading-due-says i (lineAt text i))
+
+pub body-decided : (text : List ℕ) → Decides (bodyCheck text) (placed 10 (λ a b. FaultyBody text a × (b ≡ 0)))
+unfolding bodyFault
+body-decided text =
+    form-decided bodyLine (countIn text + 2) _ _
+    (λ i _. body-due-says (inputsIn text) (outputsIn text) (countIn text) i (lineIn (body text) i))

@@ -2,24 +2,25 @@
 -- Assumes nothing.
 use mathlib.Core.Path.{_≡_}
 use mathlib.Core.List.{List, [], _∷_}
-use Prim.Native.Nat.{ℕ, _+_, _<_}
+use Prim.Native.Nat.{ℕ, _<_}
 use native.Mathlib.Omega.{arith}
 use lib.ListN.{length}
-use Rattle.block.specs.Text.{writeVerdict, headNumber, readVerdict}
+use Rattle.block.specs.Limits.{listInputs, outputs, givenRows, textRoom}
+use Rattle.block.specs.Text.{writeVerdict, inputsIn, outputsIn, countIn, readVerdict}
 use Rattle.block.specs.declared.Row.{Row}
 use Rattle.exactly.specs.General.{Reason, placed, plain, done, _also_, Exactly, decided-exactly}
 use Rattle.exactly.specs.Conditions.{lt-says, plain-decided, OutOfRange, outside-says, bad-row-decided}
-use Rattle.exactly.specs.Forms.{FirstFaulty, faulty-decided}
+use Rattle.exactly.specs.Forms.{FaultyHeading, heading-decided, FaultyBody, body-decided}
 use Rattle.exactly.specs.Lists.{rowReason}
 
 -- ---- writing
 
 unfoldable pub writeReasons : ℕ → ℕ → List Row → ℕ → List Reason
 writeReasons n k rs room =
-    plain 1 (OutOfRange 1 16 n)
-    ∷ plain 2 (OutOfRange 1 15 k)
-    ∷ plain 4 (OutOfRange 1 128 (length rs))
-    ∷ plain 5 (room < 4246)
+    plain 1 (OutOfRange 1 listInputs n)
+    ∷ plain 2 (OutOfRange 1 outputs k)
+    ∷ plain 4 (OutOfRange 1 givenRows (length rs))
+    ∷ plain 5 (room < textRoom)
     ∷ rowReason n k rs
     ∷ []
 
@@ -27,34 +28,34 @@ pub write-exactly : (n k : ℕ) (rs : List Row) (room : ℕ) → Exactly (writeR
 unfolding writeReasons writeVerdict
 write-exactly n k rs room =
     decided-exactly _ _
-    (plain-decided 1 (λ e. omega arith) (outside-says 1 16 n)
-    also plain-decided 2 (λ e. omega arith) (outside-says 1 15 k)
-    also plain-decided 4 (λ e. omega arith) (outside-says 1 128 (length rs))
-    also plain-decided 5 (λ e. omega arith) (lt-says room 4246)
+    (plain-decided 1 (λ e. omega arith) (outside-says 1 listInputs n)
+    also plain-decided 2 (λ e. omega arith) (outside-says 1 outputs k)
+    also plain-decided 4 (λ e. omega arith) (outside-says 1 givenRows (length rs))
+    also plain-decided 5 (λ e. omega arith) (lt-says room textRoom)
     also bad-row-decided n k rs
     also done)
 
--- ---- reading: 10 for a heading; then 1, 2, 4 and 5, by the numbers that the headings say; then 10 for the rows, ".e" and the line
--- after it
+-- ---- reading: 10 for a heading; then 1, 2, 4 and 5, by the numbers that the headings say; then 10 for the body: the rows, ".e" and the
+-- line after it
 
 unfoldable pub readReasons : List ℕ → ℕ → List Reason
 readReasons text room =
-    placed 10 (λ a b. FirstFaulty text 3 a × (b ≡ 0))
-    ∷ plain 1 (OutOfRange 1 16 (headNumber text 0))
-    ∷ plain 2 (OutOfRange 1 15 (headNumber text 1))
-    ∷ plain 4 (OutOfRange 1 128 (headNumber text 2))
-    ∷ plain 5 (room < headNumber text 2)
-    ∷ placed 10 (λ a b. FirstFaulty text (5 + headNumber text 2) a × (b ≡ 0))
+    placed 10 (λ a b. FaultyHeading text a × (b ≡ 0))
+    ∷ plain 1 (OutOfRange 1 listInputs (inputsIn text))
+    ∷ plain 2 (OutOfRange 1 outputs (outputsIn text))
+    ∷ plain 4 (OutOfRange 1 givenRows (countIn text))
+    ∷ plain 5 (room < countIn text)
+    ∷ placed 10 (λ a b. FaultyBody text a × (b ≡ 0))
     ∷ []
 
 pub read-exactly : (text : List ℕ) (room : ℕ) → Exactly (readReasons text room) (readVerdict text room)
 unfolding readReasons readVerdict
 read-exactly text room =
     decided-exactly _ _
-    (faulty-decided text 3
-    also plain-decided 1 (λ e. omega arith) (outside-says 1 16 (headNumber text 0))
-    also plain-decided 2 (λ e. omega arith) (outside-says 1 15 (headNumber text 1))
-    also plain-decided 4 (λ e. omega arith) (outside-says 1 128 (headNumber text 2))
-    also plain-decided 5 (λ e. omega arith) (lt-says room (headNumber text 2))
-    also faulty-decided text (5 + headNumber text 2)
+    (heading-decided text
+    also plain-decided 1 (λ e. omega arith) (outside-says 1 listInputs (inputsIn text))
+    also plain-decided 2 (λ e. omega arith) (outside-says 1 outputs (outputsIn text))
+    also plain-decided 4 (λ e. omega arith) (outside-says 1 givenRows (countIn text))
+    also plain-decided 5 (λ e. omega arith) (lt-says room (countIn text))
+    also body-decided text
     also done)

@@ -1,13 +1,52 @@
-// The three headings of row text: ".i n", ".o k", ".p rows", each ended by LF, and then their ranges. All functions here are inner: the
-// operation is `read_text` of the crate reading.
+// The three headings of row text, read by place: ".i n", ".o k", ".p rows", each ended by LF, and then their ranges. All functions here
+// are inner: the operation is `read_text` of the crate reading.
+use block::GIVEN_ROWS;
 use block::Headings;
 use block::Kind;
+use block::LIST_INPUTS;
+use block::OUTPUTS;
 use block::Refusal;
+use lines::HEAD_DIGITS;
 use lines::Number;
 use lines::Opening;
 ghost use mathlib.Core.Path.{_≡_};
-ghost use Prim.Native.Nat.{_≤_};
-ghost use Rattle.lines.specs.ByPlace.{refusal, countedOf, rangedOf, openWithin, openingOf};
+ghost use Prim.Native.Nat.{_+_, _≤_, _<_};
+ghost use Rattle.block.specs.Text.{headDigits};
+ghost use Rattle.lines.specs.ByPlace.{farthest, widthOf, leadOf, headAt, refusal, rangedOf, openWithin, openingOf};
+
+// A line whose first three bytes are a, b and c, before a number.
+pub fn lead(a: usize, b: usize, c: usize, letter: usize, v: Number) -> Number
+    requires { ⌜ widthOf v ≤ headDigits + 1 ⌝ }
+    ensures { λ r. ⌜ r ≡ leadOf a b c letter v ⌝ }
+    ensures { λ r. ⌜ widthOf r ≤ headDigits + 4 ⌝ }
+{
+    if a != 46 {
+        return Number::Formless;
+    }
+    if b != letter {
+        return Number::Formless;
+    }
+    if c != 32 {
+        return Number::Formless;
+    }
+    match v {
+        Number::Value(x, w) => Number::Value(x, w + 3),
+        Number::Formless => Number::Formless,
+    }
+}
+
+// The heading from a place on.
+pub fn head_at(s: &[u8], from: usize, letter: usize) -> Number
+    requires { ⌜ from + 3 < farthest ⌝ }
+    ensures { λ r. ⌜ r ≡ headAt (now (s .entry)) from letter ⌝ }
+    ensures { λ r. ⌜ widthOf r ≤ headDigits + 4 ⌝ }
+{
+    let a = read_bytes::byte(s, from);
+    let b = read_bytes::byte(s, from + 1);
+    let c = read_bytes::byte(s, from + 2);
+    let v = read_bytes::number_at(s, from + 3, HEAD_DIGITS);
+    lead(a, b, c, letter, v)
+}
 
 // A refusal before any row.
 pub fn stop(kind: Kind, a: usize) -> Opening
@@ -16,16 +55,18 @@ pub fn stop(kind: Kind, a: usize) -> Opening
     Opening::Stopped(Refusal { kind, a, b: 0 })
 }
 
-// The range of the number of rows, and the room.
-pub fn counted(n: usize, k: usize, p: usize, from: usize, room: usize) -> Opening
-    requires { ⌜ (n ≤ 16) × (k ≤ 15) ⌝ }
-    ensures { λ r. ⌜ r ≡ countedOf n k p from room ⌝ }
+// The ranges of n, k and the number of rows, and the room.
+pub fn ranged(n: usize, k: usize, p: usize, from: usize, room: usize) -> Opening
+    ensures { λ r. ⌜ r ≡ rangedOf n k p from room ⌝ }
     ensures { λ r. ⌜ openWithin r room ⌝ }
 {
-    if p < 1 {
-        return stop(Kind::Count, 0);
+    if checks::is_outside(1, LIST_INPUTS, n) {
+        return stop(Kind::Inputs, 0);
     }
-    if 128 < p {
+    if checks::is_outside(1, OUTPUTS, k) {
+        return stop(Kind::Outputs, 0);
+    }
+    if checks::is_outside(1, GIVEN_ROWS, p) {
         return stop(Kind::Count, 0);
     }
     if room < p {
@@ -34,38 +75,18 @@ pub fn counted(n: usize, k: usize, p: usize, from: usize, room: usize) -> Openin
     Opening::Open(Headings { n, k, count: p }, from)
 }
 
-// The ranges of n and k, and then of the number of rows and the room.
-pub fn ranged(n: usize, k: usize, p: usize, from: usize, room: usize) -> Opening
-    ensures { λ r. ⌜ r ≡ rangedOf n k p from room ⌝ }
-    ensures { λ r. ⌜ openWithin r room ⌝ }
-{
-    if n < 1 {
-        return stop(Kind::Inputs, 0);
-    }
-    if 16 < n {
-        return stop(Kind::Inputs, 0);
-    }
-    if k < 1 {
-        return stop(Kind::Outputs, 0);
-    }
-    if 15 < k {
-        return stop(Kind::Outputs, 0);
-    }
-    counted(n, k, p, from, room)
-}
-
 // The three headings: their form first, then their ranges.
 pub fn read_headings(s: &[u8], room: usize) -> Opening
     ensures { λ r. ⌜ r ≡ openingOf (now (s .entry)) room ⌝ }
     ensures { λ r. ⌜ openWithin r room ⌝ }
 {
-    let Number::Value(n, u) = headlines::head_at(s, 0, 105) else {
+    let Number::Value(n, u) = head_at(s, 0, 105) else {
         return stop(Kind::Form, 1);
     };
-    let Number::Value(k, v) = headlines::head_at(s, u, 111) else {
+    let Number::Value(k, v) = head_at(s, u, 111) else {
         return stop(Kind::Form, 2);
     };
-    let Number::Value(p, w) = headlines::head_at(s, u + v, 112) else {
+    let Number::Value(p, w) = head_at(s, u + v, 112) else {
         return stop(Kind::Form, 3);
     };
     ranged(n, k, p, u + v + w, room)

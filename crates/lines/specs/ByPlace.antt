@@ -1,12 +1,15 @@
--- What the text reader gives, by the places of bytes: a byte past the end counts as 0, which no line has. Headings first, then rows,
--- then the whole. Not here: that this is what the meaning says of the lines, which are laws. Assumes nothing.
-use mathlib.Core.Bool.{Bool, true, false, cond}
+-- What the text reader gives, by the places of bytes: a byte past the end counts as 0, which no line has. Numbers and headings first,
+-- then rows, then the whole. Not here: that this is what the meaning says of the lines, which are laws. Assumes nothing.
+use mathlib.Core.Bool.{Bool, true, false, not, cond}
 use mathlib.Core.List.{List}
-use Prim.Native.Nat.{ℕ, zero, suc, _+_, _-_, _*_, _≤_}
+use Prim.Native.Nat.{ℕ, zero, suc, _+_, _*_, _≤_}
 use lib.Dec.{eqb, ltb}
 use lib.ListN.{length, drop}
 use Rattle.slices.specs.Places.{at, tab, first, over}
+use Rattle.block.specs.Limits.{listInputs, outputs, givenRows}
 use Rattle.block.specs.Words.{row}
+use Rattle.block.specs.Refusals.{outside}
+use Rattle.block.specs.Text.{isDigit, headDigits, valueOf, bodyLine}
 use Rattle.block.specs.declared.Row.{Row}
 use Rattle.block.specs.declared.Headings.{Headings}
 use Rattle.block.specs.declared.Refusal.{Refusal}
@@ -23,30 +26,45 @@ use Rattle.lines.specs.declared.Line.the-variants.{Sound, Broken}
 use Rattle.lines.specs.declared.Opening.{Opening}
 use Rattle.lines.specs.declared.Opening.the-variants.{Open, Stopped}
 
--- ---- headings
+-- every place that the reader is asked for lies below: a row or a number from there on has no place that wraps
+abbrev pub farthest : ℕ
+farthest = 65536
 
--- the number that four bytes begin with, ended by LF, and its bytes
-unfoldable pub numberOf : ℕ → ℕ → ℕ → ℕ → Number
-numberOf a b c d =
-    cond (ltb a 48) Formless
-    (cond (ltb 57 a) Formless
-    (cond (eqb b 10) (Value (a - 48) 2)
-    (cond (eqb a 48) Formless
-    (cond (ltb b 48) Formless
-    (cond (ltb 57 b) Formless
-    (cond (eqb c 10) (Value ((a - 48) * 10 + (b - 48)) 3)
-    (cond (ltb c 48) Formless
-    (cond (ltb 57 c) Formless
-    (cond (eqb d 10) (Value ((a - 48) * 100 + (b - 48) * 10 + (c - 48)) 4)
-    Formless)))))))))
+-- a number has at most so many digits, and so fits 32 bits
+abbrev pub longest : ℕ
+longest = 9
 
-unfoldable pub numberAt : List ℕ → ℕ → Number
-numberAt s from = numberOf (at s from) (at s (from + 1)) (at s (from + 2)) (at s (from + 3))
+-- ---- numbers
+
+-- how many of the `most` bytes from a place on are digits, up to the first that is none
+unfoldable pub digitsAt : List ℕ → ℕ → ℕ → ℕ
+digitsAt s from most = first most (λ i. not (isDigit (at s (from + i))))
+
+-- the w bytes from a place on
+abbrev pub bytesAt : List ℕ → ℕ → ℕ → List ℕ
+bytesAt s from w = tab w (λ i. at s (from + i))
+
+-- w digits that spell v, of which the first is `lead`, before the byte `last`: a number, and its bytes with its LF
+unfoldable pub endedOf : ℕ → ℕ → ℕ → ℕ → Number
+endedOf w v lead last =
+    cond (eqb last 10)
+    (cond (eqb w 0) Formless
+    (cond (eqb w 1) (Value v 2)
+    (cond (eqb lead 48) Formless (Value v (w + 1)))))
+    Formless
+
+-- the number of 1 to `most` digits from a place on, ended by LF
+unfoldable pub numberAt : List ℕ → ℕ → ℕ → Number
+numberAt s from most =
+    let w : ℕ = digitsAt s from most in
+    endedOf w (valueOf (bytesAt s from w)) (at s from) (at s (from + w))
 
 -- the bytes that a number takes
 abbrev pub widthOf : Number → ℕ
 widthOf Formless = 0
 widthOf (Value v w) = w
+
+-- ---- headings
 
 -- three bytes more before the number
 abbrev pub widened : Number → Number
@@ -59,35 +77,27 @@ leadOf a b c letter v = cond (eqb a 46) (cond (eqb b letter) (cond (eqb c 32) (w
 
 -- the heading from a place on
 unfoldable pub headAt : List ℕ → ℕ → ℕ → Number
-headAt s from letter = leadOf (at s from) (at s (from + 1)) (at s (from + 2)) letter (numberAt s (from + 3))
+headAt s from letter = leadOf (at s from) (at s (from + 1)) (at s (from + 2)) letter (numberAt s (from + 3) headDigits)
 
 abbrev pub refusal : Kind → ℕ → Refusal
 refusal kind a = record { kind = kind; a = a; b = 0 }
 
-abbrev pub headings : ℕ → ℕ → ℕ → Headings
-headings n k p = record { n = n; k = k; count = p }
+abbrev pub headingsOf : ℕ → ℕ → ℕ → Headings
+headingsOf n k p = record { n = n; k = k; count = p }
 
--- the range of p, and the room
-unfoldable pub countedOf : ℕ → ℕ → ℕ → ℕ → ℕ → Opening
-countedOf n k p from room =
-    cond (ltb p 1) (Stopped (refusal Count 0))
-    (cond (ltb 128 p) (Stopped (refusal Count 0))
-    (cond (ltb room p) (Stopped (refusal Room 0))
-    (Open (headings n k p) from)))
-
--- the ranges of n and k before it
+-- the ranges of n, k and the number of rows, and the room
 unfoldable pub rangedOf : ℕ → ℕ → ℕ → ℕ → ℕ → Opening
 rangedOf n k p from room =
-    cond (ltb n 1) (Stopped (refusal Inputs 0))
-    (cond (ltb 16 n) (Stopped (refusal Inputs 0))
-    (cond (ltb k 1) (Stopped (refusal Outputs 0))
-    (cond (ltb 15 k) (Stopped (refusal Outputs 0))
-    (countedOf n k p from room))))
+    cond (outside 1 listInputs n) (Stopped (refusal Inputs 0))
+    (cond (outside 1 outputs k) (Stopped (refusal Outputs 0))
+    (cond (outside 1 givenRows p) (Stopped (refusal Count 0))
+    (cond (ltb room p) (Stopped (refusal Room 0))
+    (Open (headingsOf n k p) from))))
 
 -- what open headings promise
 abbrev pub openWithin : Opening → ℕ → Type 0
 openWithin (Stopped r) room = Unit {0}
-openWithin (Open h from) room = (h .n ≤ 16) × (h .k ≤ 15) × (h .count ≤ 128) × (h .count ≤ room)
+openWithin (Open h from) room = (h .n ≤ listInputs) × (h .k ≤ outputs) × (h .count ≤ givenRows) × (h .count ≤ room)
 
 abbrev pub onValue : Number → Opening → (ℕ → ℕ → Opening) → Opening
 onValue Formless o f = o
@@ -161,7 +171,7 @@ fieldOf f s n k i = f (rowOr (lineOf s n k i))
 unfoldable pub endOf : ℕ → ℕ → ℕ → ℕ → ℕ → ℕ → ℕ
 endOf a b c size end p = cond (eqb a 46) (cond (eqb b 101) (cond (eqb c 10) (cond (eqb size end) (p + 2) (p + 1)) p) p) p
 
--- of the p + 2 lines after the headings the least faulty, or p + 2
+-- of the p + 2 lines of the body the least faulty, or p + 2
 unfoldable pub faultOf : List ℕ → ℕ → ℕ → ℕ → ℕ
 faultOf s n k p =
     let f : ℕ = first p (brokenLine s n k) in
@@ -174,9 +184,9 @@ filledOf fault p f l = cond (eqb fault (p + 2)) (over (tab p f) l) l
 
 -- ---- the whole text
 
--- the headings that opened, or the faulty line after them
+-- the headings that opened, or the faulty line of the body
 unfoldable pub closedOf : Headings → ℕ → Reading
-closedOf h fault = cond (eqb fault (h .count + 2)) (Accepted h) (Refused (refusal Form (fault + 4)))
+closedOf h fault = cond (eqb fault (h .count + 2)) (Accepted h) (Refused (refusal Form (bodyLine + fault)))
 
 unfoldable pub readingOf : List ℕ → Opening → Reading
 readingOf s (Stopped r) = Refused r
@@ -187,14 +197,3 @@ unfoldable pub afterOf : Opening → List ℕ → (Row → ℕ) → List ℕ →
 afterOf (Stopped r) s f l = l
 afterOf (Open h from) s f l =
     filledOf (faultOf (drop from s) (h .n) (h .k) (h .count)) (h .count) (fieldOf f (drop from s) (h .n) (h .k)) l
-
--- ---- the fields of rows
-
-abbrev pub maskPart : Row → ℕ
-maskPart r = r .mask
-
-abbrev pub valuesPart : Row → ℕ
-valuesPart r = r .values
-
-abbrev pub wordPart : Row → ℕ
-wordPart r = r .word

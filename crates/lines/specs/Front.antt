@@ -4,16 +4,19 @@ use mathlib.Core.Path.{_≡_, refl, sym, ap, _∙_}
 use mathlib.Core.Bool.{Bool, true, false, not, cond}
 use mathlib.Core.List.{List, [], _∷_, _++_}
 use Prim.Native.Nat.{ℕ, zero, suc, _+_, _*_, _≤_, _<_}
+use native.Mathlib.Decide.{decLt}
 use native.Mathlib.Nat.{zero-add, mul-le-mul}
+use native.Mathlib.Numerals.{add-one, one-add}
 use native.Mathlib.Omega.{arith}
 use borrow.Author.Tests.{eq-eqb, eqb-true, not-true}
 use lib.Dec.{eqb}
-use lib.ListN.{length, getD, drop, length-append}
-use lib.Seq.{drop-drop, getD-append-seam}
+use lib.ListN.{length, drop, length-append, List·getD-append}
+use lib.Seq.{drop-drop, getD-drop, getD-append-seam}
 use Rattle.slices.specs.Places.{at}
 use Rattle.slices.specs.Filled.{length-tab}
 use Rattle.slices.specs.Tests.{and-both}
-use Rattle.block.specs.Text.{lines, onto, lineAt, every, headNumber, rowsIn}
+use Rattle.block.specs.Limits.{listInputs, outputs, smallerRows, rowBytes}
+use Rattle.block.specs.Text.{lines, onto, lineIn, lineAt, every, countIn, rowsOn, rowsIn}
 
 -- the first line, with its LF where it has one
 unfoldable pub front : List ℕ → List ℕ
@@ -44,27 +47,37 @@ lines-cons b (c ∷ cs) = go (eqb b 10) (lines-cons c cs)
 pub line-first : (s : List ℕ) → lineAt s 0 ≡ front s
 unfolding lines front
 line-first [] = refl
-line-first (b ∷ bs) = ap (λ (l : List (List ℕ)). getD l 0 []) (lines-cons b bs)
+line-first (b ∷ bs) = ap (λ (ls : List (List ℕ)). lineIn ls 0) (lines-cons b bs)
 
-pub line-next : (s : List ℕ) (i : ℕ) → lineAt s (suc i) ≡ lineAt (drop (length (front s)) s) i
+lines-next : (s : List ℕ) → drop 1 (lines s) ≡ lines (drop (length (front s)) s)
 unfolding lines front
-line-next [] i = refl
-line-next (b ∷ bs) i = ap (λ (l : List (List ℕ)). getD l (suc i) []) (lines-cons b bs)
+lines-next [] = refl
+lines-next (b ∷ bs) = ap (drop 1) (lines-cons b bs)
 
 -- the place where line i starts
 unfoldable pub start : List ℕ → ℕ → ℕ
 start s zero = 0
 start s (suc i) = start s i + length (front (drop (start s i) s))
 
--- lines i + j are those of the text from line i on
-pub line-add : (s : List ℕ) (i j : ℕ) → lineAt s (i + j) ≡ lineAt (drop (start s i) s) j
+-- the lines of the text from line i on are those from line i on
+pub lines-from : (s : List ℕ) (i : ℕ) → drop i (lines s) ≡ lines (drop (start s i) s)
 unfolding start
-line-add s zero j = ap (lineAt s) (zero-add j)
-line-add s (suc i) j =
-    ap (lineAt s) (omega arith)
-    ∙ line-add s i (suc j)
-    ∙ line-next (drop (start s i) s) j
-    ∙ ap (λ (l : List ℕ). lineAt l j) (drop-drop (length (front (drop (start s i) s))) (start s i) s)
+lines-from s zero = refl
+lines-from s (suc i) =
+    ap (λ (j : ℕ). drop j (lines s)) (sym (add-one i))
+    ∙ sym (drop-drop 1 i (lines s))
+    ∙ ap (drop 1) (lines-from s i)
+    ∙ lines-next (drop (start s i) s)
+    ∙ ap lines (drop-drop (length (front (drop (start s i) s))) (start s i) s)
+
+pub line-add : (s : List ℕ) (i j : ℕ) → lineAt s (i + j) ≡ lineAt (drop (start s i) s) j
+line-add s i j = sym (getD-drop i (lines s) j []) ∙ ap (λ (ls : List (List ℕ)). lineIn ls j) (lines-from s i)
+
+pub line-next : (s : List ℕ) (i : ℕ) → lineAt s (suc i) ≡ lineAt (drop (length (front s)) s) i
+line-next s i =
+    ap (lineAt s) (sym (one-add i))
+    ∙ sym (getD-drop 1 (lines s) i [])
+    ∙ ap (λ (ls : List (List ℕ)). lineIn ls i) (lines-next s)
 
 -- line i is the front of the text from its start on
 pub line-front : (s : List ℕ) (i : ℕ) → lineAt s i ≡ front (drop (start s i) s)
@@ -88,6 +101,26 @@ front-stands (b ∷ bs) i h = ap (at (b ∷ bs)) (zero-add i) ∙ go (front-stan
     go ih true e (suc i) h = absurd (omega arith)
     go ih false e zero h = refl
     go ih false e (suc i) h = ap (at bs) (sym (zero-add i)) ∙ ih i (omega arith)
+
+-- of the text from a place on
+pub stands-here : (s : List ℕ) (from : ℕ) (t : List ℕ) → Stands s from t → Stands (drop from s) 0 t
+stands-here s from t h i l = getD-drop from s (0 + i) 0 ∙ ap (λ (j : ℕ). at s (from + j)) (zero-add i) ∙ h i l
+
+pub stands-there : (s : List ℕ) (from : ℕ) (t : List ℕ) → Stands (drop from s) 0 t → Stands s from t
+stands-there s from t h i l = sym (getD-drop from s i 0) ∙ ap (at (drop from s)) (sym (zero-add i)) ∙ h i l
+
+-- the first part of what stands, and one byte more
+pub stands-part : (s : List ℕ) (from : ℕ) (t u : List ℕ) → Stands s from (t ++ u) → Stands s from t
+stands-part s from t u h i l = h i (omega (arith, length-append t u)) ∙ List·getD-append t u 0 i l
+
+pub stands-last : (s : List ℕ) (from : ℕ) (t : List ℕ) (x : ℕ) → Stands s from t → at s (from + length t) ≡ x → Stands s from (t ++ (x ∷ []))
+stands-last s from t x h e i l = go (decLt i (length t))
+  where
+    go : Dec (i < length t) → at s (from + i) ≡ at (t ++ (x ∷ [])) i
+    go (yes b) = h i b ∙ sym (List·getD-append t (x ∷ []) 0 i b)
+    go (no b) =
+        let f : i ≡ length t = omega (arith, length-append t (x ∷ [])) in
+        rw f (e ∙ sym (getD-append-seam t x [] 0))
 
 -- no byte of l is LF
 abbrev pub noLF : List ℕ → Bool
@@ -121,11 +154,12 @@ front-rest (b ∷ bs) = go (eqb b 10) refl (front-rest bs)
 pub front-le : (s : List ℕ) → length (front s) ≤ length s
 front-le s = omega (arith, length-append (front s) (drop (length (front s)) s), ap length (front-rest s))
 
--- a text says as many rows as its third heading
-pub rows-count : (text : List ℕ) → length (rowsIn text) ≡ headNumber text 2
-unfolding rowsIn
-rows-count text = length-tab (headNumber text 2) _
+-- a text says as many rows as its headings say
+pub rows-count : (text : List ℕ) → length (rowsIn text) ≡ countIn text
+unfolding rowsIn rowsOn
+rows-count text = length-tab (countIn text) _
 
--- so many rows of a list within the ranges have so many bytes
-pub rows-bytes-le : (n k p : ℕ) → n ≤ 16 → k ≤ 15 → p ≤ 512 → p * (n + k + 2) ≤ 16896
-rows-bytes-le n k p hn hk hp = let h : n + k + 2 ≤ 33 = omega arith in mul-le-mul hp h
+-- so many rows have at most as many bytes as the longest list
+pub rows-bytes-le : (n k p : ℕ) → n ≤ listInputs → k ≤ outputs → p ≤ smallerRows
+    → p * (n + k + 2) ≤ smallerRows * rowBytes listInputs outputs
+rows-bytes-le n k p hn hk hp = let h : n + k + 2 ≤ rowBytes listInputs outputs = omega arith in mul-le-mul hp h

@@ -10,7 +10,7 @@ use native.Mathlib.Omega.{arith}
 use borrow.Author.Tests.{ne-eqb, eqb-true, eqb-false}
 use lib.Dec.{eqb}
 use lib.ListN.{length, take, drop, length-append, length-drop, List·getD-append, List·getD-eq-default}
-use lib.Seq.{take-suc, length-take-le, take-append-le, drop-append-le, getD-drop, getD-take, getD-at, drop-drop}
+use lib.Seq.{take-suc, length-take-le, take-append-le, drop-append-le, getD-drop, getD-take, drop-drop}
 use Rattle.sums.specs.Sums.{one}
 use Rattle.slices.specs.Places.{at}
 use Rattle.slices.specs.Tests.{and-both}
@@ -21,7 +21,8 @@ use Rattle.lines.specs.declared.Spelling.the-variants.{Good, Bad}
 use Rattle.lines.specs.declared.Line.the-variants.{Sound, Broken}
 use Rattle.lines.specs.ByPlace.{stepOf, spelledAt, bothOf, joinedOf, rowFrom}
 use Rattle.lines.specs.Tests.{every-at, every-all}
-use Rattle.lines.specs.Front.{front, Stands, front-rest, front-le, stands-front, noLF}
+use Rattle.lines.specs.Spelled.{spelled-last, spelled-cong}
+use Rattle.lines.specs.Front.{front, Stands, front-rest, front-le, stands-last, stands-front, noLF}
 
 -- ---- symbols
 
@@ -38,18 +39,6 @@ every-last p (y ∷ l) x = go (p y) (every-last p l x)
     go : (b : Bool) → every p (l ++ (x ∷ [])) ≡ every p l && p x → b && every p (l ++ (x ∷ [])) ≡ (b && every p l) && p x
     go true ih = ih
     go false ih = refl
-
-spelled-last : (base : ℕ) (f : ℕ → ℕ) (v : ℕ) (l : List ℕ) (x : ℕ) → spelled base f v (l ++ (x ∷ [])) ≡ spelled base f v l * base + f x
-unfolding spelled
-spelled-last base f v [] x = refl
-spelled-last base f v (y ∷ l) x = spelled-last base f (v * base + f y) l x
-
-spelled-cong : (base : ℕ) (f g : ℕ → ℕ) (v : ℕ) (l : List ℕ) → ((i : ℕ) → i < length l → f (at l i) ≡ g (at l i))
-    → spelled base f v l ≡ spelled base g v l
-unfolding spelled
-spelled-cong base f g v [] h = refl
-spelled-cong base f g v (x ∷ l) h =
-    rw (h 0 (omega arith)) (spelled-cong base f g (v * base + g x) l (λ i k. h (suc i) (omega arith)))
 
 -- a byte that the reader takes, where `free` is that of a free input
 abbrev taken : ℕ → ℕ → Bool
@@ -279,18 +268,11 @@ row-front s n k h e =
     ∙ rw l
   where
     stand : at s (n + 1 + k) ≡ 10 → Stands s 0 (take (n + 1 + k) s ++ (10 ∷ []))
-    stand f i p =
+    stand f =
         let l = length-take-le (n + 1 + k) s (omega arith) in
-        ap (at s) (zero-add i) ∙ go f i (omega (arith, length-append (take (n + 1 + k) s) (10 ∷ []))) (decLt i (n + 1 + k))
-      where
-        go : at s (n + 1 + k) ≡ 10 → (i : ℕ) → i < n + 1 + k + 1 → Dec (i < n + 1 + k) → at s i ≡ at (take (n + 1 + k) s ++ (10 ∷ [])) i
-        go f i p (yes q) =
-            let l = length-take-le (n + 1 + k) s (omega arith) in
-            sym (List·getD-append (take (n + 1 + k) s) (10 ∷ []) 0 i (omega arith) ∙ getD-take (n + 1 + k) s i 0 q)
-        go f i p (no q) =
-            let l = length-take-le (n + 1 + k) s (omega arith) in
-            let g : i ≡ n + 1 + k = omega arith in
-            rw g (f ∙ sym (getD-at (take (n + 1 + k) s) 10 [] 0 (n + 1 + k) l))
+        stands-last s 0 (take (n + 1 + k) s) 10
+        (λ i p. ap (at s) (zero-add i) ∙ sym (getD-take (n + 1 + k) s i 0 (omega arith)))
+        (ap (at s) (zero-add (length (take (n + 1 + k) s)) ∙ l) ∙ f)
 
 -- the row that the reader finds is that of the first line, where it has row form
 pub row-line : (s : List ℕ) (n k : ℕ) → rowFrom s n k 0 ≡ cond (rowForm n k (front s)) (Sound (rowOn n k (front s))) Broken

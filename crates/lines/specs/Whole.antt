@@ -1,5 +1,5 @@
--- The whole text: the reader's openings, its faulty line, its answer and the lent lists after it are what the meaning says of the
--- lines. Assumes nothing.
+-- The headings and the body: the reader's headings are those of their lines, and the faulty line that it finds in the body is the least
+-- that is not of the form due there. Assumes nothing.
 use mathlib.Core.Path.{_≡_, refl, sym, ap, ap₂, _∙_}
 use mathlib.Core.Bool.{Bool, true, false, not, cond, _&&_}
 use mathlib.Core.List.{List, [], _∷_, _++_}
@@ -14,13 +14,13 @@ use lib.ListN.{length, drop, length-drop, List·getD-eq-default}
 use lib.Seq.{getD-drop}
 use Rattle.slices.specs.Places.{at, first}
 use Rattle.slices.specs.Least.{first-is, first-le, first-below, first-passes}
-use Rattle.block.specs.Text.{lineAt, headForm, rowForm, due, equal, every, endLine, headNumber, rowOn, faulty}
+use Rattle.block.specs.Text.{endLine, lines, lineAt, equal, every, headForm, rowForm, rowOn, headNumber, bodyDue, bodyFault}
 use Rattle.lines.specs.declared.Number.the-variants.{Value, Formless}
 use Rattle.lines.specs.declared.Line.the-variants.{Sound, Broken}
 use Rattle.lines.specs.ByPlace.{headAt, isBroken, lineOf, brokenLine, endOf, faultOf}
 use Rattle.lines.specs.Tests.{not-both, equal-true, equal-same}
 use Rattle.lines.specs.Front.{front, start, line-front, Stands, front-stands, stands-front, noLF}
-use Rattle.lines.specs.HeadLines.{head-line, head-from}
+use Rattle.lines.specs.HeadLines.{head-line}
 use Rattle.lines.specs.RowLines.{row-line, row-at-place, row-length}
 
 -- ---- headings
@@ -28,9 +28,9 @@ use Rattle.lines.specs.RowLines.{row-line, row-at-place, row-length}
 -- the heading from the start of line i on is that of line i
 pub head-of : (letter : ℕ) (s : List ℕ) (i : ℕ) → (letter ≡ 10 → ⊥)
     → headAt s (start s i) letter ≡ cond (headForm letter (lineAt s i)) (Value (headNumber s i) (length (lineAt s i))) Formless
-head-of letter s i l = rw (line-front s i) (head-from letter s (start s i) ∙ head-line letter (drop (start s i) s) l)
+head-of letter s i l = rw (line-front s i) (head-line letter s (start s i) l)
 
--- ---- the lines after the headings
+-- ---- the rows
 
 module _ (s : List ℕ) (n k : ℕ) where
   -- rows of row form start at their places
@@ -109,34 +109,19 @@ end-text (b ∷ bs) = go (eqb b 10) ∙ sym (ne-eqb (suc (length bs)) 0 (omega a
     go true = refl
     go false = refl
 
--- ---- what is due after the headings
+-- ---- what is due in the body
 
-pub row-due : (n k p i : ℕ) (l : List ℕ) → i < p → due n k p (3 + i) l ≡ rowForm n k l
-unfolding due
-row-due n k p i l h =
-    rw (ne-eqb (3 + i) 0 (omega arith), ne-eqb (3 + i) 1 (omega arith), ne-eqb (3 + i) 2 (omega arith), lt-ltb (3 + i) (3 + p) (omega arith))
+pub row-due : (n k p i : ℕ) (l : List ℕ) → i < p → bodyDue n k p i l ≡ rowForm n k l
+unfolding bodyDue
+row-due n k p i l h = rw (lt-ltb i p h)
 
-pub end-due : (n k p : ℕ) (l : List ℕ) → due n k p (3 + p) l ≡ equal l endLine
-unfolding due
-end-due n k p l =
-    rw (
-      ne-eqb (3 + p) 0 (omega arith),
-      ne-eqb (3 + p) 1 (omega arith),
-      ne-eqb (3 + p) 2 (omega arith),
-      le-ltb (3 + p) (3 + p) (omega arith),
-      eq-eqb (3 + p) (3 + p) refl,
-    )
+pub end-due : (n k p : ℕ) (l : List ℕ) → bodyDue n k p p l ≡ equal l endLine
+unfolding bodyDue
+end-due n k p l = rw (le-ltb p p (omega arith), eq-eqb p p refl)
 
-pub past-due : (n k p : ℕ) (l : List ℕ) → due n k p (3 + (p + 1)) l ≡ equal l []
-unfolding due
-past-due n k p l =
-    rw (
-      ne-eqb (3 + (p + 1)) 0 (omega arith),
-      ne-eqb (3 + (p + 1)) 1 (omega arith),
-      ne-eqb (3 + (p + 1)) 2 (omega arith),
-      le-ltb (3 + (p + 1)) (3 + p) (omega arith),
-      ne-eqb (3 + (p + 1)) (3 + p) (omega arith),
-    )
+pub past-due : (n k p i : ℕ) (l : List ℕ) → p < i → bodyDue n k p i l ≡ equal l []
+unfolding bodyDue
+past-due n k p i l h = rw (le-ltb i p (omega arith), ne-eqb i p (omega arith))
 
 -- a length that is not short is the end exactly where nothing is left
 left-none : (a b : ℕ) → b ≤ a → eqb (a - b) 0 ≡ eqb a b
@@ -147,16 +132,16 @@ left-none a b h = go (ℕ-discrete a b)
     go (no n) = ne-eqb (a - b) 0 (omega arith) ∙ sym (ne-eqb a b n)
 
 module _ (s : List ℕ) (n k p : ℕ) where
-  -- line i after the headings is faulty
-  abbrev pub lacks : ℕ → Bool
-  lacks i = not (due n k p (3 + i) (lineAt s i))
+  -- line i of the body is faulty
+  abbrev lacks : ℕ → Bool
+  lacks i = not (bodyDue n k p i (lineAt s i))
 
   -- where every row has row form: the last line stands behind them, and the text's end behind it
   module _ (h : (i : ℕ) → i < p → rowForm n k (lineAt s i) ≡ true) where
     e : ℕ
     e = p * (n + k + 2)
 
-    end-test : due n k p (3 + p) (lineAt s p) ≡ eqb (at s e) 46 && (eqb (at s (e + 1)) 101 && eqb (at s (e + 2)) 10)
+    end-test : bodyDue n k p p (lineAt s p) ≡ eqb (at s e) 46 && (eqb (at s (e + 1)) 101 && eqb (at s (e + 2)) 10)
     unfolding e
     end-test =
         end-due n k p (lineAt s p)
@@ -164,12 +149,12 @@ module _ (s : List ℕ) (n k p : ℕ) where
         ∙ end-line (drop e s)
         ∙ rw (getD-drop e s 0 0, getD-drop e s 1 0, getD-drop e s 2 0, add-zero e)
 
-    rest-test : lineAt s p ≡ endLine → e + 3 ≤ length s → due n k p (3 + (p + 1)) (lineAt s (p + 1)) ≡ eqb (length s) (e + 3)
+    rest-test : lineAt s p ≡ endLine → e + 3 ≤ length s → bodyDue n k p (p + 1) (lineAt s (p + 1)) ≡ eqb (length s) (e + 3)
     unfolding e start
     rest-test f l =
         let g : start s (p + 1) ≡ e + 3 =
         ap (start s) (add-one p) ∙ omega (arith, row-start s n k p h, ap length (sym (line-front s p) ∙ f)) in
-        past-due n k p (lineAt s (p + 1))
+        past-due n k p (p + 1) (lineAt s (p + 1)) (omega arith)
         ∙ ap (λ (l : List ℕ). equal l []) (line-front s (p + 1) ∙ ap (λ (i : ℕ). front (drop i s)) g)
         ∙ end-text (drop (e + 3) s)
         ∙ ap (λ (i : ℕ). eqb i 0) (length-drop (e + 3) s)
@@ -182,10 +167,10 @@ module _ (s : List ℕ) (n k p : ℕ) where
         rows : (j : ℕ) → j < p → lacks j ≡ false
         rows j l = ap not (row-due n k p j (lineAt s j) l ∙ h j l)
 
-        stops : due n k p (3 + p) (lineAt s p) ≡ false → first (p + 2) lacks ≡ p
+        stops : bodyDue n k p p (lineAt s p) ≡ false → first (p + 2) lacks ≡ p
         stops f = first-is (p + 2) lacks p (omega arith) rows (λ l. ap not f)
 
-        rows-end : due n k p (3 + p) (lineAt s p) ≡ true → (j : ℕ) → j < p + 1 → lacks j ≡ false
+        rows-end : bodyDue n k p p (lineAt s p) ≡ true → (j : ℕ) → j < p + 1 → lacks j ≡ false
         rows-end f j l = at-most (decLt j p)
           where
             at-most : Dec (j < p) → lacks j ≡ false
@@ -194,7 +179,7 @@ module _ (s : List ℕ) (n k p : ℕ) where
                 let q : j ≡ p = omega arith in
                 ap lacks q ∙ ap not f
 
-        after : due n k p (3 + p) (lineAt s p) ≡ true → (u : Bool) → due n k p (3 + (p + 1)) (lineAt s (p + 1)) ≡ u → first (p + 2) lacks ≡ cond u (p + 2) (p + 1)
+        after : bodyDue n k p p (lineAt s p) ≡ true → (u : Bool) → bodyDue n k p (p + 1) (lineAt s (p + 1)) ≡ u → first (p + 2) lacks ≡ cond u (p + 2) (p + 1)
         after f true q = first-is (p + 2) lacks (p + 2) (omega arith) all (λ l. absurd (omega arith))
           where
             all : (j : ℕ) → j < p + 2 → lacks j ≡ false
@@ -217,7 +202,7 @@ module _ (s : List ℕ) (n k p : ℕ) where
         go : (x y z : Bool) → eqb (at s e) 46 ≡ x → eqb (at s (e + 1)) 101 ≡ y → eqb (at s (e + 2)) 10 ≡ z
             → first (p + 2) lacks ≡ cond x (cond y (cond z (cond (eqb (length s) (e + 3)) (p + 2) (p + 1)) p) p) p
         go true true true a b c =
-            let d : due n k p (3 + p) (lineAt s p) ≡ true = end-test ∙ rw (a, b, c) in
+            let d : bodyDue n k p p (lineAt s p) ≡ true = end-test ∙ rw (a, b, c) in
             let f = equal-true (lineAt s p) endLine (sym (end-due n k p (lineAt s p)) ∙ d) in
             after d (eqb (length s) (e + 3)) (rest-test f (inside (eqb-true (at s (e + 2)) 10 c)))
         go true true false a b c = stops (end-test ∙ rw (a, b, c))
@@ -225,8 +210,8 @@ module _ (s : List ℕ) (n k p : ℕ) where
         go false y z a b c = stops (end-test ∙ rw a)
 
   -- the reader's faulty line is the least line that is not of the form due
-  pub fault-of : faultOf s n k p ≡ first (p + 2) lacks
-  unfolding faultOf e
+  pub fault-of : faultOf s n k p ≡ bodyFault n k p (lines s)
+  unfolding faultOf bodyFault e
   fault-of = rw (rows-first s n k p) (go (decLt f p))
     where
       f : ℕ
@@ -249,4 +234,10 @@ module _ (s : List ℕ) (n k p : ℕ) where
           rw (le-ltb f p (omega arith)) (sym (ends (λ i q. formed i (omega arith))))
 
   pub fault-le : faultOf s n k p ≤ p + 2
+  unfolding bodyFault
   fault-le = rw fault-of (first-le (p + 2) lacks)
+
+  -- where no line is faulty, every line has the form due there
+  pub faultless : bodyFault n k p (lines s) ≡ p + 2 → (i : ℕ) → i < p + 2 → bodyDue n k p i (lineAt s i) ≡ true
+  unfolding bodyFault
+  faultless e i h = not-false (bodyDue n k p i (lineAt s i)) (first-below (p + 2) lacks i (omega arith))

@@ -1,11 +1,17 @@
 // The text reader by places, and by lines. The reader looks at bytes by their place in the text; the meaning (block's `Text`) cuts the
-// text at LF and says what is due on each line. This crate has no functions: it holds the reader's inner types, in specs/ByPlace.antt
-// what each of its functions gives, and the laws by which that is what the meaning says of the lines.
+// text at LF and says what is due on each line. This crate has no functions: it holds the reader's inner types and numbers, in
+// specs/ByPlace.antt what each of its functions gives, and the laws by which that is what the meaning says of the lines.
 use block::Headings;
 use block::Refusal;
 use block::Row;
 
-// The number of a heading, and how many bytes its line takes with its LF.
+// The most digits of a heading's number.
+pub const HEAD_DIGITS: usize = 3;
+
+// The line, from 1, with which the body begins: three headings stand before it.
+pub const BODY_LINE: usize = 4;
+
+// A number, and how many bytes it takes with what stands before it and its LF.
 pub enum Number {
     Value(usize, usize),
     Formless,

@@ -3,7 +3,7 @@
 use mathlib.Core.Path.{_≡_, refl, sym, ap, subst, _∙_}
 use mathlib.Core.Bool.{Bool, true, false}
 use mathlib.Core.List.{List, [], _∷_, _++_}
-use Prim.Native.Nat.{ℕ, suc, _+_, _≤_, _<_, min}
+use Prim.Native.Nat.{ℕ, _≤_, _<_, min}
 use native.Mathlib.Decide.{decLt}
 use native.Mathlib.Omega.{arith}
 use borrow.Author.Tests.{lt-ltb, le-ltb, ltb-false}
@@ -11,7 +11,7 @@ use lib.Dec.{ltb}
 use lib.ListN.{length, take}
 use Rattle.block.specs.Limits.{listInputs, givenRows}
 use Rattle.block.specs.Refusals.{Check, check, verdict, answered, carried, outside, sizeChecks}
-use Rattle.block.specs.Text.{headNumber, faulty, readVerdict, readText, rowsIn}
+use Rattle.block.specs.Text.{inputsIn, outputsIn, countIn, headCheck, bodyCheck, readChecks, readVerdict, withHeadings, readText, rowsIn}
 use Rattle.block.specs.declared.Answer.{Answer}
 use Rattle.block.specs.declared.ReadAnswer.{ReadAnswer}
 use Rattle.block.specs.declared.Row.{Row}
@@ -38,19 +38,19 @@ unfolding readVerdict
 read-cut text room = go (answered (verdict pre)) refl
   where
     n : ℕ
-    n = headNumber text 0
+    n = inputsIn text
 
     k : ℕ
-    k = headNumber text 1
+    k = outputsIn text
 
     p : ℕ
-    p = headNumber text 2
+    p = countIn text
 
     pre : List Check
-    pre = check (ltb (faulty text 3) 3) 10 (suc (faulty text 3)) 0 ∷ sizeChecks listInputs n k (check (outside 1 givenRows p) 4 0 0 ∷ [])
+    pre = headCheck text ∷ sizeChecks listInputs n k (check (outside 1 givenRows p) 4 0 0 ∷ [])
 
     rest : Bool → List Check
-    rest short = check short 5 0 0 ∷ check (ltb (faulty text (5 + p)) (5 + p)) 10 (suc (faulty text (5 + p))) 0 ∷ []
+    rest short = check short 5 0 0 ∷ bodyCheck text ∷ []
 
     go : (b : Bool) → answered (verdict pre) ≡ b → verdict (pre ++ rest (ltb (min room heldRows) p)) ≡ verdict (pre ++ rest (ltb room p))
     go true e =
@@ -58,33 +58,13 @@ read-cut text room = go (answered (verdict pre)) refl
         (fits-alike room p (inside 1 givenRows p (answered-clear pre (refl, (refl, (refl, (refl, tt)))) e 3 (omega arith)) .1))
     go false e = verdict-stop pre (rest (ltb (min room heldRows) p)) e ∙ sym (verdict-stop pre (rest (ltb room p)) e)
 
--- the answer in numbers depends on the room through the verdict alone
-answerOf : List ℕ → Answer → ReadAnswer
-answerOf text v =
-    record {
-      number = v .number;
-      a = v .a;
-      b = v .b;
-      n = carried v (headNumber text 0);
-      k = carried v (headNumber text 1);
-      count = carried v (headNumber text 2);
-    }
-
 -- ---- on 0 there is room for the rows
 
 room-enough : (text : List ℕ) (room : ℕ) → answered (readVerdict text room) ≡ true → length (rowsIn text) ≤ room
 unfolding readVerdict
 room-enough text room e =
-    let p : ℕ = headNumber text 2 in
-    let clear =
-    answered-clear (
-    check (ltb (faulty text 3) 3) 10 (suc (faulty text 3)) 0
-    ∷ sizeChecks listInputs (headNumber text 0) (headNumber text 1) (
-    check (outside 1 givenRows p) 4 0 0
-    ∷ check (ltb room p) 5 0 0
-    ∷ check (ltb (faulty text (5 + p)) (5 + p)) 10 (suc (faulty text (5 + p))) 0
-    ∷ [])) (refl, (refl, (refl, (refl, (refl, (refl, tt)))))) e in
-    let l : p ≤ room = ltb-false room p (clear 4 (omega arith)) in
+    let clear = answered-clear (readChecks text room) (refl, (refl, (refl, (refl, (refl, (refl, tt)))))) e in
+    let l : countIn text ≤ room = ltb-false room (countIn text) (clear 4 (omega arith)) in
     omega (arith, rows-count text)
 
 -- ---- the promise, from one lent room to another
@@ -94,8 +74,12 @@ module _ (text : List ℕ) (r : ReadAnswer) where
   read-to : (lent lent′ : Lent) → readVerdict text (lent .room) ≡ readVerdict text (lent′ .room)
       → (lent .holds (readVerdict text (lent .room)) (rowsIn text) → lent′ .holds (readVerdict text (lent′ .room)) (rowsIn text))
       → ReadPromise text lent r → ReadPromise text lent′ r
-  unfolding readText answerOf
-  read-to lent lent′ e to p = record { answer = p .answer ∙ ap (answerOf text) e; rows = to (p .rows) }
+  unfolding readText
+  read-to lent lent′ e to p =
+      record {
+        answer = p .answer ∙ ap (λ (v : Answer). withHeadings v (inputsIn text) (outputsIn text) (countIn text)) e;
+        rows = to (p .rows);
+      }
 
   count-of : (lent : Lent) → ReadPromise text lent r → r .count ≡ carried (readVerdict text (lent .room)) (length (rowsIn text))
   unfolding readText

@@ -1,17 +1,18 @@
--- The cursor after the headings: it stands in the text, where line 3 starts, and the part of the text from there is the rest of it.
+-- The cursor after the headings: it stands in the text, where the body starts, and the part of the text from there is the rest of it.
 -- Assumes nothing.
-use mathlib.Core.Path.{_≡_, sym, subst}
+use mathlib.Core.Path.{_≡_, subst}
 use mathlib.Core.Logic.{_⊎_, inl, inr}
 use mathlib.Core.List.{List}
 use Prim.Native.Nat.{ℕ, zero, suc, _-_, _≤_}
 use native.Mathlib.Omega.{arith}
 use lib.ListN.{length, take, drop, length-drop}
 use lib.Seq.{take-all}
+use Rattle.block.specs.Text.{headCount}
 use Rattle.block.specs.declared.Headings.{Headings}
 use Rattle.lines.specs.declared.Opening.{Opening}
 use Rattle.lines.specs.declared.Opening.the-variants.{Open, Stopped}
 use Rattle.lines.specs.ByPlace.{openingOf}
-use Rattle.lines.specs.Front.{front, front-le, start}
+use Rattle.lines.specs.Front.{front-le, start}
 use Rattle.lines.specs.Answers.{Stop, Opened, outcome}
 
 -- the cursor of an opening
@@ -29,7 +30,7 @@ cursor-le text room from h e = subst (λ (o : Opening). cursorOf o ≤ length te
   where
     go : Stop text room ⊎ Opened text room → cursorOf (openingOf text room) ≤ length text
     go (inl (r, o, v)) = rw o (omega arith)
-    go (inr (o, v)) = rw o (start-le text 3)
+    go (inr (o, v)) = rw o (start-le text headCount)
 
 -- the part from the cursor to the end
 pub part-from : (s : List ℕ) (from : ℕ) → take (length s - from) (drop from s) ≡ drop from s

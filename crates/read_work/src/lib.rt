@@ -4,15 +4,18 @@ use block::Headings;
 use block::Kind;
 use block::Reading;
 use block::Refusal;
+use lines::BODY_LINE;
 use lines::Opening;
 ghost use mathlib.Core.Path.{_≡_};
 ghost use Prim.Native.Nat.{_+_, _≤_};
 ghost use lib.ListN.{length};
-ghost use Rattle.lines.specs.ByPlace.{maskPart, valuesPart, wordPart, openingOf, closedOf, readingOf, afterOf};
+ghost use Rattle.block.specs.Limits.{givenRows};
+ghost use Rattle.block.specs.Words.{maskPart, valuesPart, wordPart};
+ghost use Rattle.lines.specs.ByPlace.{openingOf, closedOf, readingOf, afterOf};
 
-// The headings, or the faulty line after them: three headings stand before it, and lines are counted from 1.
+// The headings, or the faulty line of the body, by its number in the text.
 pub fn closed(h: Headings, fault: usize) -> Reading
-    requires { ⌜ (fault ≤ h .count + 2) × (h .count ≤ 128) ⌝ }
+    requires { ⌜ (fault ≤ h .count + 2) × (h .count ≤ givenRows) ⌝ }
     ensures { λ r. ⌜ r ≡ closedOf h fault ⌝ }
 {
     if fault == h.count + 2 {
@@ -20,7 +23,7 @@ pub fn closed(h: Headings, fault: usize) -> Reading
     }
     Reading::Refused(Refusal {
         kind: Kind::Form,
-        a: fault + 4,
+        a: BODY_LINE + fault,
         b: 0,
     })
 }

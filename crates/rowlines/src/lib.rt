@@ -1,14 +1,16 @@
-// The lines of row text after the headings, read by place: the rows, the last line, and nothing more. Every line is looked at before
+// The body of row text, read by place from its first line on: the rows, the last line, and nothing more. Every line is looked at before
 // anything is stored. All functions here are inner: the operation is `read_text` of the crate reading.
 ghost use mathlib.Core.Path.{_≡_};
 ghost use Prim.Native.Nat.{_≤_};
 ghost use lib.ListN.{length};
 ghost use Rattle.slices.specs.Places.{tab, first, over};
-ghost use Rattle.lines.specs.ByPlace.{brokenLine, fieldOf, endOf, faultOf, filledOf, maskPart, valuesPart, wordPart};
+ghost use Rattle.block.specs.Limits.{listInputs, outputs, smallerRows};
+ghost use Rattle.block.specs.Words.{maskPart, valuesPart, wordPart};
+ghost use Rattle.lines.specs.ByPlace.{brokenLine, fieldOf, endOf, faultOf, filledOf};
 
 // The first row that is broken, or p.
 pub fn first_broken(s: &[u8], n: usize, k: usize, p: usize) -> usize
-    requires { ⌜ (n ≤ 16) × (k ≤ 15) × (p ≤ 512) ⌝ }
+    requires { ⌜ (n ≤ listInputs) × (k ≤ outputs) × (p ≤ smallerRows) ⌝ }
     ensures { λ r. ⌜ r ≡ first p (brokenLine (now (s .entry)) n k) ⌝ }
 {
     let w = n + k + 2;
@@ -34,7 +36,7 @@ pub fn fill(
     values: &mut [u32],
     words: &mut [u32],
 )
-    requires { ⌜ (n ≤ 16) × (k ≤ 15) × (p ≤ 512) ⌝ }
+    requires { ⌜ (n ≤ listInputs) × (k ≤ outputs) × (p ≤ smallerRows) ⌝ }
     requires { ⌜ (p ≤ length (now masks)) × (p ≤ length (now values)) × (p ≤ length (now words)) ⌝ }
     ensures { λ _. ⌜ now (masks .exit) ≡ over (tab p (fieldOf maskPart (now (s .entry)) n k)) (now (masks .entry)) ⌝ }
     ensures { λ _. ⌜ now (values .exit) ≡ over (tab p (fieldOf valuesPart (now (s .entry)) n k)) (now (values .entry)) ⌝ }
@@ -55,7 +57,7 @@ pub fn fill(
 
 // After p rows: the last line's bytes, and the text's length against its end. The first faulty line, or p + 2.
 pub fn end_of(a: usize, b: usize, c: usize, size: usize, end: usize, p: usize) -> usize
-    requires { ⌜ p ≤ 512 ⌝ }
+    requires { ⌜ p ≤ smallerRows ⌝ }
     ensures { λ r. ⌜ r ≡ endOf a b c size end p ⌝ }
 {
     if a != 46 {
@@ -75,7 +77,7 @@ pub fn end_of(a: usize, b: usize, c: usize, size: usize, end: usize, p: usize) -
 
 // Of the p + 2 lines the first faulty one, from 0, or p + 2.
 pub fn first_fault(s: &[u8], n: usize, k: usize, p: usize) -> usize
-    requires { ⌜ (n ≤ 16) × (k ≤ 15) × (p ≤ 512) ⌝ }
+    requires { ⌜ (n ≤ listInputs) × (k ≤ outputs) × (p ≤ smallerRows) ⌝ }
     ensures { λ r. ⌜ r ≡ faultOf (now (s .entry)) n k p ⌝ }
 {
     let f = first_broken(s, n, k, p);
@@ -83,9 +85,9 @@ pub fn first_fault(s: &[u8], n: usize, k: usize, p: usize) -> usize
         return f;
     }
     let e = p * (n + k + 2);
-    let a = headlines::byte(s, e);
-    let b = headlines::byte(s, e + 1);
-    let c = headlines::byte(s, e + 2);
+    let a = read_bytes::byte(s, e);
+    let b = read_bytes::byte(s, e + 1);
+    let c = read_bytes::byte(s, e + 2);
     end_of(a, b, c, s.len(), e + 3, p)
 }
 
@@ -99,7 +101,7 @@ pub fn read_rows(
     values: &mut [u32],
     words: &mut [u32],
 ) -> usize
-    requires { ⌜ (n ≤ 16) × (k ≤ 15) × (p ≤ 512) ⌝ }
+    requires { ⌜ (n ≤ listInputs) × (k ≤ outputs) × (p ≤ smallerRows) ⌝ }
     requires { ⌜ (p ≤ length (now masks)) × (p ≤ length (now values)) × (p ≤ length (now words)) ⌝ }
     ensures { λ r. ⌜ r ≡ faultOf (now (s .entry)) n k p ⌝ }
     ensures { λ r. ⌜ now (masks .exit) ≡ filledOf r p (fieldOf maskPart (now (s .entry)) n k) (now (masks .entry)) ⌝ }

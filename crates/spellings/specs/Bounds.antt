@@ -32,7 +32,7 @@ spelled-bound s from free zero = omega arith
 spelled-bound s from free (suc i) =
     omega (arith, step-bound (spelledAt s from free i) (at s (from + i)) free, spelled-bound s from free i)
 
--- what at most 16 symbols spell
-pub spelled-below : (s : List ℕ) (from free i : ℕ) → i ≤ 16
-    → (maskOf (spelledAt s from free i) < 65536) × (valuesOf (spelledAt s from free i) < 65536)
-spelled-below s from free i h = omega (arith, spelled-bound s from free i, pow-mono h)
+-- what at most so many symbols spell
+pub spelled-below : (s : List ℕ) (from free i most : ℕ) → i ≤ most
+    → (maskOf (spelledAt s from free i) < 2 ^ most) × (valuesOf (spelledAt s from free i) < 2 ^ most)
+spelled-below s from free i most h = let p : 2 ^ i ≤ 2 ^ most = pow-mono h in omega (arith, spelled-bound s from free i)

@@ -4,12 +4,13 @@ use block::Row;
 use lines::Line;
 use lines::Spelling;
 ghost use mathlib.Core.Path.{_≡_};
-ghost use Prim.Native.Nat.{_≤_, _<_};
-ghost use Rattle.lines.specs.ByPlace.{maskOf, valuesOf, stepOf, spelledAt, joinedOf, rowFrom, isBroken, rowOr};
+ghost use Prim.Native.Nat.{_+_, _^_, _≤_, _<_};
+ghost use Rattle.block.specs.Limits.{listInputs, outputs};
+ghost use Rattle.lines.specs.ByPlace.{farthest, maskOf, valuesOf, stepOf, spelledAt, joinedOf, rowFrom, isBroken, rowOr};
 
 // One symbol more, as the lowest input; `free` is the byte of a free one.
 pub fn step(st: Spelling, b: usize, free: usize) -> Spelling
-    requires { ⌜ (maskOf st < 65536) × (valuesOf st < 65536) ⌝ }
+    requires { ⌜ (maskOf st < 2 ^ 31) × (valuesOf st < 2 ^ 31) ⌝ }
     ensures { λ r. ⌜ r ≡ stepOf st b free ⌝ }
 {
     match st {
@@ -29,15 +30,15 @@ pub fn step(st: Spelling, b: usize, free: usize) -> Spelling
     }
 }
 
-// The symbols from a place on.
+// The symbols from a place on: at most as many as a number of 32 bits holds.
 pub fn spelling(s: &[u8], from: usize, count: usize, free: usize) -> Spelling
-    requires { ⌜ (from < 65536) × (count ≤ 16) ⌝ }
+    requires { ⌜ (from < farthest) × (count ≤ 32) ⌝ }
     ensures { λ r. ⌜ r ≡ spelledAt (now (s .entry)) from free count ⌝ }
 {
     let mut st = Spelling::Good(0, 0);
     let mut i = 0;
     while i < count {
-        st = step(st, headlines::byte(s, from + i), free);
+        st = step(st, read_bytes::byte(s, from + i), free);
         i += 1;
     }
     st
@@ -68,13 +69,13 @@ pub fn joined(inputs: Spelling, gap: usize, outputs: Spelling, end: usize) -> Li
 
 // The row from a place on.
 pub fn read_row(s: &[u8], from: usize, n: usize, k: usize) -> Line
-    requires { ⌜ (from < 65000) × (n ≤ 16) × (k ≤ 15) ⌝ }
+    requires { ⌜ (from + n + 1 < farthest) × (n ≤ listInputs) × (k ≤ outputs) ⌝ }
     ensures { λ r. ⌜ r ≡ rowFrom (now (s .entry)) n k from ⌝ }
 {
     let inputs = spelling(s, from, n, 45);
-    let gap = headlines::byte(s, from + n);
+    let gap = read_bytes::byte(s, from + n);
     let outputs = spelling(s, from + n + 1, k, 48);
-    let end = headlines::byte(s, from + n + 1 + k);
+    let end = read_bytes::byte(s, from + n + 1 + k);
     joined(inputs, gap, outputs, end)
 }
 

@@ -10,10 +10,10 @@ use lib.ListN.{length, getD, take, drop, length-map, List·getD-map}
 use lib.Seq.{take-at}
 use Rattle.slices.specs.Places.{at}
 use Rattle.slices.specs.Filled.{tab-cong, tab-list}
-use Rattle.block.specs.Limits.{sheetRoom, givenRows}
-use Rattle.block.specs.Words.{row, rowsOf}
+use Rattle.block.specs.Limits.{sheetRoom, givenRows, readBytes}
+use Rattle.block.specs.Words.{row, rowsOf, maskPart, valuesPart, wordPart}
 use Rattle.block.specs.Refusals.{answer, verdict, stored}
-use Rattle.block.specs.Text.{readVerdict, readText, headNumber, rowsIn, kindNumber, numbers}
+use Rattle.block.specs.Text.{inputsIn, outputsIn, countIn, readChecks, readVerdict, readText, rowsIn, kindNumber, numbers}
 use Rattle.block.specs.Lists.{methodChecks}
 use Rattle.block.specs.Sheet.{sheetText, sheetVerdict}
 use Rattle.block.specs.declared.Row.{Row}
@@ -41,47 +41,47 @@ kind-some Count e = omega arith
 kind-some Room e = omega arith
 kind-some Form e = omega arith
 
--- an accepted text has at most 128 rows
-count-le : (text : List ℕ) (room : ℕ) → readVerdict text room .number ≡ 0 → headNumber text 2 ≤ 128
+-- an accepted text has at most as many rows as can be given
+count-le : (text : List ℕ) (room : ℕ) → readVerdict text room .number ≡ 0 → countIn text ≤ givenRows
 unfolding readVerdict
 count-le text room e =
-    let clear = answered-clear _ (refl, (refl, (refl, (refl, (refl, (refl, tt)))))) (eq-eqb _ 0 e) in
-    inside 1 128 (headNumber text 2) (clear 3 (omega arith)) .1
+    let clear = answered-clear (readChecks text room) (refl, (refl, (refl, (refl, (refl, (refl, tt)))))) (eq-eqb _ 0 e) in
+    inside 1 givenRows (countIn text) (clear 3 (omega arith)) .1
 
 -- the list whose masks, values and words lie in three slices is the list
 rows-parts : (rs : List Row)
-    → rowsOf (map (λ (r : Row). r .mask) rs) (map (λ (r : Row). r .values) rs) (map (λ (r : Row). r .word) rs) ≡ rs
+    → rowsOf (map maskPart rs) (map valuesPart rs) (map wordPart rs) ≡ rs
 rows-parts rs =
-    let masks : List ℕ = map (λ (r : Row). r .mask) rs in
-    let values : List ℕ = map (λ (r : Row). r .values) rs in
-    let words : List ℕ = map (λ (r : Row). r .word) rs in
-    let size = length-map rs (λ (r : Row). r .mask) in
-    rows-of masks values words (length-map rs (λ (r : Row). r .values) ∙ sym size) (length-map rs (λ (r : Row). r .word) ∙ sym size)
+    let masks : List ℕ = map maskPart rs in
+    let values : List ℕ = map valuesPart rs in
+    let words : List ℕ = map wordPart rs in
+    let size = length-map rs maskPart in
+    rows-of masks values words (length-map rs valuesPart ∙ sym size) (length-map rs wordPart ∙ sym size)
     ∙ ap (λ (i : ℕ). rowsFrom i masks values words) size
     ∙ tab-cong (length rs) (λ i. row (at masks i) (at values i) (at words i)) (λ i. getD rs i (row 0 0 0))
     (λ i h.
     rw (
-      List·getD-map (λ (r : Row). r .mask) rs i (row 0 0 0),
-      List·getD-map (λ (r : Row). r .values) rs i (row 0 0 0),
-      List·getD-map (λ (r : Row). r .word) rs i (row 0 0 0),
+      List·getD-map maskPart rs i (row 0 0 0),
+      List·getD-map valuesPart rs i (row 0 0 0),
+      List·getD-map wordPart rs i (row 0 0 0),
     ))
     ∙ tab-list (row 0 0 0) rs
 
 -- the verdict of a room that is long enough
-enough : (n k w : ℕ) (rs : List Row) (room : ℕ) → 17518 ≤ room → sheetVerdict n k w rs room ≡ sheetVerdict n k w rs sheetRoom
+enough : (n k w : ℕ) (rs : List Row) (room : ℕ) → sheetRoom ≤ room → sheetVerdict n k w rs room ≡ sheetVerdict n k w rs sheetRoom
 unfolding sheetVerdict
 enough n k w rs room h = ap (λ (b : Bool). verdict (methodChecks n k w rs b)) (le-ltb room sheetRoom h ∙ sym (le-ltb sheetRoom sheetRoom (omega arith)))
 
 -- the number is the reader's where it refuses, and else the sheet's
-pub verdict-reader : (input : List ℕ) → (readVerdict (take 8192 input) givenRows .number ≡ 0 → ⊥)
-    → textVerdict input ≡ readVerdict (take 8192 input) givenRows
+pub verdict-reader : (input : List ℕ) → (readVerdict (take readBytes input) givenRows .number ≡ 0 → ⊥)
+    → textVerdict input ≡ readVerdict (take readBytes input) givenRows
 unfolding textVerdict
-verdict-reader input h = rw (ne-eqb (readVerdict (take 8192 input) givenRows .number) 0 h)
+verdict-reader input h = rw (ne-eqb (readVerdict (take readBytes input) givenRows .number) 0 h)
 
-pub verdict-sheet : (input : List ℕ) → readVerdict (take 8192 input) givenRows .number ≡ 0
-    → textVerdict input ≡ sheetVerdict (headNumber (take 8192 input) 0) (headNumber (take 8192 input) 1) (min 3 (headNumber (take 8192 input) 0)) (rowsIn (take 8192 input)) sheetRoom
+pub verdict-sheet : (input : List ℕ) → readVerdict (take readBytes input) givenRows .number ≡ 0
+    → textVerdict input ≡ sheetVerdict (inputsIn (take readBytes input)) (outputsIn (take readBytes input)) (min 3 (inputsIn (take readBytes input))) (rowsIn (take readBytes input)) sheetRoom
 unfolding textVerdict
-verdict-sheet input h = rw (eq-eqb (readVerdict (take 8192 input) givenRows .number) 0 h)
+verdict-sheet input h = rw (eq-eqb (readVerdict (take readBytes input) givenRows .number) 0 h)
 
 -- an answer without results
 abbrev refused : Answer → SheetWork
@@ -90,9 +90,9 @@ refused v = record { number = v .number; a = v .a; b = v .b; before = 0; after =
 no-sheet : (u v : Answer) (x y c l : ℕ) → v ≡ u → (u .number ≡ 0 → ⊥) → refused u ≡ withSheet v x y c l
 no-sheet u v x y c l e h = rw (e, ne-eqb (u .number) 0 h)
 
-module _ (input text : List ℕ) (reading : Reading) (cut : text ≡ take 8192 input) (answers : numbers reading ≡ readText text 128) where
+module _ (input text : List ℕ) (reading : Reading) (cut : text ≡ take readBytes input) (answers : numbers reading ≡ readText text givenRows) where
   abbrev u : Answer
-  u = readVerdict text 128
+  u = readVerdict text givenRows
 
   -- the reader refuses
   pub reader-refused : (f : Refusal) (l : List ℕ) → reading ≡ Refused f
@@ -100,7 +100,7 @@ module _ (input text : List ℕ) (reading : Reading) (cut : text ≡ take 8192 i
       × (l ≡ stored (textVerdict input) (sheetIn input) l)
   unfolding readText textWork textVerdict
   reader-refused f l e =
-      let q : numbers (Refused f) ≡ readText text 128 = ap numbers (sym e) ∙ answers in
+      let q : numbers (Refused f) ≡ readText text givenRows = ap numbers (sym e) ∙ answers in
       let said : answer (kindNumber (f .kind)) (f .a) (f .b) ≡ u = ap (λ (x : ReadAnswer). answer (x .number) (x .a) (x .b)) q in
       let z : u .number ≡ 0 → ⊥ = λ z. kind-some (f .kind) (ap (λ (v : Answer). v .number) said ∙ z) in
       let t : textVerdict input ≡ u = rw (← cut, ne-eqb (u .number) 0 z) in (
@@ -109,27 +109,27 @@ module _ (input text : List ℕ) (reading : Reading) (cut : text ≡ take 8192 i
       )
 
   module _ (h : Headings) (e : reading ≡ Accepted h) where
-    same : numbers (Accepted h) ≡ readText text 128
+    same : numbers (Accepted h) ≡ readText text givenRows
     same = ap numbers (sym e) ∙ answers
 
     zero : u .number ≡ 0
     unfolding readText
     zero = sym (ap (λ (x : ReadAnswer). x .number) same)
 
-    inputs : h .n ≡ headNumber text 0
+    inputs : h .n ≡ inputsIn text
     unfolding readText
-    inputs = ap (λ (x : ReadAnswer). x .n) same ∙ carried-yes u (headNumber text 0) zero
+    inputs = ap (λ (x : ReadAnswer). x .n) same ∙ carried-yes u (inputsIn text) zero
 
-    columns : h .k ≡ headNumber text 1
+    columns : h .k ≡ outputsIn text
     unfolding readText
-    columns = ap (λ (x : ReadAnswer). x .k) same ∙ carried-yes u (headNumber text 1) zero
+    columns = ap (λ (x : ReadAnswer). x .k) same ∙ carried-yes u (outputsIn text) zero
 
-    counted : h .count ≡ headNumber text 2
+    counted : h .count ≡ countIn text
     unfolding readText
-    counted = ap (λ (x : ReadAnswer). x .count) same ∙ carried-yes u (headNumber text 2) zero
+    counted = ap (λ (x : ReadAnswer). x .count) same ∙ carried-yes u (countIn text) zero
 
-    pub reader-count : h .count ≤ 128
-    reader-count = rw counted (count-le text 128 zero)
+    pub reader-count : h .count ≤ givenRows
+    reader-count = rw counted (count-le text givenRows zero)
 
     -- a part of the rows at the front of storage
     front : (f : Row → ℕ) (l l′ : List ℕ) → l′ ≡ stored u (map f (rowsIn text)) l → take (h .count) l′ ≡ map f (rowsIn text)
@@ -139,9 +139,9 @@ module _ (input text : List ℕ) (reading : Reading) (cut : text ≡ take 8192 i
         (length-map (rowsIn text) f ∙ rows-count text ∙ sym counted)
 
     -- the work of the rows in storage
-    pub reader-accepted : (m v d m′ v′ d′ : List ℕ) → m′ ≡ stored u (map (λ (r : Row). r .mask) (rowsIn text)) m
-        → v′ ≡ stored u (map (λ (r : Row). r .values) (rowsIn text)) v → d′ ≡ stored u (map (λ (r : Row). r .word) (rowsIn text)) d
-        → (l l′ : List ℕ) (r : SheetWork) → 17518 ≤ length l
+    pub reader-accepted : (m v d m′ v′ d′ : List ℕ) → m′ ≡ stored u (map maskPart (rowsIn text)) m
+        → v′ ≡ stored u (map valuesPart (rowsIn text)) v → d′ ≡ stored u (map wordPart (rowsIn text)) d
+        → (l l′ : List ℕ) (r : SheetWork) → sheetRoom ≤ length l
         → r ≡ sheetWork (h .n) (h .k) (min 3 (h .n)) (rowsOf (take (h .count) m′) (take (h .count) v′) (take (h .count) d′)) (length l)
         → l′ ≡ stored (sheetVerdict (h .n) (h .k) (min 3 (h .n)) (rowsOf (take (h .count) m′) (take (h .count) v′) (take (h .count) d′)) (length l))
         (sheetText (h .n) (h .k) (min 3 (h .n)) (rowsOf (take (h .count) m′) (take (h .count) v′) (take (h .count) d′))) l
@@ -150,11 +150,11 @@ module _ (input text : List ℕ) (reading : Reading) (cut : text ≡ take 8192 i
     reader-accepted m v d m′ v′ d′ a b c l l′ r long e q =
         let rows : rowsOf (take (h .count) m′) (take (h .count) v′) (take (h .count) d′) ≡ rowsIn text =
         rw (
-          front (λ (r : Row). r .mask) m m′ a,
-          front (λ (r : Row). r .values) v v′ b,
-          front (λ (r : Row). r .word) d d′ c,
+          front maskPart m m′ a,
+          front valuesPart v v′ b,
+          front wordPart d d′ c,
           rows-parts (rowsIn text),
         ) in (
-          e ∙ rw (← cut, eq-eqb (u .number) 0 zero, inputs, columns, rows, enough (headNumber text 0) (headNumber text 1) (min 3 (headNumber text 0)) (rowsIn text) (length l) long),
-          q ∙ rw (← cut, eq-eqb (u .number) 0 zero, inputs, columns, rows, enough (headNumber text 0) (headNumber text 1) (min 3 (headNumber text 0)) (rowsIn text) (length l) long),
+          e ∙ rw (← cut, eq-eqb (u .number) 0 zero, inputs, columns, rows, enough (inputsIn text) (outputsIn text) (min 3 (inputsIn text)) (rowsIn text) (length l) long),
+          q ∙ rw (← cut, eq-eqb (u .number) 0 zero, inputs, columns, rows, enough (inputsIn text) (outputsIn text) (min 3 (inputsIn text)) (rowsIn text) (length l) long),
         )

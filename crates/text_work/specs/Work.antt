@@ -4,13 +4,13 @@ use mathlib.Core.Bool.{cond}
 use mathlib.Core.List.{List}
 use Prim.Native.Nat.{ℕ, min}
 use lib.ListN.{length, take}
-use Rattle.block.specs.Limits.{sheetRoom, givenRows}
+use Rattle.block.specs.Limits.{sheetRoom, givenRows, readBytes}
 use Rattle.block.specs.Words.{ofRows}
 use Rattle.block.specs.Measure.{measure}
 use Rattle.block.specs.Basis.{smallerOf}
 use Rattle.block.specs.Refusals.{answered}
 use Rattle.block.specs.Lists.{smallerList}
-use Rattle.block.specs.Text.{readVerdict, headNumber, rowsIn}
+use Rattle.block.specs.Text.{readVerdict, inputsIn, outputsIn, rowsIn}
 use Rattle.block.specs.Sheet.{sheetText, sheetVerdict}
 use Rattle.block.specs.declared.Row.{Row}
 use Rattle.block.specs.declared.Answer.{Answer}
@@ -20,23 +20,23 @@ use Rattle.sheet_work.specs.declared.SheetWork.{SheetWork}
 -- the reader's refusal, or else the sheet's verdict
 unfoldable pub textVerdict : List ℕ → Answer
 textVerdict input =
-    let text : List ℕ = take 8192 input in
-    let n : ℕ = headNumber text 0 in
+    let text : List ℕ = take readBytes input in
+    let n : ℕ = inputsIn text in
     let u : Answer = readVerdict text givenRows in
-    cond (answered u) (sheetVerdict n (headNumber text 1) (min 3 n) (rowsIn text) sheetRoom) u
+    cond (answered u) (sheetVerdict n (outputsIn text) (min 3 n) (rowsIn text) sheetRoom) u
 
 -- the sheet of the rows
 unfoldable pub sheetIn : List ℕ → List ℕ
 sheetIn input =
-    let text : List ℕ = take 8192 input in
-    let n : ℕ = headNumber text 0 in
-    sheetText n (headNumber text 1) (min 3 n) (rowsIn text)
+    let text : List ℕ = take readBytes input in
+    let n : ℕ = inputsIn text in
+    sheetText n (outputsIn text) (min 3 n) (rowsIn text)
 
 -- the answer with the measures, the number of smaller rows and the number of bytes
 unfoldable pub textWork : List ℕ → SheetWork
 textWork input =
-    let text : List ℕ = take 8192 input in
-    let n : ℕ = headNumber text 0 in
+    let text : List ℕ = take readBytes input in
+    let n : ℕ = inputsIn text in
     let rs : List Row = rowsIn text in
     withSheet (textVerdict input) (measure (ofRows rs) n) (measure (smallerOf (ofRows rs) n (min 3 n)) n)
     (length (smallerList n (min 3 n) rs)) (length (sheetIn input))

@@ -1,10 +1,13 @@
 // The work of a text (01, the first section, and The sheet): the bytes looked at, the weight limit, and the sheet of the rows that the
 // text says, with its measures and the number of smaller rows. What the programs print rests on it. All functions here are inner.
+use block::GIVEN_ROWS;
+use block::READ_BYTES;
 use block::Reading;
 use sheet_work::SheetWork;
 ghost use mathlib.Core.Path.{_≡_};
 ghost use Prim.Native.Nat.{_≤_, min};
 ghost use lib.ListN.{length, take};
+ghost use Rattle.block.specs.Limits.{sheetRoom};
 ghost use Rattle.block.specs.Words.{rowsOf};
 ghost use Rattle.block.specs.Refusals.{stored};
 ghost use Rattle.block.specs.Sheet.{sheetText, sheetVerdict};
@@ -47,14 +50,14 @@ pub fn work_list(
 
 // Writes the sheet of a text to the front of out, or refuses.
 pub fn work_text(input: &[u8], out: &mut [u8]) -> SheetWork
-    requires { ⌜ 17518 ≤ length (now out) ⌝ }
+    requires { ⌜ sheetRoom ≤ length (now out) ⌝ }
     ensures { λ r. ⌜ r ≡ textWork (now (input .entry)) ⌝ }
     ensures { λ r. ⌜ now (out .exit) ≡ stored (textVerdict (now (input .entry))) (sheetIn (now (input .entry))) (now (out .entry)) ⌝ }
 {
-    let text = first_bytes(input, 8192);
-    let mut masks = [0u32; 128];
-    let mut values = [0u32; 128];
-    let mut words = [0u32; 128];
+    let text = first_bytes(input, READ_BYTES);
+    let mut masks = [0u32; GIVEN_ROWS];
+    let mut values = [0u32; GIVEN_ROWS];
+    let mut words = [0u32; GIVEN_ROWS];
     let reading = reading::read_text(text, &mut masks, &mut values, &mut words);
     match reading {
         Reading::Refused(r) => {

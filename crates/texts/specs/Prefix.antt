@@ -1,4 +1,4 @@
--- What lies beyond the first 8,192 bytes of a text changes no answer (`first-bytes`): a line that is due is at most 33 bytes, so the
+-- What lies beyond the first 8,192 bytes of a text changes no answer (`first-bytes`): a line that is due is no longer than a row, so the
 -- first line that is not, or the end, shows itself before that. Assumes nothing.
 use mathlib.Core.Path.{_≡_, refl, sym, ap, _∙_}
 use mathlib.Core.Bool.{Bool, true, false, not, cond}
@@ -12,17 +12,17 @@ use lib.Dec.{eqb, ltb}
 use lib.ListN.{length, take, drop}
 use lib.Seq.{take-all, take-nil, length-take-le}
 use Rattle.slices.specs.Places.{first}
-use Rattle.slices.specs.Least.{first-le, first-below, first-cong, first-same}
-use Rattle.block.specs.Refusals.{answer, verdict, carried, outside}
-use Rattle.block.specs.Text.{endLine, lineAt, numberPart, headForm, due, headNumber, faulty, readVerdict, readText}
+use Rattle.slices.specs.Least.{first-le, first-below, first-same}
+use Rattle.block.specs.Limits.{listInputs, outputs, givenRows, rowBytes, readBytes}
+use Rattle.block.specs.Refusals.{answer, verdict, outside}
+use Rattle.block.specs.Text.{endLine, lines, lineAt, headDigits, numberPart, headForm, valueOf, headCount, headDue, headFault, headNumber, inputsIn, outputsIn, countIn, body, bodyDue, bodyFault, firstLine, bodyLine, readVerdict, withHeadings, readText}
 use Rattle.block.specs.declared.Answer.{Answer}
 use Rattle.block.specs.declared.ReadAnswer.{ReadAnswer}
 use Rattle.checks.specs.Sizes.{inside}
 use Rattle.rowtext.specs.Length.{heading-le}
 use Rattle.lines.specs.Tests.{equal-true}
-use Rattle.lines.specs.Front.{front, start, line-front}
+use Rattle.lines.specs.Front.{front, start, line-front, lines-from}
 use Rattle.lines.specs.HeadLines.{form-written}
-use Rattle.lines.specs.Numerals.{valueOf}
 use Rattle.lines.specs.RowLines.{row-length}
 use Rattle.lines.specs.Whole.{row-due, end-due, past-due}
 use Rattle.texts.specs.Accepted.{accepted-le}
@@ -68,24 +68,27 @@ line-take s m i h =
     ∙ front-from s m (start s i) h
     ∙ ap (take (m - start s i)) (sym (line-front s i))
 
--- ---- a test of lines that passes none longer than 33 bytes
+-- ---- a test of lines that passes none longer than the longest row
 
-module _ (s : List ℕ) (m c : ℕ) (room : c * 33 + 34 ≤ m) (d : ℕ → List ℕ → Bool)
-    (short : (i : ℕ) (l : List ℕ) → i < c → d i l ≡ true → length l ≤ 33) where
-  start-le : (i : ℕ) → i ≤ c → ((j : ℕ) → j < i → d j (lineAt s j) ≡ true) → start s i ≤ i * 33
+abbrev longest : ℕ
+longest = rowBytes listInputs outputs
+
+module _ (s : List ℕ) (m c : ℕ) (room : c * longest + longest < m) (d : ℕ → List ℕ → Bool)
+    (short : (i : ℕ) (l : List ℕ) → i < c → d i l ≡ true → length l ≤ longest) where
+  pub starts-by : (i : ℕ) → i ≤ c → ((j : ℕ) → j < i → d j (lineAt s j) ≡ true) → start s i ≤ i * longest
   unfolding start
-  start-le zero l h = omega arith
-  start-le (suc i) l h =
+  starts-by zero l h = omega arith
+  starts-by (suc i) l h =
       omega (
         arith,
-        start-le i (omega arith) (λ j b. h j (omega arith)),
+        starts-by i (omega arith) (λ j b. h j (omega arith)),
         short i (lineAt s i) (omega arith) (h i (omega arith)),
         ap length (line-front s i),
       )
 
   -- a place that is reached leaves room for a line
-  reached : (i : ℕ) → i ≤ c → ((j : ℕ) → j < i → d j (lineAt s j) ≡ true) → start s i + 34 ≤ m
-  reached i l h = omega (arith, start-le i l h)
+  reached : (i : ℕ) → i ≤ c → ((j : ℕ) → j < i → d j (lineAt s j) ≡ true) → start s i + longest < m
+  reached i l h = omega (arith, starts-by i l h)
 
   -- lines that pass are not cut off
   pub lines-kept : (i : ℕ) → i < c → ((j : ℕ) → j ≤ i → d j (lineAt s j) ≡ true) → lineAt (take m s) i ≡ lineAt s i
@@ -98,10 +101,10 @@ module _ (s : List ℕ) (m c : ℕ) (room : c * 33 + 34 ≤ m) (d : ℕ → List
   test-kept i l h =
       rw (line-take s m i (omega (arith, r))) (go (decLe (length (lineAt s i)) (m - start s i)))
     where
-      r : start s i + 34 ≤ m
+      r : start s i + longest < m
       r = reached i (omega arith) h
 
-      long : (t : List ℕ) → 33 < length t → d i t ≡ false
+      long : (t : List ℕ) → longest < length t → d i t ≡ false
       long t b = over (d i t) refl
         where
           over : (x : Bool) → d i t ≡ x → d i t ≡ false
@@ -121,132 +124,127 @@ module _ (s : List ℕ) (m c : ℕ) (room : c * 33 + 34 ≤ m) (d : ℕ → List
 
 -- ---- lines that are due are short
 
-heading-short : (letter : ℕ) (l : List ℕ) → headForm letter l ≡ true → length l ≤ 33
+heading-short : (letter : ℕ) (l : List ℕ) → headForm letter l ≡ true → length l ≤ longest
 heading-short letter l e =
     let f = form-written letter l e in
-    omega (arith, ap length (f .0), heading-le letter (valueOf (numberPart l)) 3 (omega arith) (f .1))
+    omega (arith, ap length (f .0), heading-le letter (valueOf (numberPart l)) headDigits (omega arith) (f .1))
 
-due-short : (n k p : ℕ) → n ≤ 16 → k ≤ 15 → (i : ℕ) (l : List ℕ) → i < 5 + p → due n k p i l ≡ true → length l ≤ 33
-unfolding due
-due-short n k p hn hk zero l h e = heading-short 105 l e
-due-short n k p hn hk (suc zero) l h e = heading-short 111 l e
-due-short n k p hn hk (suc (suc zero)) l h e = heading-short 112 l e
-due-short n k p hn hk (suc (suc (suc j))) l h e = go (decLt j p) (decLt p j)
+body-short : (n k p : ℕ) → n ≤ listInputs → k ≤ outputs → (i : ℕ) (l : List ℕ) → bodyDue n k p i l ≡ true → length l ≤ longest
+body-short n k p hn hk i l e = go (decLt i p) (decLt p i)
   where
-    at-rest : (i : ℕ) → j ≡ i → due n k p (3 + i) l ≡ true
-    at-rest i q =
-        let r : 3 + i ≡ suc (suc (suc j)) = omega arith in
-        ap (λ (m : ℕ). due n k p m l) r ∙ e
-
-    go : Dec (j < p) → Dec (p < j) → length l ≤ 33
-    go (yes b) c = omega (arith, row-length n k l (sym (row-due n k p j l b) ∙ at-rest j refl))
-    go (no b) (no c) = omega (arith, ap length (equal-true l endLine (sym (end-due n k p l) ∙ at-rest p (omega arith))))
-    go (no b) (yes c) = omega (arith, ap length (equal-true l [] (sym (past-due n k p l) ∙ at-rest (p + 1) (omega arith))))
-
--- a heading is due whatever the numbers
-heads-due : (n k p i : ℕ) (l : List ℕ) → i < 3 → due n k p i l ≡ due 0 0 0 i l
-unfolding due
-heads-due n k p zero l h = refl
-heads-due n k p (suc zero) l h = refl
-heads-due n k p (suc (suc zero)) l h = refl
-heads-due n k p (suc (suc (suc i))) l h = absurd (omega arith)
+    go : Dec (i < p) → Dec (p < i) → length l ≤ longest
+    go (yes b) c = omega (arith, row-length n k l (sym (row-due n k p i l b) ∙ e))
+    go (no b) (no c) =
+        let q : i ≡ p = omega arith in
+        omega (arith, ap length (equal-true l endLine (sym (end-due n k p l) ∙ ap (λ (j : ℕ). bodyDue n k p j l) (sym q) ∙ e)))
+    go (no b) (yes c) = omega (arith, ap length (equal-true l [] (sym (past-due n k p i l c) ∙ e)))
 
 -- ---- the answer
 
--- the checks of reading by their numbers: f and g are the least faulty heading and the least faulty line
+-- the checks of reading by their numbers: f and g are the least faulty heading and the least faulty line of the body
 abbrev checks : ℕ → ℕ → ℕ → ℕ → ℕ → ℕ → Answer
 checks f n k p room g =
-    cond (ltb f 3) (answer 10 (suc f) 0)
-    (cond (outside 1 16 n) (answer 1 0 0)
-    (cond (outside 1 15 k) (answer 2 0 0)
-    (cond (outside 1 128 p) (answer 4 0 0)
+    cond (ltb f headCount) (answer 10 (firstLine + f) 0)
+    (cond (outside 1 listInputs n) (answer 1 0 0)
+    (cond (outside 1 outputs k) (answer 2 0 0)
+    (cond (outside 1 givenRows p) (answer 4 0 0)
     (cond (ltb room p) (answer 5 0 0)
-    (cond (ltb g (5 + p)) (answer 10 (suc g) 0) (answer 0 0 0))))))
+    (cond (ltb g (p + 2)) (answer 10 (bodyLine + g) 0) (answer 0 0 0))))))
 
--- the line counts only where the ranges hold
-checks-same : (f n k p room g g' : ℕ) → (n ≤ 16 → k ≤ 15 → p ≤ 128 → g ≡ g') → checks f n k p room g ≡ checks f n k p room g'
+-- the body counts only where the ranges hold
+checks-same : (f n k p room g g' : ℕ) → (n ≤ listInputs → k ≤ outputs → p ≤ givenRows → g ≡ g') → checks f n k p room g ≡ checks f n k p room g'
 checks-same f n k p room g g' h =
-    go (ltb f 3) (outside 1 16 n) (outside 1 15 k) (outside 1 128 p) refl refl refl
+    go (ltb f headCount) (outside 1 listInputs n) (outside 1 outputs k) (outside 1 givenRows p) refl refl refl
   where
     last : ℕ → Answer
-    last g = cond (ltb room p) (answer 5 0 0) (cond (ltb g (5 + p)) (answer 10 (suc g) 0) (answer 0 0 0))
+    last g = cond (ltb room p) (answer 5 0 0) (cond (ltb g (p + 2)) (answer 10 (bodyLine + g) 0) (answer 0 0 0))
 
-    go : (a b c d : Bool) → outside 1 16 n ≡ b → outside 1 15 k ≡ c → outside 1 128 p ≡ d
-        → cond a (answer 10 (suc f) 0) (cond b (answer 1 0 0) (cond c (answer 2 0 0) (cond d (answer 4 0 0) (last g))))
-        ≡ cond a (answer 10 (suc f) 0) (cond b (answer 1 0 0) (cond c (answer 2 0 0) (cond d (answer 4 0 0) (last g'))))
+    go : (a b c d : Bool) → outside 1 listInputs n ≡ b → outside 1 outputs k ≡ c → outside 1 givenRows p ≡ d
+        → cond a (answer 10 (firstLine + f) 0) (cond b (answer 1 0 0) (cond c (answer 2 0 0) (cond d (answer 4 0 0) (last g))))
+        ≡ cond a (answer 10 (firstLine + f) 0) (cond b (answer 1 0 0) (cond c (answer 2 0 0) (cond d (answer 4 0 0) (last g'))))
     go true b c d q r s = refl
     go false true c d q r s = refl
     go false false true d q r s = refl
     go false false false true q r s = refl
-    go false false false false q r s = ap last (h (inside 1 16 n q .1) (inside 1 15 k r .1) (inside 1 128 p s .1))
-
--- an answer with what it carries
-abbrev withHeadings : Answer → ℕ → ℕ → ℕ → ReadAnswer
-withHeadings v n k p =
-    record { number = v .number; a = v .a; b = v .b; n = carried v n; k = carried v k; count = carried v p }
+    go false false false false q r s = ap last (h (inside 1 listInputs n q .1) (inside 1 outputs k r .1) (inside 1 givenRows p s .1))
 
 module _ (text : List ℕ) (room : ℕ) where
   abbrev cutText : List ℕ
-  cutText = take 8192 text
+  cutText = take readBytes text
 
-  heads-faulty : (s : List ℕ) → faulty s 3 ≡ first 3 (λ i. not (due 0 0 0 i (lineAt s i)))
-  unfolding faulty
-  heads-faulty s =
-      first-cong 3 (λ i. not (due (headNumber s 0) (headNumber s 1) (headNumber s 2) i (lineAt s i))) (λ i. not (due 0 0 0 i (lineAt s i)))
-      (λ i h. ap not (heads-due (headNumber s 0) (headNumber s 1) (headNumber s 2) i (lineAt s i) h))
+  heads-kept : headFault text ≡ headFault cutText
+  unfolding headFault
+  heads-kept = first-kept text readBytes headCount (omega arith) headDue (λ i l h. heading-short _ l)
 
-  heads-kept : faulty text 3 ≡ faulty cutText 3
-  heads-kept =
-      heads-faulty text
-      ∙ first-kept text 8192 3 (omega arith) (due 0 0 0) (λ i l h. due-short 0 0 0 (omega arith) (omega arith) i l (omega arith))
-      ∙ sym (heads-faulty cutText)
+  -- where the headings have form: their lines, their numbers, and the lines of the body
 
-  -- the numbers, where the headings have form
-  numbers-kept : faulty text 3 ≡ 3 → (i : ℕ) → i < 3 → headNumber cutText i ≡ headNumber text i
-  numbers-kept f i h =
-      ap (λ (l : List ℕ). valueOf (numberPart l))
-      (lines-kept text 8192 3 (omega arith) (due 0 0 0) (λ i l h. due-short 0 0 0 (omega arith) (omega arith) i l (omega arith)) i h
-      (λ j b. not-false (due 0 0 0 j (lineAt text j)) (first-below 3 (λ i. not (due 0 0 0 i (lineAt text i))) j (omega (arith, heads-faulty text)))))
+  module _ (f : headFault text ≡ headCount) where
+    heads-due : (i : ℕ) → i < headCount → headDue i (lineAt text i) ≡ true
+    unfolding headFault
+    heads-due i h = not-false (headDue i (lineAt text i)) (first-below headCount (λ i. not (headDue i (lineAt text i))) i (omega arith))
 
-  -- the least faulty line of all, where the ranges hold
-  line-kept : (n k p : ℕ) → n ≤ 16 → k ≤ 15 → p ≤ 128
-      → first (5 + p) (λ i. not (due n k p i (lineAt text i))) ≡ first (5 + p) (λ i. not (due n k p i (lineAt cutText i)))
-  line-kept n k p hn hk hp = first-kept text 8192 (5 + p) (omega arith) (due n k p) (due-short n k p hn hk)
+    numbers-kept : (i : ℕ) → i < headCount → headNumber cutText i ≡ headNumber text i
+    numbers-kept i h =
+        ap (λ (l : List ℕ). valueOf (numberPart l))
+        (lines-kept text readBytes headCount (omega arith) headDue (λ i l h. heading-short _ l) i h (λ j b. heads-due j (omega arith)))
+
+    -- the text after the headings
+    abbrev rest : List ℕ
+    rest = drop (start text headCount) text
+
+    body-start : start text headCount ≤ headCount * longest
+    body-start = starts-by text readBytes headCount (omega arith) headDue (λ i l h. heading-short _ l) headCount (omega arith) heads-due
+
+    body-kept : body cutText ≡ lines (take (readBytes - start text headCount) rest)
+    body-kept =
+        let l = body-start in
+        let e : readBytes ≡ start text headCount + (readBytes - start text headCount) = omega arith in
+        lines-from cutText headCount
+        ∙ ap (λ (i : ℕ). lines (drop i cutText)) (start-take text readBytes headCount (omega arith))
+        ∙ ap (λ (i : ℕ). lines (drop (start text headCount) (take i text))) e
+        ∙ ap lines (drop-take (start text headCount) (readBytes - start text headCount) text)
+
+    -- the least faulty line of the body, where the ranges hold
+    line-kept : (n k p : ℕ) → n ≤ listInputs → k ≤ outputs → p ≤ givenRows → bodyFault n k p (body text) ≡ bodyFault n k p (body cutText)
+    unfolding bodyFault
+    line-kept n k p hn hk hp =
+        ap (bodyFault n k p) (lines-from text headCount)
+        ∙ first-kept rest (readBytes - start text headCount) (p + 2) (omega (arith, body-start)) (bodyDue n k p) (λ i l h. body-short n k p hn hk i l)
+        ∙ ap (bodyFault n k p) (sym body-kept)
 
   pub first-bytes : readText text room ≡ readText cutText room
-  unfolding readText readVerdict verdict faulty
-  first-bytes = go (decLt (faulty text 3) 3)
+  unfolding readText readVerdict verdict headFault
+  first-bytes = go (decLt (headFault text) headCount)
     where
       -- the answer by the numbers of the headings
       answerOf : List ℕ → ℕ → ℕ → ℕ → ℕ → ReadAnswer
-      answerOf s f n k p = withHeadings (checks f n k p room (first (5 + p) (λ i. not (due n k p i (lineAt s i))))) n k p
+      answerOf s f n k p = withHeadings (checks f n k p room (bodyFault n k p (body s))) n k p
 
       renamed : (s : List ℕ) (f f' n n' k k' p p' : ℕ) → f ≡ f' → n ≡ n' → k ≡ k' → p ≡ p' → answerOf s f n k p ≡ answerOf s f' n' k' p'
       renamed s f f' n n' k k' p p' a b c d = rw (a, b, c, d)
 
       -- a heading that is not due
-      stopped : (s : List ℕ) (f n k p : ℕ) → f < 3 → answerOf s f n k p ≡ withHeadings (answer 10 (suc f) 0) 0 0 0
-      stopped s f n k p l = rw (lt-ltb f 3 l)
+      stopped : (s : List ℕ) (f n k p : ℕ) → f < headCount → answerOf s f n k p ≡ withHeadings (answer 10 (firstLine + f) 0) 0 0 0
+      stopped s f n k p l = rw (lt-ltb f headCount l)
 
-      go : Dec (faulty text 3 < 3) → readText text room ≡ readText cutText room
+      go : Dec (headFault text < headCount) → readText text room ≡ readText cutText room
       go (yes l) =
-          stopped text (faulty text 3) (headNumber text 0) (headNumber text 1) (headNumber text 2) l
-          ∙ ap (λ (f : ℕ). withHeadings (answer 10 (suc f) 0) 0 0 0) heads-kept
-          ∙ sym (stopped cutText (faulty cutText 3) (headNumber cutText 0) (headNumber cutText 1) (headNumber cutText 2) (omega (arith, heads-kept)))
+          stopped text (headFault text) (inputsIn text) (outputsIn text) (countIn text) l
+          ∙ ap (λ (f : ℕ). withHeadings (answer 10 (firstLine + f) 0) 0 0 0) heads-kept
+          ∙ sym (stopped cutText (headFault cutText) (inputsIn cutText) (outputsIn cutText) (countIn cutText) (omega (arith, heads-kept)))
       go (no l) =
-          let f : faulty text 3 ≡ 3 = omega (arith, first-le 3 (λ i. not (due 0 0 0 i (lineAt text i))), heads-faulty text) in
-          let n = headNumber text 0 in
-          let k = headNumber text 1 in
-          let p = headNumber text 2 in
+          let f : headFault text ≡ headCount = omega (arith, first-le headCount (λ i. not (headDue i (lineAt text i)))) in
+          let n = inputsIn text in
+          let k = outputsIn text in
+          let p = countIn text in
           ap (λ (v : Answer). withHeadings v n k p)
-          (checks-same (faulty text 3) n k p room (first (5 + p) (λ i. not (due n k p i (lineAt text i))))
-          (first (5 + p) (λ i. not (due n k p i (lineAt cutText i)))) (line-kept n k p))
-          ∙ renamed cutText (faulty text 3) (faulty cutText 3) n (headNumber cutText 0) k (headNumber cutText 1) p (headNumber cutText 2) heads-kept
+          (checks-same (headFault text) n k p room (bodyFault n k p (body text)) (bodyFault n k p (body cutText)) (line-kept f n k p))
+          ∙ renamed cutText (headFault text) (headFault cutText) n (inputsIn cutText) k (outputsIn cutText) p (countIn cutText) heads-kept
           (sym (numbers-kept f 0 (omega arith))) (sym (numbers-kept f 1 (omega arith))) (sym (numbers-kept f 2 (omega arith)))
 
 -- a text whose first 8,192 bytes are accepted ends within them
-pub accepted-whole : (text : List ℕ) (room : ℕ) → readVerdict (take 8192 text) room .number ≡ 0 → take 8192 text ≡ text
+pub accepted-whole : (text : List ℕ) (room : ℕ) → readVerdict (take readBytes text) room .number ≡ 0 → take readBytes text ≡ text
 unfolding readText
 accepted-whole text room e =
     let z : readVerdict text room .number ≡ 0 = ap (λ (a : ReadAnswer). a .number) (first-bytes text room) ∙ e in
-    take-all 8192 text (omega (arith, accepted-le text room z))
+    take-all readBytes text (omega (arith, accepted-le text room z))

@@ -21,19 +21,38 @@ enum-known-opening-2 : tie.Need-enum-known-opening-2
 enum-known-opening-2 c = search needs
 
 sub-read-rows : tie.Need-sub-read-rows
-sub-read-rows c = cursor-le (now (c .before .before .before .before .before .before .before .before .args .text)) _ _ _ (sym (c .before .before .before .read-headings .ensures .0) ∙ c .before .opening2 .given .1)
+sub-read-rows c =
+    let opened = c .before in
+    let opening = opened .before .before in
+    let a = opening .before .before .before .before .before .args in
+    cursor-le (now (a .text)) _ _ _ (sym (opening .read-headings .ensures .0) ∙ opened .opening2 .given .1)
 
 part-read-rows-start : tie.Need-part-read-rows-start
-part-read-rows-start c = cursor-le (now (c .before .before .before .before .before .before .before .before .args .text)) _ _ _ (sym (c .before .before .before .read-headings .ensures .0) ∙ c .before .opening2 .given .1)
+part-read-rows-start c =
+    let opened = c .before in
+    let opening = opened .before .before in
+    let a = opening .before .before .before .before .before .args in
+    cursor-le (now (a .text)) _ _ _ (sym (opening .read-headings .ensures .0) ∙ opened .opening2 .given .1)
 
 part-read-rows-end : tie.Need-part-read-rows-end
 part-read-rows-end c = search needs
 
 read-rows-requires : tie.Need-read-rows-requires
-read-rows-requires c κs = omega (arith, subst (λ (x : Opening). openWithin x (c .before .before .before .before .before .before .before .before .before .before .before .before .args .room)) (c .before .before .before .before .before .opening2 .given .1) (c .before .before .before .before .before .before .before .read-headings .ensures .1))
+read-rows-requires c κs =
+    let opened = c .before .before .before .before .before in
+    let opening = opened .before .before in
+    let a = opening .before .before .before .before .before .args in
+    omega (arith, subst (λ (x : Opening). openWithin x (a .room)) (opened .opening2 .given .1) (opening .read-headings .ensures .1))
 
 closed-requires : tie.Need-closed-requires
-closed-requires c κs = (rw (c .before .before .before .before .before .before .read-rows .ensures .0) (fault-le _ _ _ _), omega (arith, subst (λ (x : Opening). openWithin x (c .before .before .before .before .before .before .before .before .before .before .before .before .before .before .before .before .before .before .before .args .room)) (c .before .before .before .before .before .before .before .before .before .before .before .before .opening2 .given .1) (c .before .before .before .before .before .before .before .before .before .before .before .before .before .before .read-headings .ensures .1)))
+closed-requires c κs =
+    let rows = c .before .before .before .before .before .before in
+    let opened = rows .before .before .before .before .before .before in
+    let opening = opened .before .before in
+    let a = opening .before .before .before .before .before .args in (
+      rw (rows .read-rows .ensures .0) (fault-le _ _ _ _),
+      omega (arith, subst (λ (x : Opening). openWithin x (a .room)) (opened .opening2 .given .1) (opening .read-headings .ensures .1)),
+    )
 
 returns : tie.Need-returns
 unfolding readingOf afterOf
@@ -51,8 +70,12 @@ same-length-3 c = search needs
 returns-2 : tie.Need-returns-2
 unfolding readingOf afterOf
 returns-2 c =
-    let r = c .before .before .before .before .before .before .before .read-rows .ensures in
-    rw (← (c .before .before .before .before .before .before .before .before .before .before .before .before .before .before .before .read-headings .ensures .0), c .before .before .before .before .before .before .before .before .before .before .before .before .before .opening2 .given .1, ← (part-from (now (c .before .before .before .before .before .before .before .before .before .before .before .before .before .before .before .before .before .before .before .before .args .text)) _), ← (r .0))
+    let rows = c .before .before .before .before .before .before .before in
+    let opened = rows .before .before .before .before .before .before in
+    let opening = opened .before .before in
+    let a = opening .before .before .before .before .before .args in
+    let r = rows .read-rows .ensures in
+    rw (← (opening .read-headings .ensures .0), opened .opening2 .given .1, ← (part-from (now (a .text)) _), ← (r .0))
     (c .closed .ensures, (r .1 .0, (r .1 .1 .0, r .1 .1 .1)))
 
 pub read-from-spec : {M : Type 1} → statement M

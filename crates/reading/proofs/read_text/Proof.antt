@@ -4,8 +4,8 @@ use mathlib.Core.Path.{_≡_, ap, _∙_}
 use native.Mathlib.Omega.{arith}
 use borrow.Author.Needs.{needs}
 use denote.Ref.{now}
+use Rattle.block.specs.Words.{maskPart, valuesPart, wordPart}
 use Rattle.block.specs.Text.{readText, numbers}
-use Rattle.lines.specs.ByPlace.{maskPart, valuesPart, wordPart}
 use Rattle.lines.specs.Answers.{numbers-read, after-read}
 use Rattle.promises.specs.Lent.{shortest}
 use Rattle.reading.proofs.read_text.Statement.{statement}

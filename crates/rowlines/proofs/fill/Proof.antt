@@ -6,9 +6,10 @@ use native.Mathlib.Omega.{arith}
 use borrow.Author.Needs.{needs}
 use denote.Ref.{now}
 use lib.ListN.{length, length-set}
+use Rattle.block.specs.Words.{maskPart, valuesPart, wordPart}
 use Rattle.lines.specs.Front.{rows-bytes-le}
 use Rattle.slices.specs.Filled.{over-none, over-more}
-use Rattle.lines.specs.ByPlace.{rowFrom, rowOr, lineOf, fieldOf, maskPart, valuesPart, wordPart}
+use Rattle.lines.specs.ByPlace.{rowFrom, rowOr, lineOf, fieldOf}
 use Rattle.slices.specs.Places.{tab, over}
 use Rattle.rowlines.proofs.fill.Statement.{statement}
 use Rattle.rowlines.proofs.fill.Tie as tie
@@ -34,7 +35,10 @@ loop-holds : tie.Need-loop-holds Inv-loop μ-loop
 loop-holds c = (search needs, omega arith, over-none _ _, over-none _ _, over-none _ _, refl, refl, refl)
 
 read-row-requires : tie.Need-read-row-requires Inv-loop μ-loop
-read-row-requires c κs = let a = c .before .before .before .before .before .before .args in omega (arith, rows-bytes-le (a .n) (a .k) (c .before .loop .i) (omega arith) (omega arith) (omega arith))
+read-row-requires c κs =
+    let turn = c .before in
+    let a = turn .before .before .before .before .before .args in
+    omega (arith, rows-bytes-le (a .n) (a .k) (turn .loop .i) (omega arith) (omega arith) (omega arith))
 
 row-or-requires : tie.Need-row-or-requires Inv-loop μ-loop
 row-or-requires c κs = search needs
@@ -58,7 +62,10 @@ slice-write-words : tie.Need-slice-write-words Inv-loop μ-loop
 slice-write-words c = omega arith
 
 add-from : tie.Need-add-from Inv-loop μ-loop
-add-from c = let a = c .before .before .before .before .before .before .before .before .args in omega (arith, rows-bytes-le (a .n) (a .k) (c .before .before .before .loop .i) (omega arith) (omega arith) (omega arith))
+add-from c =
+    let turn = c .before .before .before in
+    let a = turn .before .before .before .before .before .args in
+    omega (arith, rows-bytes-le (a .n) (a .k) (turn .loop .i) (omega arith) (omega arith) (omega arith))
 
 add-i : tie.Need-add-i Inv-loop μ-loop
 add-i c = omega arith
@@ -69,8 +76,9 @@ loop-less c = omega arith
 loop-again : tie.Need-loop-again Inv-loop μ-loop
 unfolding lineOf
 loop-again c =
-    let a = c .before .before .before .before .before .before .before .before .args in
-    let l = c .before .before .before .loop in
+    let turn = c .before .before .before in
+    let l = turn .loop in
+    let a = turn .before .before .before .before .before .args in
     let e : c .row-or .result ≡ rowOr (lineOf (now (a .s)) (a .n) (a .k) (l .i)) =
     c .row-or .ensures ∙ ap rowOr (c .before .read-row .ensures ∙ ap (rowFrom (now (a .s)) (a .n) (a .k)) (l .inv .1)) in (
       omega arith,
@@ -94,9 +102,9 @@ same-length-3 c = search needs
 
 returns : tie.Need-returns Inv-loop μ-loop
 returns c =
-    let l = c .before .loop in
-    let e : l .i ≡ c .before .before .before .before .before .before .args .p = omega arith in
-    rw (← e) (l .inv .2, (l .inv .3, l .inv .4))
+    let turn = c .before in
+    let e : turn .loop .i ≡ turn .before .before .before .before .before .args .p = omega arith in
+    rw (← e) (turn .loop .inv .2, (turn .loop .inv .3, turn .loop .inv .4))
 
 pub fill-spec : {M : Type 1} → statement M
 fill-spec =

@@ -30,7 +30,10 @@ loop-holds : tie.Need-loop-holds Inv-loop μ-loop
 loop-holds c = (search needs, omega arith, λ j h. absurd (omega arith))
 
 read-row-requires : tie.Need-read-row-requires Inv-loop μ-loop
-read-row-requires c κs = let a = c .before .before .before .args in omega (arith, rows-bytes-le (a .n) (a .k) (c .before .loop .i) (omega arith) (omega arith) (omega arith))
+read-row-requires c κs =
+    let turn = c .before in
+    let a = turn .before .before .args in
+    omega (arith, rows-bytes-le (a .n) (a .k) (turn .loop .i) (omega arith) (omega arith) (omega arith))
 
 is-broken-requires : tie.Need-is-broken-requires Inv-loop μ-loop
 is-broken-requires c κs = search needs
@@ -38,12 +41,16 @@ is-broken-requires c κs = search needs
 returns : tie.Need-returns Inv-loop μ-loop
 unfolding lineOf
 returns c =
-    let a = c .before .before .before .before .before .before .args in
-    let l = c .before .before .before .before .loop in
-    sym (first-is (a .p) (brokenLine (now (a .s)) (a .n) (a .k)) (l .i) (omega arith) (l .inv .2) (λ h. rw (← (c .before .before .before .before .loop .inv .1), ← (c .before .before .read-row .ensures), ← (c .before .is-broken .ensures)) (c .if1 .taken)))
+    let turn = c .before .before .before .before in
+    let a = turn .before .before .args in
+    sym (first-is (a .p) (brokenLine (now (a .s)) (a .n) (a .k)) (turn .loop .i) (omega arith) (turn .loop .inv .2)
+    (λ h. rw (← (turn .loop .inv .1), ← (c .before .before .read-row .ensures), ← (c .before .is-broken .ensures)) (c .if1 .taken)))
 
 add-from : tie.Need-add-from Inv-loop μ-loop
-add-from c = let a = c .before .before .before .before .before .before .args in omega (arith, rows-bytes-le (a .n) (a .k) (c .before .before .before .before .loop .i) (omega arith) (omega arith) (omega arith))
+add-from c =
+    let turn = c .before .before .before .before in
+    let a = turn .before .before .args in
+    omega (arith, rows-bytes-le (a .n) (a .k) (turn .loop .i) (omega arith) (omega arith) (omega arith))
 
 add-i : tie.Need-add-i Inv-loop μ-loop
 add-i c = omega arith
@@ -53,13 +60,19 @@ loop-less c = omega arith
 
 loop-again : tie.Need-loop-again Inv-loop μ-loop
 unfolding lineOf
-loop-again c = (omega arith, omega arith, below-more _ _ (c .before .before .before .before .loop .inv .2) (rw (← (c .before .before .before .before .loop .inv .1), ← (c .before .before .read-row .ensures), ← (c .before .is-broken .ensures)) (c .if1 .left)))
+loop-again c =
+    let turn = c .before .before .before .before in (
+      omega arith,
+      omega arith,
+      below-more _ _ (turn .loop .inv .2)
+          (rw (← (turn .loop .inv .1), ← (c .before .before .read-row .ensures), ← (c .before .is-broken .ensures)) (c .if1 .left)),
+    )
 
 returns-2 : tie.Need-returns-2 Inv-loop μ-loop
 returns-2 c =
-    let a = c .before .before .before .args in
-    let l = c .before .loop in
-    sym (first-is (a .p) (brokenLine (now (a .s)) (a .n) (a .k)) (l .i) (omega arith) (l .inv .2) (λ h. absurd (omega arith)))
+    let turn = c .before in
+    let a = turn .before .before .args in
+    sym (first-is (a .p) (brokenLine (now (a .s)) (a .n) (a .k)) (turn .loop .i) (omega arith) (turn .loop .inv .2) (λ h. absurd (omega arith)))
 
 pub first-broken-spec : {M : Type 1} → statement M
 first-broken-spec =

@@ -21,32 +21,52 @@ add-e-2 : tie.Need-add-e-2
 add-e-2 c = search needs
 
 mul-e : tie.Need-mul-e
-mul-e c = let a = c .before .before .before .args in omega (arith, rows-bytes-le (a .n) (a .k) (a .p) (omega arith) (omega arith) (omega arith))
+mul-e c =
+    let a = c .before .before .before .args in
+    omega (arith, rows-bytes-le (a .n) (a .k) (a .p) (omega arith) (omega arith) (omega arith))
 
 byte-requires : tie.Need-byte-requires
 byte-requires c κs = search needs
 
 add-byte : tie.Need-add-byte
-add-byte c = let a = c .before .before .before .before .args in omega (arith, rows-bytes-le (a .n) (a .k) (a .p) (omega arith) (omega arith) (omega arith))
+add-byte c =
+    let sound = c .before in
+    let a = sound .before .before .before .args in
+    omega (arith, rows-bytes-le (a .n) (a .k) (a .p) (omega arith) (omega arith) (omega arith))
 
 byte-requires-2 : tie.Need-byte-requires-2
 byte-requires-2 c κs = search needs
 
 add-byte-2 : tie.Need-add-byte-2
-add-byte-2 c = let a = c .before .before .before .before .before .args in omega (arith, rows-bytes-le (a .n) (a .k) (a .p) (omega arith) (omega arith) (omega arith))
+add-byte-2 c =
+    let sound = c .before .before in
+    let a = sound .before .before .before .args in
+    omega (arith, rows-bytes-le (a .n) (a .k) (a .p) (omega arith) (omega arith) (omega arith))
 
 byte-requires-3 : tie.Need-byte-requires-3
 byte-requires-3 c κs = search needs
 
 add-end-of : tie.Need-add-end-of
-add-end-of c = let a = c .before .before .before .before .before .before .args in omega (arith, rows-bytes-le (a .n) (a .k) (a .p) (omega arith) (omega arith) (omega arith))
+add-end-of c =
+    let sound = c .before .before .before in
+    let a = sound .before .before .before .args in
+    omega (arith, rows-bytes-le (a .n) (a .k) (a .p) (omega arith) (omega arith) (omega arith))
 
 end-of-requires : tie.Need-end-of-requires
 end-of-requires c κs = search needs
 
 returns-2 : tie.Need-returns-2
 unfolding faultOf
-returns-2 c = rw (← (c .before .before .before .before .before .first-broken .ensures), le-ltb _ _ (c .before .before .before .before .if1 .left), ← (c .before .before .before .byte .ensures .0), ← (c .before .before .byte2 .ensures .0), ← (c .before .byte3 .ensures .0)) (c .end-of .ensures)
+returns-2 c =
+    let sound = c .before .before .before .before in
+    rw (
+      ← (sound .before .first-broken .ensures),
+      le-ltb _ _ (sound .if1 .left),
+      ← (c .before .before .before .byte .ensures .0),
+      ← (c .before .before .byte2 .ensures .0),
+      ← (c .before .byte3 .ensures .0),
+    )
+    (c .end-of .ensures)
 
 pub first-fault-spec : {M : Type 1} → statement M
 first-fault-spec =

@@ -32,8 +32,10 @@ same-length-3 c = search needs
 returns-2 : tie.Need-returns-2
 unfolding filledOf
 returns-2 c =
-    let f = c .before .before .before .before .before .before .fill .ensures in
-    rw (eq-eqb _ _ (c .before .before .before .before .before .before .before .before .before .before .if1 .left)) (c .before .before .before .before .before .before .before .before .before .before .before .first-fault .ensures, (f .0, (f .1 .0, f .1 .1)))
+    let filled = c .before .before .before .before .before .before in
+    let whole = filled .before .before .before .before in
+    let f = filled .fill .ensures in
+    rw (eq-eqb _ _ (whole .if1 .left)) (whole .before .first-fault .ensures, (f .0, (f .1 .0, f .1 .1)))
 
 pub read-rows-spec : {M : Type 1} → statement M
 read-rows-spec =

@@ -30,7 +30,7 @@ byte-requires c κs = search needs
 step-requires : tie.Need-step-requires Inv-loop μ-loop
 step-requires c κs =
     let a = c .before .before .before .before .args in
-    let b = spelled-below (now (a .s)) (a .from) (a .free) (c .before .before .loop .i) (omega arith) in
+    let b = spelled-below (now (a .s)) (a .from) (a .free) (c .before .before .loop .i) 31 (omega arith) in
     rw (c .before .before .loop .inv .1) (omega arith)
 
 add-i : tie.Need-add-i Inv-loop μ-loop

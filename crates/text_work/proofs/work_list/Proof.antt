@@ -1,5 +1,4 @@
 -- `text_work::work_list` meets its contract: by the work of the sheet, with the weight limit. Assumes nothing.
-use mathlib.Core.Path.{_≡_}
 use borrow.Author.Needs.{needs}
 use Rattle.text_work.proofs.work_list.Statement.{statement}
 use Rattle.text_work.proofs.work_list.Tie as tie

@@ -33,32 +33,50 @@ enum-known-reading-2 c = search needs
 
 array-share-prefix-masks : tie.Need-array-share-prefix-masks
 array-share-prefix-masks c =
-    let h = reader-count (now (c .before .before .before .before .before .before .before .before .before .before .before .before .before .args .input)) _ _ (c .before .before .before .before .before .before .before .before .before .before .first-bytes .ensures) (c .before .before .before .before .before .before .read-text .ensures .answer) _ (c .before .reading2 .given .1) in
+    let told = c .before in
+    let read = told .before .before .before .before .before in
+    let cut = read .before .before .before .before in
+    let h = reader-count (now (cut .before .before .before .args .input)) _ _ (cut .first-bytes .ensures) (read .read-text .ensures .answer) _ (told .reading2 .given .1) in
     omega arith
 
 slice-aggregate-work-list : tie.Need-slice-aggregate-work-list
 slice-aggregate-work-list c =
-    let h = reader-count (now (c .before .before .before .before .before .before .before .before .before .before .before .before .before .before .args .input)) _ _ (c .before .before .before .before .before .before .before .before .before .before .before .first-bytes .ensures) (c .before .before .before .before .before .before .before .read-text .ensures .answer) _ (c .before .before .reading2 .given .1) in
+    let told = c .before .before in
+    let read = told .before .before .before .before .before in
+    let cut = read .before .before .before .before in
+    let h = reader-count (now (cut .before .before .before .args .input)) _ _ (cut .first-bytes .ensures) (read .read-text .ensures .answer) _ (told .reading2 .given .1) in
     simp length-take (omega arith)
 
 array-share-prefix-values : tie.Need-array-share-prefix-values
 array-share-prefix-values c =
-    let h = reader-count (now (c .before .before .before .before .before .before .before .before .before .before .before .before .before .before .args .input)) _ _ (c .before .before .before .before .before .before .before .before .before .before .before .first-bytes .ensures) (c .before .before .before .before .before .before .before .read-text .ensures .answer) _ (c .before .before .reading2 .given .1) in
+    let told = c .before .before in
+    let read = told .before .before .before .before .before in
+    let cut = read .before .before .before .before in
+    let h = reader-count (now (cut .before .before .before .args .input)) _ _ (cut .first-bytes .ensures) (read .read-text .ensures .answer) _ (told .reading2 .given .1) in
     omega arith
 
 slice-aggregate-work-list-2 : tie.Need-slice-aggregate-work-list-2
 slice-aggregate-work-list-2 c =
-    let h = reader-count (now (c .before .before .before .before .before .before .before .before .before .before .before .before .before .before .before .args .input)) _ _ (c .before .before .before .before .before .before .before .before .before .before .before .before .first-bytes .ensures) (c .before .before .before .before .before .before .before .before .read-text .ensures .answer) _ (c .before .before .before .reading2 .given .1) in
+    let told = c .before .before .before in
+    let read = told .before .before .before .before .before in
+    let cut = read .before .before .before .before in
+    let h = reader-count (now (cut .before .before .before .args .input)) _ _ (cut .first-bytes .ensures) (read .read-text .ensures .answer) _ (told .reading2 .given .1) in
     simp length-take (omega arith)
 
 array-share-prefix-words : tie.Need-array-share-prefix-words
 array-share-prefix-words c =
-    let h = reader-count (now (c .before .before .before .before .before .before .before .before .before .before .before .before .before .before .before .args .input)) _ _ (c .before .before .before .before .before .before .before .before .before .before .before .before .first-bytes .ensures) (c .before .before .before .before .before .before .before .before .read-text .ensures .answer) _ (c .before .before .before .reading2 .given .1) in
+    let told = c .before .before .before in
+    let read = told .before .before .before .before .before in
+    let cut = read .before .before .before .before in
+    let h = reader-count (now (cut .before .before .before .args .input)) _ _ (cut .first-bytes .ensures) (read .read-text .ensures .answer) _ (told .reading2 .given .1) in
     omega arith
 
 slice-aggregate-work-list-3 : tie.Need-slice-aggregate-work-list-3
 slice-aggregate-work-list-3 c =
-    let h = reader-count (now (c .before .before .before .before .before .before .before .before .before .before .before .before .before .before .before .before .args .input)) _ _ (c .before .before .before .before .before .before .before .before .before .before .before .before .before .first-bytes .ensures) (c .before .before .before .before .before .before .before .before .before .read-text .ensures .answer) _ (c .before .before .before .before .reading2 .given .1) in
+    let told = c .before .before .before .before in
+    let read = told .before .before .before .before .before in
+    let cut = read .before .before .before .before in
+    let h = reader-count (now (cut .before .before .before .args .input)) _ _ (cut .first-bytes .ensures) (read .read-text .ensures .answer) _ (told .reading2 .given .1) in
     simp length-take (omega arith)
 
 work-list-requires : tie.Need-work-list-requires
@@ -66,18 +84,26 @@ work-list-requires c κs = search needs
 
 returns : tie.Need-returns
 returns c =
+    let told = c .before .before in
+    let read = told .before .before .before .before .before in
+    let cut = read .before .before .before .before in
+    let a = cut .before .before .before .args in
     rw (c .kind-number .ensures)
-    (reader-refused (now (c .before .before .before .before .before .before .before .before .before .before .before .before .before .before .args .input)) _ _ (c .before .before .before .before .before .before .before .before .before .before .before .first-bytes .ensures) (c .before .before .before .before .before .before .before .read-text .ensures .answer) _ (now (c .before .before .before .before .before .before .before .before .before .before .before .before .before .before .args .out)) (c .before .before .reading .given .1))
+    (reader-refused (now (a .input)) _ _ (cut .first-bytes .ensures) (read .read-text .ensures .answer) _ (now (a .out)) (told .reading .given .1))
 
 same-length : tie.Need-same-length
 same-length c = search needs
 
 returns-2 : tie.Need-returns-2
 returns-2 c =
-    let r = c .before .before .before .before .before .before .before .before .before .before .before .before .before .read-text .ensures in
+    let told = c .before .before .before .before .before .before .before .before in
+    let read = told .before .before .before .before .before in
+    let cut = read .before .before .before .before in
+    let start = cut .before .before .before in
+    let r = read .read-text .ensures in
     let e = c .before .before .work-list .ensures in
-    reader-accepted (now (c .before .before .before .before .before .before .before .before .before .before .before .before .before .before .before .before .before .before .before .before .args .input)) _ _ (c .before .before .before .before .before .before .before .before .before .before .before .before .before .before .before .before .before .first-bytes .ensures) (r .answer) _ (c .before .before .before .before .before .before .before .before .reading2 .given .1) _ _ _ _ _ _ (r .rows .masks) (r .rows .values) (r .rows .words)
-    (now (c .before .before .before .before .before .before .before .before .before .before .before .before .before .before .before .before .before .before .before .before .args .out)) _ _ (c .before .before .before .before .before .before .before .before .before .before .before .before .before .before .before .before .before .before .before .before .pre) (e .0) (e .1)
+    reader-accepted (now (start .args .input)) _ _ (cut .first-bytes .ensures) (r .answer) _ (told .reading2 .given .1) _ _ _ _ _ _ (r .rows .masks) (r .rows .values) (r .rows .words)
+    (now (start .args .out)) _ _ (start .pre) (e .0) (e .1)
 
 pub work-text-spec : {M : Type 1} → statement M
 work-text-spec =

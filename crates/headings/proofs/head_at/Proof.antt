@@ -1,8 +1,8 @@
--- `headlines::head_at` meets its contract: the three bytes, the number behind them, and the two together. Assumes nothing.
+-- `headings::head_at` meets its contract: the three bytes, the number behind them, and the two together. Assumes nothing.
 use borrow.Author.Needs.{needs}
 use Rattle.lines.specs.ByPlace.{headAt}
-use Rattle.headlines.proofs.head_at.Statement.{statement}
-use Rattle.headlines.proofs.head_at.Tie as tie
+use Rattle.headings.proofs.head_at.Statement.{statement}
+use Rattle.headings.proofs.head_at.Tie as tie
 
 byte-requires : tie.Need-byte-requires
 byte-requires c κs = search needs

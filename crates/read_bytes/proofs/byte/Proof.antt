@@ -1,11 +1,11 @@
--- `headlines::byte` meets its contract: a byte is below 256, and past the end a list reads as 0. Assumes nothing.
+-- `read_bytes::byte` meets its contract: a byte is below 256, and past the end a list reads as 0. Assumes nothing.
 use mathlib.Core.Path.{refl, sym}
 use native.Mathlib.Omega.{arith}
 use borrow.Author.Needs.{needs}
 use denote.Ref.{now}
 use lib.ListN.{List·getD-eq-default}
-use Rattle.headlines.proofs.byte.Statement.{statement}
-use Rattle.headlines.proofs.byte.Tie as tie
+use Rattle.read_bytes.proofs.byte.Statement.{statement}
+use Rattle.read_bytes.proofs.byte.Tie as tie
 
 shared-slice-read-result : tie.Need-shared-slice-read-result
 shared-slice-read-result c = search needs

@@ -1,11 +1,11 @@
--- `headlines::lead` meets its contract: each return is the case of `leadOf` that the tests on the way lead to. Assumes nothing.
+-- `headings::lead` meets its contract: each return is the case of `leadOf` that the tests on the way lead to. Assumes nothing.
 use mathlib.Core.Path.{ap}
 use native.Mathlib.Omega.{arith}
 use borrow.Author.Needs.{needs}
 use borrow.Author.Tests.{eq-eqb, ne-eqb}
 use Rattle.lines.specs.ByPlace.{leadOf, widthOf}
-use Rattle.headlines.proofs.lead.Tie as tie
-use Rattle.headlines.proofs.lead.Statement.{statement}
+use Rattle.headings.proofs.lead.Tie as tie
+use Rattle.headings.proofs.lead.Statement.{statement}
 
 ruleset tests = (eq-eqb, ne-eqb)
 

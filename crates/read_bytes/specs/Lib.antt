@@ -1,0 +1,2 @@
+-- Numbers by place: `Digits` has what the loop over their digits keeps, and where it ends.
+pub mod Digits

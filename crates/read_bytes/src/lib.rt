@@ -1,0 +1,67 @@
+// Bytes and decimal numbers, read by place. All functions here are inner.
+use lines::Number;
+ghost use mathlib.Core.Path.{_≡_};
+ghost use Prim.Native.Nat.{_+_, _≤_, _<_};
+ghost use Rattle.slices.specs.Places.{at};
+ghost use Rattle.block.specs.Text.{isDigit};
+ghost use Rattle.lines.specs.ByPlace.{farthest, longest, endedOf, numberAt, widthOf};
+
+// The byte at a place, or 0 past the end: no byte of the form is 0.
+pub fn byte(s: &[u8], from: usize) -> usize
+    ensures { λ r. ⌜ r ≡ at (now (s .entry)) from ⌝ }
+    ensures { λ r. ⌜ r < 256 ⌝ }
+{
+    if from < s.len() { s[from] as usize } else { 0 }
+}
+
+// Whether a byte is a decimal digit.
+pub fn is_digit(b: usize) -> bool
+    ensures { λ r. ⌜ r ≡ isDigit b ⌝ }
+{
+    if b < 48 {
+        return false;
+    }
+    b <= 57
+}
+
+// A number of w digits that spell v, of which the first is `lead`, before the byte `last`: no number without a digit or LF, and none of
+// two digits or more with a leading zero.
+pub fn ended(w: usize, v: usize, lead: usize, last: usize) -> Number
+    requires { ⌜ w < farthest ⌝ }
+    ensures { λ r. ⌜ r ≡ endedOf w v lead last ⌝ }
+    ensures { λ r. ⌜ widthOf r ≤ w + 1 ⌝ }
+{
+    if last != 10 {
+        return Number::Formless;
+    }
+    if w == 0 {
+        return Number::Formless;
+    }
+    if w == 1 {
+        return Number::Value(v, 2);
+    }
+    if lead == 48 {
+        return Number::Formless;
+    }
+    Number::Value(v, w + 1)
+}
+
+// The number of 1 to `most` digits from a place on, ended by LF.
+pub fn number_at(s: &[u8], from: usize, most: usize) -> Number
+    requires { ⌜ (from < farthest) × (most ≤ longest) ⌝ }
+    ensures { λ r. ⌜ r ≡ numberAt (now (s .entry)) from most ⌝ }
+    ensures { λ r. ⌜ widthOf r ≤ most + 1 ⌝ }
+{
+    let lead = byte(s, from);
+    let mut v = 0;
+    let mut w = 0;
+    while w < most {
+        let b = byte(s, from + w);
+        if !is_digit(b) {
+            return ended(w, v, lead, b);
+        }
+        v = v * 10 + (b - 48);
+        w += 1;
+    }
+    ended(w, v, lead, byte(s, from + w))
+}
