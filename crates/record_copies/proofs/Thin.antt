@@ -19,5 +19,5 @@ pub use denote.Slice.{slice-vals}
 pub use denote.Signature.{typesAt}
 pub use denote.Steps.{only}
 pub use denote.Triple.Table.{cited}
-pub use Rattle.record_copies.proofs.Walk.{Knowns, a-num, a-slice, a-mut-slice, B, framing, concludes, valsOf, made, held, none, arg, field-of, puts, puts-over, keeps, lends, asks, ends, so, both-so, both-heard}
+pub use Rattle.record_copies.proofs.Walk.{Knowns, a-num, a-slice, a-mut-slice, B, framing, concludes, valsOf, made, held, none, arg, field-of, puts, puts-over, keeps, lends, asks, ends, so}
 pub use Rattle.record_copies.proofs.Calls.{asks-fits, asks-gather, asks-scatter}

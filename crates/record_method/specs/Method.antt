@@ -22,7 +22,7 @@ use Rattle.block.specs.declared.Answer.{Answer}
 use Rattle.block.specs.declared.RowMethodAnswer.{RowMethodAnswer}
 use Rattle.verdicts.specs.Verdicts.{answered-clear}
 use Rattle.checks.specs.Sizes.{inside}
-use Rattle.promises.specs.Lent.{Lent, FlatHolds, lentFlat, shortest}
+use Rattle.promises.specs.Lent.{Lent, lentFlat}
 use Rattle.promises.specs.Lists.{RowMethodPromise}
 use Rattle.record_copies.specs.declared.FlatRows.{FlatRows}
 use Rattle.record_copies.specs.Flat.{heldRows, Sized}

@@ -1,6 +1,6 @@
 -- `records::read_text` meets its contract: a walk of its MIR, by hand, over the laws of `Walk.antt` and `Calls.antt` of crate record_copies.
 -- It is two calls in a row. The answer is an enum. Assumes nothing.
-use Rattle.record_copies.proofs.Thin.{refl, List, [], _∷_, _≡_, length, fullShare, named, w64, Val, vint, id⊢, fat, givenOf, ‵, _$_, !, rewrite, whole, sub, of-opd, and-then, no-more, uint-makes, u8, now, slice-vals, only, cited, Lfts, typesAt, Knowns, a-slice, a-mut-slice, B, framing, concludes, valsOf, made, held, none, arg, field-of, puts, keeps, lends, asks, ends, so, asks-scatter}
+use Rattle.record_copies.proofs.Thin.{refl, List, [], _∷_, length, fullShare, named, w64, Val, vint, id⊢, fat, givenOf, ‵, _$_, !, rewrite, whole, sub, of-opd, and-then, no-more, uint-makes, u8, now, slice-vals, only, cited, Lfts, typesAt, Knowns, a-slice, a-mut-slice, B, framing, concludes, valsOf, made, held, none, arg, field-of, puts, keeps, lends, asks, ends, so, asks-scatter}
 use denote.Struct.Laws as LL
 use denote.Enum.Laws as EL
 use Rattle.block.specs.Text.{numbers}

@@ -1,6 +1,6 @@
 -- `records::row_method` meets its contract: a walk of its MIR, by hand, over the laws of `Walk.antt` and `Calls.antt` of crate record_copies.
 -- It is four calls in a row. Assumes nothing.
-use Rattle.record_copies.proofs.Thin.{refl, List, [], _∷_, _≡_, length, fullShare, named, w64, Val, vint, id⊢, fat, givenOf, ‵, _$_, !, rewrite, whole, sub, of-opd, and-then, no-more, uint-makes, u32, now, slice-vals, only, cited, Lfts, typesAt, Knowns, a-num, a-slice, a-mut-slice, B, framing, concludes, valsOf, made, held, none, arg, field-of, puts, puts-over, keeps, lends, asks, ends, so, asks-fits, asks-gather, asks-scatter}
+use Rattle.record_copies.proofs.Thin.{refl, List, [], _∷_, length, fullShare, named, w64, Val, vint, id⊢, fat, givenOf, ‵, _$_, !, rewrite, whole, sub, of-opd, and-then, no-more, uint-makes, u32, now, slice-vals, only, cited, Lfts, typesAt, Knowns, a-num, a-slice, a-mut-slice, B, framing, concludes, valsOf, made, held, none, arg, field-of, puts, puts-over, keeps, lends, asks, ends, so, asks-fits, asks-gather, asks-scatter}
 use native.Mathlib.Omega.{arith}
 use denote.Struct.Laws as LL
 use Rattle.promises.specs.Lists.{RowMethodPromise}

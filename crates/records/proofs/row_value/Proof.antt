@@ -1,6 +1,6 @@
 -- `records::row_value` meets its contract: a walk of its MIR, by hand, over the laws of `Walk.antt` and `Calls.antt` of crate record_copies.
 -- It is three calls in a row. Assumes nothing.
-use Rattle.record_copies.proofs.Thin.{refl, [], _∷_, _≡_, length, named, w64, vint, givenOf, _$_, !, whole, sub, of-opd, no-more, uint-makes, now, cited, Lfts, typesAt, Knowns, a-num, a-slice, B, framing, concludes, valsOf, made, none, arg, field-of, puts, keeps, asks, ends, so, id⊢, asks-fits, asks-gather}
+use Rattle.record_copies.proofs.Thin.{refl, [], _∷_, length, named, w64, vint, givenOf, _$_, !, whole, sub, of-opd, no-more, uint-makes, now, cited, Lfts, typesAt, Knowns, a-num, a-slice, B, framing, concludes, valsOf, made, none, arg, field-of, puts, keeps, asks, ends, so, id⊢, asks-fits, asks-gather}
 use native.Mathlib.Omega.{arith}
 use denote.Struct.Laws as LL
 use Rattle.promises.specs.Lists.{RowValuePromise}

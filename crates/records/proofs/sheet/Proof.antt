@@ -1,6 +1,6 @@
 -- `records::sheet` meets its contract: a walk of its MIR, by hand, over the laws of `Walk.antt` and `Calls.antt` of crate record_copies. It
 -- is three calls in a row. Assumes nothing.
-use Rattle.record_copies.proofs.Thin.{refl, [], _∷_, _≡_, length, named, w64, vint, givenOf, _$_, !, whole, sub, of-opd, no-more, uint-makes, u8, now, slice-vals, cited, Lfts, typesAt, Knowns, a-num, a-slice, a-mut-slice, B, framing, concludes, valsOf, made, held, none, arg, field-of, puts, keeps, lends, asks, ends, so, id⊢, asks-fits, asks-gather}
+use Rattle.record_copies.proofs.Thin.{refl, [], _∷_, length, named, w64, vint, givenOf, _$_, !, whole, sub, of-opd, no-more, uint-makes, u8, now, slice-vals, cited, Lfts, typesAt, Knowns, a-num, a-slice, a-mut-slice, B, framing, concludes, valsOf, made, held, none, arg, field-of, puts, keeps, lends, asks, ends, so, id⊢, asks-fits, asks-gather}
 use native.Mathlib.Omega.{arith}
 use denote.Struct.Laws as LL
 use Rattle.promises.specs.Sheets.{SheetPromise}

@@ -1,5 +1,4 @@
 -- `sheets::sheet` meets its contract: its answer is part of what the work of the sheet comes to. Assumes nothing.
-use mathlib.Core.Path.{_≡_, ap}
 use denote.Ref.{now}
 use lib.ListN.{length}
 use Rattle.block.specs.Words.{rowsOf}

@@ -1,14 +1,14 @@
 -- `tables::restore_table` meets its contract: the checks before 8, then 8, and on 0 the restored table. Assumes nothing.
 use mathlib.Core.Path.{_≡_, refl, sym, ap, _∙_}
-use mathlib.Core.List.{[], _∷_}
-use Prim.Native.Nat.{ℕ, _≤_, _<_}
+use mathlib.Core.List.{[]}
+use Prim.Native.Nat.{ℕ}
 use native.Mathlib.Omega.{arith}
 use borrow.Author.Tests.{lt-ltb, le-ltb}
 use lib.Dec.{ltb}
-use lib.ListN.{length, replicate}
+use lib.ListN.{length}
 use denote.Ref.{now}
 use Rattle.slices.specs.Places.{at}
-use Rattle.block.specs.Refusals.{check, answer, verdict, dependent}
+use Rattle.block.specs.Refusals.{check, answer, dependent}
 use Rattle.block.specs.Tables.{restoreVerdict, restored}
 use Rattle.block.specs.declared.Answer.{Answer}
 use Rattle.table_checks.specs.Restoring.{restoreChecked}

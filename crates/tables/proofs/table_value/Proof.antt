@@ -1,7 +1,6 @@
 -- `tables::table_value` meets its contract: the verdict, and beside a 0 the value. Assumes nothing.
-use mathlib.Core.Path.{_≡_, sym, ap, _∙_}
+use mathlib.Core.Path.{ap, _∙_}
 use Prim.Native.Nat.{ℕ}
-use native.Mathlib.Omega.{arith}
 use denote.Ref.{now}
 use Rattle.block.specs.Words.{ofTable}
 use Rattle.block.specs.Measure.{shift}

@@ -1,6 +1,6 @@
 -- `writing::write_text` meets its contract. A refusal leaves the slice alone; on 0 every check passed, so that the text fits, and what is
 -- put at the front lies over the slice. Assumes nothing.
-use mathlib.Core.Path.{refl, sym, ap, _∙_}
+use mathlib.Core.Path.{sym, ap, _∙_}
 use native.Mathlib.Omega.{arith}
 use native.Mathlib.Nat.{zero-add}
 use borrow.Author.Needs.{needs}
