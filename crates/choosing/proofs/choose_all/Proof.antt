@@ -22,6 +22,10 @@ Inv-loop walk values count n w basis₀ sigma₀ k₀ basis sigma k = (k ≤ n) 
 abbrev μ-loop : tie.MeasureT-loop
 μ-loop walk values count n w basis₀ sigma₀ k₀ basis sigma k = n - k
 
+-- where the function begins, from the loop
+abbrev start : tie.At-loop Inv-loop μ-loop → tie.Start Inv-loop μ-loop
+start c = c .before .before .before .before .before .before .before .before .before
+
 put-units-requires : tie.Need-put-units-requires Inv-loop μ-loop
 put-units-requires c κs = search needs
 
@@ -48,17 +52,20 @@ loop-less c = search needs
 
 loop-again : tie.Need-loop-again Inv-loop μ-loop
 loop-again c =
-    let s = c .before .before .before .before .before .before .before .before .before .before .before .before .before .before .before .before in
+    let moved = c .before .before in
+    let chosen = moved .before .before in
+    let turn = chosen .before .before .before in
+    let s = start turn in
     let a = s .args in
-    let p = c .before .before .before .before .before .before .before .loop in
+    let p = turn .loop in
     let v = valueAt (now (a .walk)) (now (a .values)) (a .count) in
-    let t : c .before .before .before .before .choose .result ≡ pick v (a .n) (a .w) (p .k) =
-    choose-turn v (a .n) (a .w) (p .k) _ _ (p .sigma) (s .pre .0 .5) (omega arith) (p .inv .4) (c .before .before .before .before .choose .ensures) in (
+    let t : chosen .choose .result ≡ pick v (a .n) (a .w) (p .k) =
+    choose-turn v (a .n) (a .w) (p .k) _ _ (p .sigma) (s .pre .0 .5) (omega arith) (p .inv .4) (chosen .choose .ensures) in (
       search needs,
       search needs,
       search needs,
       over-more _ (pick v (a .n) (a .w)) _ _ _ (p .inv .3) t (omega arith),
-      reach-turn (a .n) (pick v (a .n) (a .w)) (p .k) _ _ (p .sigma) _ (omega arith) (p .inv .4) t (c .before .before .advance .ensures .rows),
+      reach-turn (a .n) (pick v (a .n) (a .w)) (p .k) _ _ (p .sigma) _ (omega arith) (p .inv .4) t (moved .advance .ensures .rows),
     )
 
 same-length : tie.Need-same-length Inv-loop μ-loop
@@ -69,7 +76,7 @@ same-length-2 c = search needs
 
 returns : tie.Need-returns Inv-loop μ-loop
 returns c =
-    let a = c .before .before .before .before .before .before .before .before .before .before .args in
+    let a = start (c .before) .args in
     let i = c .before .loop .inv in
     let end : c .before .loop .k ≡ a .n = omega arith in
     let v = valueAt (now (a .walk)) (now (a .values)) (a .count) in (

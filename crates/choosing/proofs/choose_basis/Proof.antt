@@ -33,16 +33,19 @@ same-length-2 c = search needs
 
 returns : tie.Need-returns
 returns c =
-    let a = c .before .before .before .before .before .before .before .before .before .before .before .before .before .before .before .before .before .before .before .args in
+    let chosen = c .before .before .before .before .before .before in
+    let summed = chosen .before .before .before in
+    let units = summed .before .before .before .before in
+    let a = units .before .before .before .before .before .before .args in
     let n = a .n in
     let v = valueAt (now (a .walk)) (now (a .values)) (a .count) in
     let p = pick v n (a .w) in
-    let units = c .before .before .before .before .before .before .before .before .before .before .before .before .before .put-units .ensures in
-    let all = c .before .before .before .before .before .before .choose-all .ensures in
+    let put = units .put-units .ensures in
+    let all = chosen .choose-all .ensures in
     record {
       basis = all .0;
-      sigma = all .1 ∙ ap (over (tab n (reachRows n p n))) units ∙ over-over n (λ (j : ℕ). 2 ^ j) (reachRows n p n) (now (a .sigma));
-      earlier = c .before .before .before .before .before .before .before .before .before .sum-of .ensures ∙ sum-held v (λ (j : ℕ). 2 ^ j) n _ _ units;
+      sigma = all .1 ∙ ap (over (tab n (reachRows n p n))) put ∙ over-over n (λ (j : ℕ). 2 ^ j) (reachRows n p n) (now (a .sigma));
+      earlier = summed .sum-of .ensures ∙ sum-held v (λ (j : ℕ). 2 ^ j) n _ _ put;
       later = c .sum-of2 .ensures ∙ sum-held v p n _ _ (all .0);
     }
 

@@ -39,16 +39,19 @@ abbrev μ-loop : tie.MeasureT-loop
 μ-loop n masks values words cube-masks₀ cube-values₀ cube-weights₀ p count₀ i₀ cube-masks cube-values cube-weights count i =
     p - i
 
+-- where the function begins, from the outer loop, and the outer loop, from the inner
+abbrev start : tie.At-loop Inv-loop2 μ-loop2 Inv-loop μ-loop → tie.Start Inv-loop2 μ-loop2 Inv-loop μ-loop
+start c = c .before .before .before .before .before .before .before
+
+abbrev outer : tie.At-loop2 Inv-loop2 μ-loop2 Inv-loop μ-loop → tie.At-loop Inv-loop2 μ-loop2 Inv-loop μ-loop
+outer c = c .before .before
+
 -- one cube more has room
 fits : (c : tie.In-loop2 Inv-loop2 μ-loop2 Inv-loop μ-loop) → c .before .loop2 .count < cubesRoom
 fits c =
-    let s = c .before .before .before .before .before .before .before .before .before .before in
-    let a = s .args in
-    let l = s .pre .0 .1 in
-    omega (
-      arith,
-      cubes-fit (a .n) l (c .before .before .before .loop .i) (c .before .loop2 .j) (omega arith) (omega arith),
-    )
+    let row = outer (c .before) in
+    let s = start row in
+    omega (arith, cubes-fit (s .args .n) (s .pre .0 .1) (row .loop .i) (c .before .loop2 .j) (omega arith) (omega arith))
 
 loop-holds : tie.Need-loop-holds Inv-loop2 μ-loop2 Inv-loop μ-loop
 loop-holds c =
@@ -88,18 +91,18 @@ same-word-requires c κs = search needs
 
 put-cube-requires : tie.Need-put-cube-requires Inv-loop2 μ-loop2 Inv-loop μ-loop
 put-cube-requires c κs =
-    let s = c .before .before .before .before .before .before .before .before .before .before .before .before .before .before .before .before .before in
-    let a = s .args in
-    let l = s .pre .0 .1 in
-    let small = fits (c .before .before .before .before .before .before .before) in
-    let below = mask-fixed (a .n) l (s .pre .1 .0) in (
+    let turn = c .before .before .before .before .before .before .before in
+    let s = start (outer (turn .before)) in
+    let small = fits turn in
+    let below = mask-fixed (s .args .n) (s .pre .0 .1) (s .pre .1 .0) in (
       (search needs, search needs, search needs, search needs),
       ((below _ (omega arith), below _ (omega arith)), (omega arith, omega arith, omega arith)),
     )
 
 add-count : tie.Need-add-count Inv-loop2 μ-loop2 Inv-loop μ-loop
 add-count c =
-    omega (arith, fits (c .before .before .before .before .before .before .before .before .before .before .before .before .before .before))
+    let turn = c .before .before .before .before .before .before .before .before .before .before .before .before .before .before in
+    omega (arith, fits turn)
 
 add-j : tie.Need-add-j Inv-loop2 μ-loop2 Inv-loop μ-loop
 add-j c = search needs
@@ -109,16 +112,15 @@ loop2-less c = search needs
 
 loop2-again : tie.Need-loop2-again Inv-loop2 μ-loop2 Inv-loop μ-loop
 loop2-again c =
-    let s = c .before .before .before .before .before .before .before .before .before .before .before .before .before .before in
+    let turn = c .before .before .before .before in
+    let o = turn .before .loop2 in
+    let row = outer (turn .before) in
+    let i = row .loop .i in
+    let s = start row in
     let a = s .args in
     let l = s .pre .0 .1 in
-    let i = c .before .before .before .before .before .before .before .loop .i in
-    let o = c .before .before .before .before .before .loop2 in
-    let small = fits (c .before .before .before .before) in
-    let put = cubes-put (a .n) l i (o .j)
-    (omega arith) (omega arith) in
-    let pass = cubes-pass (a .n) l i (o .j)
-    (omega arith) (omega arith) in (
+    let small = fits turn in
+    let same = sym (c .before .same-word .ensures) in (
       search needs,
       search needs,
       search needs,
@@ -127,11 +129,12 @@ loop2-again c =
           grown-more _ _ _ _ _ _ _ _ _ _ _ _ _ _ _ (o .inv .3)
           (cubeOf (a .n) (now (a .masks)) (now (a .values)) i (o .j))
           (omega arith) (omega arith) (omega arith)
-          (put (omega arith) (eqb-true _ _ (sym (c .before .same-word .ensures) ∙ w .0 .taken)))
+          (cubes-put (a .n) l i (o .j) (omega arith) (omega arith) (omega arith) (eqb-true _ _ (same ∙ w .0 .taken)))
           (w .11 ∙ w .4 .ensures .0) (w .12 ∙ w .4 .ensures .1 .0) (w .13 ∙ w .4 .ensures .1 .1) (w .14))
           (λ w.
           grown-same _ _ _ _ _ _ _ _ _ _ _ _ _ _ _ (o .inv .3)
-          (pass (eqb-false _ _ (sym (c .before .same-word .ensures) ∙ w .0 .left))) (w .1) (w .2) (w .3) (w .4))
+          (cubes-pass (a .n) l i (o .j) (omega arith) (omega arith) (eqb-false _ _ (same ∙ w .0 .left)))
+          (w .1) (w .2) (w .3) (w .4))
           (c .if1 .came),
     )
 
@@ -143,18 +146,15 @@ loop-less c = search needs
 
 loop-again : tie.Need-loop-again Inv-loop2 μ-loop2 Inv-loop μ-loop
 loop-again c =
-    let s = c .before .before .before .before .before .before .before .before .before .before in
-    let a = s .args in
-    let l = s .pre .0 .1 in
-    let i = c .before .before .before .loop .i in
-    let o = c .before .before .before .loop in
-    let d = row-done (a .n) l i
-    (c .before .loop2 .j) (omega arith) in (
+    let inner = c .before in
+    let o = outer inner .loop in
+    let s = start (outer inner) in (
       search needs,
       omega arith,
       omega arith,
       omega arith,
-      rw d (c .before .loop2 .inv .3 .lie _ _ _ (o .inv .1) (o .inv .2) (o .inv .3) (o .inv .4)),
+      rw (row-done (s .args .n) (s .pre .0 .1) (o .i) (inner .loop2 .j) (omega arith))
+          (inner .loop2 .inv .3 .lie _ _ _ (o .inv .1) (o .inv .2) (o .inv .3) (o .inv .4)),
     )
 
 same-length : tie.Need-same-length Inv-loop2 μ-loop2 Inv-loop μ-loop
@@ -168,11 +168,8 @@ same-length-3 c = search needs
 
 returns : tie.Need-returns Inv-loop2 μ-loop2 Inv-loop μ-loop
 returns c =
-    let s = c .before .before .before .before .before .before .before .before in
-    let a = s .args in
-    let l = s .pre .0 .1 in
-    let d = rows-done (a .n) l (c .before .loop .i) (omega arith) in
-    rw d (c .before .loop .inv .4)
+    let s = start (c .before) in
+    rw (rows-done (s .args .n) (s .pre .0 .1) (c .before .loop .i) (omega arith)) (c .before .loop .inv .4)
 
 pub put-cubes-spec : {M : Type 1} → statement M
 put-cubes-spec =

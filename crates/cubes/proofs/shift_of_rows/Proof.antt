@@ -26,6 +26,13 @@ Inv-loop n masks values words t p sum₀ i₀ sum i = (i ≤ p) × (sum ≡ adde
 abbrev μ-loop : tie.MeasureT-loop
 μ-loop n masks values words t p sum₀ i₀ sum i = p - i
 
+-- where the function begins, from the outer loop, and the outer loop, from the inner
+abbrev start : tie.At-loop Inv-loop2 μ-loop2 Inv-loop μ-loop → tie.Start Inv-loop2 μ-loop2 Inv-loop μ-loop
+start c = c .before .before .before .before
+
+abbrev outer : tie.At-loop2 Inv-loop2 μ-loop2 Inv-loop μ-loop → tie.At-loop Inv-loop2 μ-loop2 Inv-loop μ-loop
+outer c = c .before .before
+
 loop-holds : tie.Need-loop-holds Inv-loop2 μ-loop2 Inv-loop μ-loop
 loop-holds c = (search needs, rw (cubes-none _ _) (sym (added-none (c .before .before .before .args .t))))
 
@@ -51,19 +58,19 @@ same-word-requires c κs = search needs
 
 pair-adds-requires : tie.Need-pair-adds-requires Inv-loop2 μ-loop2 Inv-loop μ-loop
 pair-adds-requires c κs =
-    let s = c .before .before .before .before .before .before .before .before .before .before .before in
-    let a = s .args in
+    let s = start (outer (c .before .before .before .before .before)) in
     let l = s .pre .0 .2 in
-    let below = mask-fixed (a .n) l (s .pre .1 .sound) in
+    let below = mask-fixed (s .args .n) l (s .pre .1 .sound) in
     ((search needs, search needs, search needs, l .values-too), (below _ (omega arith), below _ (omega arith)))
 
 add-sum : tie.Need-add-sum Inv-loop2 μ-loop2 Inv-loop μ-loop
 add-sum c =
-    let s = c .before .before .before .before .before .before .before .before .before .before .before .before in
+    let inner = c .before .before .before .before .before .before in
+    let o = inner .loop2 in
+    let i = outer inner .loop .i in
+    let s = start (outer inner) in
     let a = s .args in
     let l = s .pre .0 .2 in
-    let i = c .before .before .before .before .before .before .before .before .loop .i in
-    let o = c .before .before .before .before .before .before .loop2 in
     omega (
       arith,
       sum-put (a .n) l i (o .j) (omega arith) (omega arith) (omega arith)
@@ -79,11 +86,12 @@ loop2-less c = search needs
 
 loop2-again : tie.Need-loop2-again Inv-loop2 μ-loop2 Inv-loop μ-loop
 loop2-again c =
-    let s = c .before .before .before .before .before .before .before .before .before .before .before in
+    let inner = c .before .before .before .before .before in
+    let o = inner .loop2 in
+    let i = outer inner .loop .i in
+    let s = start (outer inner) in
     let a = s .args in
     let l = s .pre .0 .2 in
-    let i = c .before .before .before .before .before .before .before .loop .i in
-    let o = c .before .before .before .before .before .loop2 in
     let same = sym (c .before .same-word .ensures) in (
       search needs,
       search needs,
@@ -107,15 +115,13 @@ loop-less c = search needs
 
 loop-again : tie.Need-loop-again Inv-loop2 μ-loop2 Inv-loop μ-loop
 loop-again c =
-    let s = c .before .before .before .before .before .before .before in
-    let a = s .args in
-    let l = s .pre .0 .2 in
-    let d = row-done (a .n) l (c .before .before .before .loop .i) (c .before .loop2 .j) (omega arith) in
-    (search needs, rw d (c .before .loop2 .inv .3))
+    let inner = c .before in
+    let s = start (outer inner) in
+    (search needs, rw (row-done (s .args .n) (s .pre .0 .2) (outer inner .loop .i) (inner .loop2 .j) (omega arith)) (inner .loop2 .inv .3))
 
 returns : tie.Need-returns Inv-loop2 μ-loop2 Inv-loop μ-loop
 returns c =
-    let s = c .before .before .before .before .before in
+    let s = start (c .before) in
     sum-done (s .args .n) (s .pre .0 .2) (s .pre .1) (c .before .loop .i) (s .args .t) _ (s .pre .0 .1) (omega arith) (c .before .loop .inv .1)
 
 pub shift-of-rows-spec : {M : Type 1} → statement M

@@ -13,6 +13,10 @@ use borrow.Author.Needs.{needs}
 use Rattle.cubes.proofs.shifts_of_rows.Statement.{statement}
 use Rattle.cubes.proofs.shifts_of_rows.Tie as tie
 
+-- where the function begins, from the cubes
+abbrev start : tie.After-put-cubes → tie.Start
+start c = c .before .before .before .before .before .before .before .before .before
+
 slice-aggregate-put-cubes : tie.Need-slice-aggregate-put-cubes
 slice-aggregate-put-cubes c = search needs
 
@@ -38,9 +42,10 @@ slice-aggregate-shifts-by-cubes-3 c = search needs
 
 shifts-by-cubes-requires : tie.Need-shifts-by-cubes-requires
 shifts-by-cubes-requires c κs =
-    let s = c .before .before .before .before .before .before .before .before .before .before .before .before .before .before .before .before in
+    let put = c .before .before .before .before .before .before .before in
+    let s = start put in
     let a = s .args in
-    let p = c .before .before .before .before .before .before .before .put-cubes in
+    let p = put .put-cubes in
     let k = p .kept .1 .1 .1 .1 in
     let few = cubes-few (a .n) (s .pre .0 .1) in
     let number = p .ensures .count in (
@@ -57,12 +62,14 @@ same-length c = search needs
 
 returns : tie.Need-returns
 returns c =
-    let s = c .before .before .before .before .before .before .before .before .before .before .before .before .before .before .before .before .before .before .before in
+    let valued = c .before .before in
+    let put = valued .before .before .before .before .before .before .before .before in
+    let s = start put in
     let a = s .args in
-    c .before .before .shifts-by-cubes .ensures
+    valued .shifts-by-cubes .ensures
     ∙ ap (λ (l : List ℕ). over l (now (a .out)))
     (cubes-shifts (a .n) (rowsOf (now (a .masks)) (now (a .values)) (now (a .words))) (s .pre .1 .0) _ _ _ _ _ _ _
-    (c .before .before .before .before .before .before .before .before .before .before .put-cubes .ensures) (now (a .ts)) (a .places) (s .pre .1 .1 .2))
+    (put .put-cubes .ensures) (now (a .ts)) (a .places) (s .pre .1 .1 .2))
 
 pub shifts-of-rows-spec : {M : Type 1} → statement M
 shifts-of-rows-spec =

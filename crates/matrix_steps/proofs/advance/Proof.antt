@@ -42,12 +42,19 @@ same-length c = search needs
 
 returns : tie.Need-returns
 returns c =
-    let a = c .before .before .before .before .before .before .before .before .before .before .before .before .before .args in
-    let y = c .before .before .before .before .before .before .before .before .before .before .apply-rows .ensures in
-    let e = c .before .before .before .before .before .before .before .before .before .partner-of .ensures ∙ ap (partner (a .n) (a .k)) y in
-    let d = rest-is (a .n) (a .k) _ _ _ _ (c .before .before .before .before .before .before .before .before .rest-of .ensures) (c .before .before .before .before .before .before .before .before .before .partner-of .ensures) y in
+    let sheared = c .before .before in
+    let exchanged = sheared .before .before .before .before in
+    let rested = exchanged .before .before in
+    let partnered = rested .before in
+    let applied = partnered .before in
+    let s = applied .before .before .before in
+    let a = s .args in
+    let y = applied .apply-rows .ensures in
+    let e = partnered .partner-of .ensures ∙ ap (partner (a .n) (a .k)) y in
+    let d = rest-is (a .n) (a .k) _ _ _ _ (rested .rest-of .ensures) (partnered .partner-of .ensures) y in
     record {
-      rows = step-made _ _ (a .t) _ _ (now (a .s)) _ _ (c .before .before .before .before .before .before .before .before .before .before .before .before .before .pre .0) (c .before .before .before .before .before .before .before .before .before .before .before .before .before .pre .2) e d (c .before .before .before .before .before .before .exchange-rows .ensures) (c .before .before .shear-rows .ensures);
+      rows =
+          step-made _ _ (a .t) _ _ (now (a .s)) _ _ (s .pre .0) (s .pre .2) e d (exchanged .exchange-rows .ensures) (sheared .shear-rows .ensures);
       exchanged = e;
       flipped = d;
     }

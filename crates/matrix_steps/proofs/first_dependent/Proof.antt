@@ -25,17 +25,23 @@ Inv-loop n rows m₀ j₀ m j = (j ≤ n) × (length m ≡ length m₀) × ((i :
 abbrev μ-loop : tie.MeasureT-loop
 μ-loop n rows m₀ j₀ m j = n - j
 
+-- where the function begins, from the loop
+abbrev start : tie.At-loop Inv-loop μ-loop → tie.Start Inv-loop μ-loop
+start c = c .before .before .before .before .before .before .before
+
+-- the turn of the loop that a test belongs to
+abbrev turn : tie.After-power Inv-loop μ-loop → tie.At-loop Inv-loop μ-loop
+turn c = c .before .before .before .before .before
+
 -- the test of the code is the rule's
 test : (c : tie.After-power Inv-loop μ-loop)
-    → span (at (now (c .before .before .before .before .before .before .before .before .before .before .before .before .args .rows))) (c .before .before .before .before .before .loop .j) (at (now (c .before .before .before .before .before .before .before .before .before .before .before .before .args .rows)) (c .before .before .before .before .before .loop .j))
+    → span (at (now (start (turn c) .args .rows))) (turn c .loop .j) (at (now (start (turn c) .args .rows)) (turn c .loop .j))
     ≡ ltb (c .before .apply-rows .result) (c .power .result)
 test c =
-    let s = c .before .before .before .before .before .before .before .before .before .before .before .before in
-    let i = c .before .before .before .before .before .loop .inv in
-    let rows = at (now (s .args .rows)) in
-    let j = c .before .before .before .before .before .loop .j in
-    span-held (s .args .n) rows j _ _ (omega arith)
-    (record { below = λ i h. s .pre .3 i (omega arith); fresh = i .2 }) (s .pre .3 j (omega arith)) (i .3)
+    let s = start (turn c) in
+    let l = turn c .loop in
+    span-held (s .args .n) (at (now (s .args .rows))) (l .j) _ _ (omega arith)
+    (record { below = λ i h. s .pre .3 i (omega arith); fresh = l .inv .2 }) (s .pre .3 (l .j) (omega arith)) (l .inv .3)
     ∙ sym (ap₂ ltb (c .before .apply-rows .ensures) (c .power .ensures))
 
 put-units-requires : tie.Need-put-units-requires Inv-loop μ-loop
@@ -62,8 +68,7 @@ same-length c = search needs
 returns : tie.Need-returns Inv-loop μ-loop
 unfolding dependent
 returns c =
-    let i = c .before .before .before .before .before .before .loop .inv in
-    sym (first-is _ _ _ (omega arith) (i .2) (λ h. test (c .before) ∙ lt-ltb _ _ (c .if1 .taken)))
+    sym (first-is _ _ _ (omega arith) (turn (c .before) .loop .inv .2) (λ h. test (c .before) ∙ lt-ltb _ _ (c .if1 .taken)))
 
 mul-advance : tie.Need-mul-advance Inv-loop μ-loop
 mul-advance c = search needs
@@ -82,12 +87,15 @@ loop-less c = search needs
 
 loop-again : tie.Need-loop-again Inv-loop μ-loop
 loop-again c =
-    let i = c .before .before .before .before .before .before .before .before .before .before .before .loop .inv in
-    let s = c .before .before .before .before .before .before .before .before .before .before .before .before .before .before .before .before .before .before in (
+    let moved = c .before .before in
+    let left = moved .before .before .before in
+    let tested = left .before in
+    let l = turn tested .loop in
+    let a = start (turn tested) .args in (
       search needs,
       search needs,
-      below-more _ _ (i .2) (test (c .before .before .before .before .before .before) ∙ le-ltb _ _ (c .before .before .before .before .before .if1 .left)),
-      reach-turn (s .args .n) (at (now (s .args .rows))) (c .before .before .before .before .before .before .before .before .before .before .before .loop .j) _ _ (c .before .before .before .before .before .before .before .before .before .before .before .loop .m) _ (omega arith) (i .3) refl (c .before .before .advance .ensures .rows),
+      below-more _ _ (l .inv .2) (test tested ∙ le-ltb _ _ (left .if1 .left)),
+      reach-turn (a .n) (at (now (a .rows))) (l .j) _ _ (l .m) _ (omega arith) (l .inv .3) refl (moved .advance .ensures .rows),
     )
 
 same-length-2 : tie.Need-same-length-2 Inv-loop μ-loop
@@ -96,7 +104,7 @@ same-length-2 c = search needs
 returns-2 : tie.Need-returns-2 Inv-loop μ-loop
 unfolding dependent
 returns-2 c =
-    let end : c .before .loop .j ≡ c .before .before .before .before .before .before .before .before .args .n = omega arith in
+    let end : c .before .loop .j ≡ start (c .before) .args .n = omega arith in
     sym (first-is _ _ _ (omega arith) (c .before .loop .inv .2) (λ h. absurd (omega arith)))
 
 pub first-dependent-spec : {M : Type 1} → statement M

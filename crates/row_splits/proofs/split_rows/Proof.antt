@@ -23,6 +23,10 @@ Inv-loop k v p masks values words out-masks₀ out-values₀ out-words₀ count�
 abbrev μ-loop : tie.MeasureT-loop
 μ-loop k v p masks values words out-masks₀ out-values₀ out-words₀ count₀ i₀ out-masks out-values out-words count i = p - i
 
+-- where the function begins, from the loop
+abbrev start : tie.At-loop Inv-loop μ-loop → tie.Start Inv-loop μ-loop
+start c = c .before .before .before .before .before .before .before
+
 loop-holds : tie.Need-loop-holds Inv-loop μ-loop
 loop-holds c = (search needs, search needs, search needs, search needs, search needs, rw split-none (added-none 0 _ _ _))
 
@@ -55,9 +59,11 @@ loop-less c = search needs
 
 loop-again : tie.Need-loop-again Inv-loop μ-loop
 loop-again c =
-    let a = c .before .before .before .before .before .before .before .before .before .before .before .before .before .before .before .before .before .before .before .before .before .args in
-    let l = c .before .before .before .before .before .before .before .before .before .before .before .before .before .before .loop in
-    let next = split-added (a .k) (a .v) (now (a .masks)) (now (a .values)) (now (a .words)) (l .i) (l .inv .5) (c .before .before .before .before .before .before .add-split .ensures) in (
+    let added = c .before .before .before .before .before .before in
+    let turn = added .before .before .before .before .before .before .before .before in
+    let a = start turn .args in
+    let l = turn .loop in
+    let next = split-added (a .k) (a .v) (now (a .masks)) (now (a .values)) (now (a .words)) (l .i) (l .inv .5) (added .add-split .ensures) in (
       search needs,
       search needs,
       search needs,
@@ -77,7 +83,7 @@ same-length-3 c = search needs
 
 returns : tie.Need-returns Inv-loop μ-loop
 returns c =
-    let a = c .before .before .before .before .before .before .before .before .args in
+    let a = start (c .before) .args in
     let end : c .before .loop .i ≡ a .p = omega arith in
     let all = rw end at (c .before .loop .inv .5) in
     (all .longer ∙ zero-add _, all .added [] refl (held-none _ _ _))
