@@ -6,7 +6,7 @@ use mathlib.Core.List.{List, [], _∷_, _++_}
 use Prim.Native.Nat.{ℕ, zero, suc, _+_, _*_, _≤_, _<_}
 use native.Mathlib.Decide.{decLt}
 use native.Mathlib.Nat.{zero-add, mul-le-mul}
-use native.Mathlib.Numerals.{add-one, one-add}
+use native.Mathlib.Numerals.{add-one}
 use native.Mathlib.Omega.{arith}
 use borrow.Author.Tests.{eq-eqb, eqb-true, not-true}
 use lib.Dec.{eqb}
@@ -72,12 +72,6 @@ lines-from s (suc i) =
 
 pub line-add : (s : List ℕ) (i j : ℕ) → lineAt s (i + j) ≡ lineAt (drop (start s i) s) j
 line-add s i j = sym (getD-drop i (lines s) j []) ∙ ap (λ (ls : List (List ℕ)). lineIn ls j) (lines-from s i)
-
-pub line-next : (s : List ℕ) (i : ℕ) → lineAt s (suc i) ≡ lineAt (drop (length (front s)) s) i
-line-next s i =
-    ap (lineAt s) (sym (one-add i))
-    ∙ sym (getD-drop 1 (lines s) i [])
-    ∙ ap (λ (ls : List (List ℕ)). lineIn ls i) (lines-next s)
 
 -- line i is the front of the text from its start on
 pub line-front : (s : List ℕ) (i : ℕ) → lineAt s i ≡ front (drop (start s i) s)

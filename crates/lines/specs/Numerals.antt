@@ -25,10 +25,6 @@ digit-range b e = let d = and-both (leb 48 b) (leb b 57) e in (leb-true 48 b (d 
 range-digit : (b : ℕ) → 48 ≤ b → b ≤ 57 → isDigit b ≡ true
 range-digit b l h = rw (le-leb 48 b l, le-leb b 57 h)
 
--- LF is none
-pub digit-noLF : isDigit 10 ≡ false
-digit-noLF = refl
-
 -- ---- what is written, digit by digit
 
 digits-one : (most v : ℕ) → v < 10 → digits (suc most) v ≡ (48 + v) ∷ []

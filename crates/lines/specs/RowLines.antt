@@ -121,6 +121,22 @@ rowTest n k l =
     every symbolTest (take n l)
     && (eqb (at l n) 32 && (every bitTest (take k (drop (n + 1) l)) && eqb (at l (n + 1 + k)) 10))
 
+-- the parts of a line that passes it
+pub record RowParts (n k : ℕ) (l : List ℕ) : Type 0 where
+  pub symbols : every symbolTest (take n l) ≡ true
+  pub gap : at l n ≡ 32
+  pub bits : every bitTest (take k (drop (n + 1) l)) ≡ true
+  pub last : at l (n + 1 + k) ≡ 10
+
+test-parts : (n k : ℕ) (l : List ℕ) → rowTest n k l ≡ true → RowParts n k l
+test-parts n k l e =
+    let outputs : Bool = every bitTest (take k (drop (n + 1) l)) in
+    let end : Bool = eqb (at l (n + 1 + k)) 10 in
+    let a = and-both (every symbolTest (take n l)) (eqb (at l n) 32 && (outputs && end)) e in
+    let b = and-both (eqb (at l n) 32) (outputs && end) (a .1) in
+    let c = and-both outputs end (b .1) in
+    record { symbols = a .0; gap = eqb-true (at l n) 32 (b .0); bits = c .0; last = eqb-true (at l (n + 1 + k)) 10 (c .1) }
+
 -- the mask by the reader's digit and by the meaning's
 mask-same : (l : List ℕ) → every symbolTest l ≡ true → spelled 2 fixed 0 l ≡ spelled 2 (λ b. one (not (eqb b 45))) 0 l
 mask-same l e = spelled-cong 2 fixed (λ b. one (not (eqb b 45))) 0 l (λ i h. digit (at l i) (every-at symbolTest l e i h))
@@ -231,21 +247,19 @@ bit-symbol b e = go (eqb b 48) (eqb b 49) (eqb b 45) e
 
 row-noLF : (s : List ℕ) (n k : ℕ) → n + 1 + k + 1 ≤ length s → rowTest n k s ≡ true → noLF (take (n + 1 + k) s) ≡ true
 row-noLF s n k h e =
-    let a = and-both (every symbolTest (take n s)) (eqb (at s n) 32 && (every bitTest (take k (drop (n + 1) s)) && eqb (at s (n + 1 + k)) 10)) e in
-    let b = and-both (eqb (at s n) 32) (every bitTest (take k (drop (n + 1) s)) && eqb (at s (n + 1 + k)) 10) (a .1) in
-    let c = and-both (every bitTest (take k (drop (n + 1) s))) (eqb (at s (n + 1 + k)) 10) (b .1) in
+    let t = test-parts n k s e in
     let l = length-take-le (n + 1 + k) s (omega arith) in
     every-all (λ b. not (eqb b 10)) (take (n + 1 + k) s)
-    (λ i p. ap (λ (b : ℕ). not (eqb b 10)) (getD-take (n + 1 + k) s i 0 (omega arith)) ∙ go (a .0) (b .0) (c .0) i (omega arith) (decLt i n) (decLt n i))
+    (λ i p. ap (λ (b : ℕ). not (eqb b 10)) (getD-take (n + 1 + k) s i 0 (omega arith)) ∙ go (t .symbols) (t .gap) (t .bits) i (omega arith) (decLt i n) (decLt n i))
   where
-    go : every symbolTest (take n s) ≡ true → eqb (at s n) 32 ≡ true → every bitTest (take k (drop (n + 1) s)) ≡ true
+    go : every symbolTest (take n s) ≡ true → at s n ≡ 32 → every bitTest (take k (drop (n + 1) s)) ≡ true
         → (i : ℕ) → i < n + 1 + k → Dec (i < n) → Dec (n < i) → not (eqb (at s i) 10) ≡ true
     go a b c i p (yes q) r =
         let l = length-take-le n s (omega arith) in
         symbol-noLF (at s i) (ap symbolTest (sym (getD-take n s i 0 q)) ∙ every-at symbolTest (take n s) a i (omega arith))
     go a b c i p (no q) (no r) =
         let f : i ≡ n = omega arith in
-        let g : at s i ≡ 32 = ap (at s) f ∙ eqb-true (at s n) 32 b in
+        let g : at s i ≡ 32 = ap (at s) f ∙ b in
         rw g
     go a b c i p (no q) (yes r) =
         let j : ℕ = i - (n + 1) in
@@ -259,11 +273,9 @@ row-noLF s n k h e =
 -- so the line is the front
 row-front : (s : List ℕ) (n k : ℕ) → n + 1 + k + 1 ≤ length s → rowTest n k s ≡ true → length (front s) ≡ n + 1 + k + 1
 row-front s n k h e =
-    let a = and-both (every symbolTest (take n s)) (eqb (at s n) 32 && (every bitTest (take k (drop (n + 1) s)) && eqb (at s (n + 1 + k)) 10)) e in
-    let b = and-both (eqb (at s n) 32) (every bitTest (take k (drop (n + 1) s)) && eqb (at s (n + 1 + k)) 10) (a .1) in
-    let c = and-both (every bitTest (take k (drop (n + 1) s))) (eqb (at s (n + 1 + k)) 10) (b .1) in
+    let t = test-parts n k s e in
     let l = length-take-le (n + 1 + k) s (omega arith) in
-    ap length (stands-front (take (n + 1 + k) s) s (row-noLF s n k h e) (stand (eqb-true (at s (n + 1 + k)) 10 (c .1))))
+    ap length (stands-front (take (n + 1 + k) s) s (row-noLF s n k h e) (stand (t .last)))
     ∙ length-append (take (n + 1 + k) s) (10 ∷ [])
     ∙ rw l
   where
@@ -317,7 +329,11 @@ row-at-place s n k from =
     same : {i i' o o' : Spelling} {g g' e e' : ℕ} → i ≡ i' → g ≡ g' → o ≡ o' → e ≡ e' → joinedOf i g o e ≡ joinedOf i' g' o' e'
     same p q r t = rw (p, q, r, t)
 
--- a line of row form is as long as a row
+-- a line of row form is as long as a row, and has its parts
 pub row-length : (n k : ℕ) (l : List ℕ) → rowForm n k l ≡ true → length l ≡ n + 1 + k + 1
 unfolding rowForm
 row-length n k l e = eqb-true (length l) (n + 1 + k + 1) (and-both (eqb (length l) (n + 1 + k + 1)) (rowTest n k l) e .0)
+
+pub row-parts : (n k : ℕ) (l : List ℕ) → rowForm n k l ≡ true → RowParts n k l
+unfolding rowForm
+row-parts n k l e = test-parts n k l (and-both (eqb (length l) (n + 1 + k + 1)) (rowTest n k l) e .1)

@@ -66,21 +66,6 @@ first-cong zero p q h = refl
 first-cong (suc m) p q h =
     rw (h 0 (omega arith), first-cong m (λ i. p (suc i)) (λ i. q (suc i)) (λ i l. h (suc i) (omega arith)))
 
--- where the first m do not pass, the least place is that among the others
-pub first-after : (m j : ℕ) (p : ℕ → Bool) → ((i : ℕ) → i < m → p i ≡ false) → first (m + j) p ≡ m + first j (λ i. p (m + i))
-first-after m j p h =
-    first-is (m + j) p (m + first j (λ i. p (m + i))) (omega (arith, first-le j (λ i. p (m + i)))) below
-    (λ l. first-passes j (λ i. p (m + i)) (omega arith))
-  where
-    below : (i : ℕ) → i < m + first j (λ i. p (m + i)) → p i ≡ false
-    below i l = go (decLt i m)
-      where
-        go : Dec (i < m) → p i ≡ false
-        go (yes b) = h i b
-        go (no b) =
-            let e : i ≡ m + (i - m) = omega arith in
-            ap p e ∙ first-below j (λ i. p (m + i)) (i - m) (omega arith)
-
 -- the least place depends on the test's values up to it alone
 pub first-same : (m : ℕ) (p q : ℕ → Bool) → ((i : ℕ) → i < m → ((j : ℕ) → j < i → p j ≡ false) → p i ≡ q i) → first m p ≡ first m q
 first-same m p q h =

@@ -1,7 +1,7 @@
 -- A row's line, written and read: a line of row form is what is written for the row that it spells, which is not malformed
 -- (`form-row`); what is written for a row that is not malformed has row form and spells that row (`row-form`). Assumes nothing.
 use mathlib.Core.Path.{_≡_, refl, sym, ap, ap₂, _∙_}
-use mathlib.Core.Bool.{Bool, true, false, not, cond, _&&_, _||_}
+use mathlib.Core.Bool.{Bool, true, false, not, cond, _||_}
 use mathlib.Core.List.{List, [], _∷_, _++_, append-assoc}
 use Prim.Native.Nat.{ℕ, zero, suc, _+_, _*_, _%_, _^_, _≤_, _<_, min}
 use native.Mathlib.Decide.{decLt}
@@ -27,7 +27,7 @@ use Rattle.puts.specs.Length.{length-row}
 use Rattle.lines.specs.Tests.{every-at, every-all, every-append}
 use Rattle.lines.specs.Front.{noLF}
 use Rattle.lines.specs.HeadLines.{last-apart}
-use Rattle.lines.specs.RowLines.{symbolTest, bitTest, symbol-noLF, bit-symbol, row-length}
+use Rattle.lines.specs.RowLines.{symbolTest, bitTest, symbol-noLF, bit-symbol, row-length, row-parts}
 
 -- ---- what bytes spell, in base 2
 
@@ -172,17 +172,14 @@ unfolding rowForm rowLine rowOn badRow
 form-row n k l e =
     let len = row-length n k l e in
     let d = length-drop (n + 1) l in
-    let a = and-both (eqb (length l) (n + 1 + k + 1)) (every symbolTest (take n l) && (eqb (at l n) 32 && (every bitTest (take k (drop (n + 1) l)) && eqb (at l (n + 1 + k)) 10))) e .1 in
-    let b = and-both (every symbolTest (take n l)) (eqb (at l n) 32 && (every bitTest (take k (drop (n + 1) l)) && eqb (at l (n + 1 + k)) 10)) a in
-    let c = and-both (eqb (at l n) 32) (every bitTest (take k (drop (n + 1) l)) && eqb (at l (n + 1 + k)) 10) (b .1) in
-    let f = and-both (every bitTest (take k (drop (n + 1) l))) (eqb (at l (n + 1 + k)) 10) (c .1) in
+    let t = row-parts n k l e in
     let lx : length (take n l) ≡ n = length-take-le n l (omega arith) in
     let ly : length (take k (drop (n + 1) l)) ≡ k = length-take-le k (drop (n + 1) l) (omega arith) in
     let sx : symbols n (spelled 2 fixed 0 (take n l)) (spelled 2 value 0 (take n l)) ≡ take n l =
-    ap (λ (i : ℕ). symbols i (spelled 2 fixed 0 (take n l)) (spelled 2 value 0 (take n l))) (sym lx) ∙ symbols-back (take n l) (b .0) in
+    ap (λ (i : ℕ). symbols i (spelled 2 fixed 0 (take n l)) (spelled 2 value 0 (take n l))) (sym lx) ∙ symbols-back (take n l) (t .symbols) in
     let sy : bits k (spelled 2 value 0 (take k (drop (n + 1) l))) ≡ take k (drop (n + 1) l) =
-    ap (λ (i : ℕ). bits i (spelled 2 value 0 (take k (drop (n + 1) l)))) (sym ly) ∙ bits-back (take k (drop (n + 1) l)) (f .0) in (
-      whole len (eqb-true (at l n) 32 (c .0)) (eqb-true (at l (n + 1 + k)) 10 (f .1))
+    ap (λ (i : ℕ). bits i (spelled 2 value 0 (take k (drop (n + 1) l)))) (sym ly) ∙ bits-back (take k (drop (n + 1) l)) (t .bits) in (
+      whole len (t .gap) (t .last)
           ∙ ap₂ (λ (x y : List ℕ). x ++ (32 ∷ (y ++ (10 ∷ [])))) (sym sx) (sym sy)
           ∙ sym (append-assoc (symbols n (spelled 2 fixed 0 (take n l)) (spelled 2 value 0 (take n l))) (32 ∷ bits k (spelled 2 value 0 (take k (drop (n + 1) l)))) (10 ∷ [])),
       good lx ly,
