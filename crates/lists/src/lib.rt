@@ -3,6 +3,7 @@
 // lent holds what it held. This crate holds nothing else: what the operations are made of stands in the crates below it.
 use block::Answer;
 use block::RowMethodAnswer;
+use block::SMALLER_ROWS;
 use block::ValueAnswer;
 ghost use mathlib.Core.Path.{_≡_};
 ghost use lib.ListN.{length};
@@ -85,12 +86,12 @@ pub fn row_method(
     ensures values { λ _. ⌜ now («smaller_values» .exit) ≡ stored (rowMethodVerdict n k w (rowsOf (now (masks .entry)) (now (values .entry)) (now (words .entry))) (length (now (basis .entry))) (length (now (sigma .entry))) (min (length (now («smaller_masks» .entry))) (min (length (now («smaller_values» .entry))) (length (now («smaller_words» .entry)))))) (map (λ (r : Row). r .values) (smallerList n w (rowsOf (now (masks .entry)) (now (values .entry)) (now (words .entry))))) (now («smaller_values» .entry)) ⌝ }
     ensures words { λ _. ⌜ now («smaller_words» .exit) ≡ stored (rowMethodVerdict n k w (rowsOf (now (masks .entry)) (now (values .entry)) (now (words .entry))) (length (now (basis .entry))) (length (now (sigma .entry))) (min (length (now («smaller_masks» .entry))) (min (length (now («smaller_values» .entry))) (length (now («smaller_words» .entry)))))) (map (λ (r : Row). r .word) (smallerList n w (rowsOf (now (masks .entry)) (now (values .entry)) (now (words .entry))))) (now («smaller_words» .entry)) ⌝ }
 {
-    let room = row_checks::least_room(
+    let room = listing::least_room(
         smaller_masks.len(),
         smaller_values.len(),
         smaller_words.len(),
     );
-    let short = row_checks::is_short(n, basis.len(), sigma.len(), room);
+    let short = checks::is_short(n, basis.len(), sigma.len(), SMALLER_ROWS, room);
     row_work::method_rows(
         n,
         k,

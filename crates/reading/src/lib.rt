@@ -13,6 +13,6 @@ pub fn read_text(text: &[u8], masks: &mut [u32], values: &mut [u32], words: &mut
     ensures values { λ r. ⌜ now (values .exit) ≡ stored (readVerdict (now (text .entry)) (shortest (now (masks .entry)) (now (values .entry)) (now (words .entry)))) (valuesIn (now (text .entry))) (now (values .entry)) ⌝ }
     ensures words { λ r. ⌜ now (words .exit) ≡ stored (readVerdict (now (text .entry)) (shortest (now (masks .entry)) (now (values .entry)) (now (words .entry)))) (wordsIn (now (text .entry))) (now (words .entry)) ⌝ }
 {
-    let room = row_checks::least_room(masks.len(), values.len(), words.len());
+    let room = listing::least_room(masks.len(), values.len(), words.len());
     read_work::read_from(text, room, masks, values, words)
 }

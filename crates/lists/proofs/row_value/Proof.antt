@@ -5,6 +5,7 @@ use borrow.Author.Tests.{eq-eqb, ne-eqb}
 use denote.Ref.{now}
 use lib.Pow.{pow-mono}
 use Rattle.block.specs.Lists.{rowValue}
+use Rattle.listing.specs.Listing.{listed-rows}
 use Rattle.row_checks.specs.Checked.{value-checked}
 use borrow.Author.Needs.{needs}
 use Rattle.lists.proofs.row_value.Statement.{statement}
@@ -22,14 +23,14 @@ cast-shift-of-rows c =
     let a = c .before .before .before .before .before .before .args in
     let w = value-checked (a .n) (a .k) (a .t) (now (a .masks)) (now (a .values)) (now (a .words)) _
     (c .before .before .row-value-verdict .ensures) (c .if1 .left) in
-    omega (arith, w .1, pow-mono (w .0 .size .1))
+    omega (arith, w .1, pow-mono (w .0 .range .size .1))
 
 shift-of-rows-requires : tie.Need-shift-of-rows-requires
 shift-of-rows-requires c κs =
     let a = c .before .before .before .before .before .before .args in
     let w = value-checked (a .n) (a .k) (a .t) (now (a .masks)) (now (a .values)) (now (a .words)) _
     (c .before .before .row-value-verdict .ensures) (c .if1 .left) in
-    ((w .0 .size .1, w .1, w .0 .listed), w .0 .disjoint)
+    ((w .0 .range .size .1, w .1, listed-rows 128 _ _ _ (w .0 .range .count)), w .0 .disjoint)
 
 cast-t11 : tie.Need-cast-t11
 cast-t11 c = search needs

@@ -4,7 +4,7 @@ use lib.ListN.{length-take}
 use native.Mathlib.Omega.{arith}
 use denote.Ref.{now}
 use Rattle.block.specs.Words.{rowsOf}
-use Rattle.sheet_work.specs.Made.{sheet-refused, sheet-ready, sheet-small, sheet-answered}
+use Rattle.sheet_work.specs.Made.{sheet-refused, sheet-ready, sheet-enough, sheet-small, sheet-answered}
 use borrow.Author.Needs.{needs}
 use Rattle.sheet_work.proofs.make_sheet.Statement.{statement}
 use Rattle.sheet_work.proofs.make_sheet.Tie as tie
@@ -29,37 +29,46 @@ method-rows-requires c κs = search needs
 
 returns : tie.Need-returns
 returns c =
-    let a = c .before .before .before .before .before .before .before .before .before .before .before .before .before .before .before .before .before .args in
+    let made = c .before .before .before .before .before .before .before in
+    let a = made .before .before .before .before .before .before .before .before .before .before .args in
     sheet-refused (a .n) (a .k) (a .w) (rowsOf (now (a .masks)) (now (a .values)) (now (a .words))) (now (a .out)) _ _ _ _ _ _ _ _ _ _ _
-    (c .before .before .before .before .before .before .before .method-rows .ensures) (c .if1 .taken)
+    (made .method-rows .ensures) (c .if1 .taken)
 
 array-share-prefix-basis : tie.Need-array-share-prefix-basis
 array-share-prefix-basis c =
-    let a = c .before .before .before .before .before .before .before .before .before .before .before .before .before .before .before .before .before .before .args in
+    let left = c .before in
+    let made = left .before .before .before .before .before .before .before in
+    let a = made .before .before .before .before .before .before .before .before .before .before .args in
     let h = sheet-ready (a .n) (a .k) (a .w) (rowsOf (now (a .masks)) (now (a .values)) (now (a .words))) (now (a .out)) _ _ _ _ _ _ _ _ _ _ _
-    (c .before .before .before .before .before .before .before .before .method-rows .ensures) (c .before .if1 .left) in
-    omega (arith, h .inputs .1)
+    (made .method-rows .ensures) (left .if1 .left) .passed in
+    omega (arith, h .list .range .size .1)
 
 slice-aggregate-put-sheet : tie.Need-slice-aggregate-put-sheet
 slice-aggregate-put-sheet c =
-    let a = c .before .before .before .before .before .before .before .before .before .before .before .before .before .before .before .before .before .before .before .args in
+    let left = c .before .before in
+    let made = left .before .before .before .before .before .before .before in
+    let a = made .before .before .before .before .before .before .before .before .before .before .args in
     let h = sheet-ready (a .n) (a .k) (a .w) (rowsOf (now (a .masks)) (now (a .values)) (now (a .words))) (now (a .out)) _ _ _ _ _ _ _ _ _ _ _
-    (c .before .before .before .before .before .before .before .before .before .method-rows .ensures) (c .before .before .if1 .left) in
-    simp length-take (omega (arith, h .inputs .1))
+    (made .method-rows .ensures) (left .if1 .left) .passed in
+    simp length-take (omega (arith, h .list .range .size .1))
 
 array-share-prefix-sigma : tie.Need-array-share-prefix-sigma
 array-share-prefix-sigma c =
-    let a = c .before .before .before .before .before .before .before .before .before .before .before .before .before .before .before .before .before .before .before .args in
+    let left = c .before .before in
+    let made = left .before .before .before .before .before .before .before in
+    let a = made .before .before .before .before .before .before .before .before .before .before .args in
     let h = sheet-ready (a .n) (a .k) (a .w) (rowsOf (now (a .masks)) (now (a .values)) (now (a .words))) (now (a .out)) _ _ _ _ _ _ _ _ _ _ _
-    (c .before .before .before .before .before .before .before .before .before .method-rows .ensures) (c .before .before .if1 .left) in
-    omega (arith, h .inputs .1)
+    (made .method-rows .ensures) (left .if1 .left) .passed in
+    omega (arith, h .list .range .size .1)
 
 slice-aggregate-put-sheet-2 : tie.Need-slice-aggregate-put-sheet-2
 slice-aggregate-put-sheet-2 c =
-    let a = c .before .before .before .before .before .before .before .before .before .before .before .before .before .before .before .before .before .before .before .before .args in
+    let left = c .before .before .before in
+    let made = left .before .before .before .before .before .before .before in
+    let a = made .before .before .before .before .before .before .before .before .before .before .args in
     let h = sheet-ready (a .n) (a .k) (a .w) (rowsOf (now (a .masks)) (now (a .values)) (now (a .words))) (now (a .out)) _ _ _ _ _ _ _ _ _ _ _
-    (c .before .before .before .before .before .before .before .before .before .before .method-rows .ensures) (c .before .before .before .if1 .left) in
-    simp length-take (omega (arith, h .inputs .1))
+    (made .method-rows .ensures) (left .if1 .left) .passed in
+    simp length-take (omega (arith, h .list .range .size .1))
 
 slice-aggregate-put-sheet-3 : tie.Need-slice-aggregate-put-sheet-3
 slice-aggregate-put-sheet-3 c = search needs
@@ -72,14 +81,19 @@ slice-aggregate-put-sheet-5 c = search needs
 
 put-sheet-requires : tie.Need-put-sheet-requires
 put-sheet-requires c κs =
-    let a = c .before .before .before .before .before .before .before .before .before .before .before .before .before .before .before .before .before .before .before .before .before .before .before .args in
+    let left = c .before .before .before .before .before .before in
+    let made = left .before .before .before .before .before .before .before in
+    let a = made .before .before .before .before .before .before .before .before .before .before .args in
     let h = sheet-ready (a .n) (a .k) (a .w) (rowsOf (now (a .masks)) (now (a .values)) (now (a .words))) (now (a .out)) _ _ _ _ _ _ _ _ _ _ _
-    (c .before .before .before .before .before .before .before .before .before .before .before .before .before .method-rows .ensures) (c .before .before .before .before .before .before .if1 .left) in
+    (made .method-rows .ensures) (left .if1 .left) .passed in
+    let range = h .list .range in
+    let enough = sheet-enough (a .n) (a .k) (a .w) (rowsOf (now (a .masks)) (now (a .values)) (now (a .words))) (now (a .out)) _ _ _ _ _ _ _ _ _ _ _
+    (made .method-rows .ensures) (left .if1 .left) in
     let s = sheet-small (a .n) (a .k) (a .w) (rowsOf (now (a .masks)) (now (a .values)) (now (a .words))) (now (a .out)) _ _ _ _ _ _ _ _ _ _ _
-    (c .before .before .before .before .before .before .before .before .before .before .before .before .before .method-rows .ensures) (c .before .before .before .before .before .before .if1 .left) in (
-      (h .inputs .1, h .outputs .1, omega (arith, h .inputs .1, h .weight .1), s .0, s .1, h .enough),
+    (made .method-rows .ensures) (left .if1 .left) in (
+      (range .size .1, range .columns .1, omega (arith, range .size .1, h .weight .1), s .0, s .1, enough),
       (
-        (simp length-take (omega (arith, h .inputs .1)), simp length-take (omega (arith, h .inputs .1)), s .2),
+        (simp length-take (omega (arith, range .size .1)), simp length-take (omega (arith, range .size .1)), s .2),
         (omega (arith, s .2), omega (arith, s .2), omega (arith, s .2)),
       ),
     )
@@ -89,9 +103,12 @@ same-length c = search needs
 
 returns-2 : tie.Need-returns-2
 returns-2 c =
-    let a = c .before .before .before .before .before .before .before .before .before .before .before .before .before .before .before .before .before .before .before .before .before .before .before .before .before .before .args in
+    let put = c .before .before in
+    let left = put .before .before .before .before .before .before .before in
+    let made = left .before .before .before .before .before .before .before in
+    let a = made .before .before .before .before .before .before .before .before .before .before .args in
     sheet-answered (a .n) (a .k) (a .w) (rowsOf (now (a .masks)) (now (a .values)) (now (a .words))) (now (a .out)) _ _ _ _ _ _ _ _ _ _ _
-    (c .before .before .before .before .before .before .before .before .before .before .before .before .before .before .before .before .method-rows .ensures) (c .before .before .before .before .before .before .before .before .before .if1 .left) _ _ (c .before .before .put-sheet .ensures)
+    (made .method-rows .ensures) (left .if1 .left) _ _ (put .put-sheet .ensures)
 
 pub make-sheet-spec : {M : Type 1} → statement M
 make-sheet-spec =
