@@ -7,13 +7,20 @@ use Prim.Native.Nat.{ℕ, _^_, _≤_}
 use native.Mathlib.Omega.{arith}
 use lib.Dec.{eqb, ltb}
 use lib.ListN.{length}
+use Rattle.slices.specs.Places.{at, first}
 use Rattle.block.specs.Limits.{listInputs, tableInputs, outputs}
 use Rattle.block.specs.Refusals.{Check, check, verdict, andThen, outside, sizeChecks, badEntry, badNumber, malformed}
 use Rattle.block.specs.Tables.{tableValueVerdict, tableMethodVerdict}
 use Rattle.block.specs.declared.Answer.{Answer}
-use Rattle.verdicts.specs.Verdicts.{zero-too, Asked, asked-then, asked-where}
+use Rattle.verdicts.specs.Verdicts.{zero-too, then-answered, Asked, asked-then, asked-where}
 use Rattle.checks.specs.Sizes.{asked-sizes, sizes-pass}
 use Rattle.table_checks.specs.Restoring.{restoreChecked}
+
+-- 6 in a list of numbers after an answer of 0, by the least malformed index
+pub malformed-asked : (v r : Answer) (a i : ℕ) (bad : ℕ → Bool) (l : List ℕ) → v .number ≡ 0 → i ≡ first (length l) (λ j. bad (at l j))
+    → r ≡ verdict (check (ltb i (length l)) 6 a i ∷ []) → r ≡ andThen v (verdict (malformed a bad l ∷ []))
+malformed-asked v r a i bad l h e f =
+    f ∙ ap (λ (i : ℕ). verdict (check (ltb i (length l)) 6 a i ∷ [])) e ∙ then-answered v _ h
 
 module _ (n k size : ℕ) (table : List ℕ) (power : n ≤ listInputs → size ≡ 2 ^ n) where
   -- where the sizes and what follows them answer 0

@@ -16,9 +16,10 @@ slice-aggregate-find-basis-in-2 c = search needs
 
 find-basis-in-requires : tie.Need-find-basis-in-requires
 find-basis-in-requires c κs =
-    let s = c .before .before .before .before .before .before .before .before .before .before in
-    let few = walk-few (s .args .n) (s .args .w) (s .pre .0 .0) (c .before .before .before .before .if1 .taken) in
-    ((s .pre .0 .0, s .pre .0 .1, s .pre .0 .2, s .pre .0 .3, s .pre .0 .4), ((omega arith, omega arith), (s .pre .1 .0, s .pre .1 .1)))
+    let light = c .before .before .before .before in
+    let start = light .before .before .before .before .before .before in
+    let few = walk-few (start .args .n) (start .args .w) (start .pre .0 .0) (light .if1 .taken) in
+    (start .pre .0, ((omega arith, omega arith), (start .pre .1 .0, start .pre .1 .1)))
 
 same-length : tie.Need-same-length
 same-length c = search needs
@@ -37,10 +38,10 @@ slice-aggregate-find-basis-in-4 c = search needs
 
 find-basis-in-requires-2 : tie.Need-find-basis-in-requires-2
 find-basis-in-requires-2 c κs =
-    let s = c .before .before .before .before .before .before .before .before .before .before in
-    let short = walk-below (s .args .n) (s .args .w) in
-    let most = pow-mono (s .pre .0 .0) in
-    ((s .pre .0 .0, s .pre .0 .1, s .pre .0 .2, s .pre .0 .3, s .pre .0 .4), ((omega arith, omega arith), (s .pre .1 .0, s .pre .1 .1)))
+    let start = c .before .before .before .before .before .before .before .before .before .before in
+    let short = walk-below (start .args .n) (start .args .w) in
+    let most = pow-mono (start .pre .0 .0) in
+    (start .pre .0, ((omega arith, omega arith), (start .pre .1 .0, start .pre .1 .1)))
 
 same-length-3 : tie.Need-same-length-3
 same-length-3 c = search needs

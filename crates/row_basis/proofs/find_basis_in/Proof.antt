@@ -15,22 +15,37 @@ put-walk-requires c κs = search needs
 
 shifts-of-rows-requires : tie.Need-shifts-of-rows-requires
 shifts-of-rows-requires c κs =
-    let s = c .before .before .before .before .before .before .before .before .before .before .before .before .before in
-    let a = s .args in
-    let p = c .before .before .before .before .put-walk in
-    let r = s .pre .1 .0 in
-    let h = walked (a .n) (a .w) (now (a .candidates)) _ _ (c .before .before .before .before .put-walk .ensures .0) (c .before .before .before .before .put-walk .ensures .1) in
-    ((s .pre .0 .0, s .pre .1 .1 .0), (s .pre .1 .1 .1, (omega (arith, p .ensures .1, p .kept .1 .1 .0, r .0), omega (arith, p .ensures .1, r .1), walked-lt _ _ _ _ h)))
+    let listed = c .before .before .before .before in
+    let start = listed .before .before .before .before .before .before .before .before .before in
+    let a = start .args in
+    let walk = listed .put-walk in
+    let room = start .pre .1 .0 in
+    let h = walked (a .n) (a .w) (now (a .candidates)) _ _ (walk .ensures .0) (walk .ensures .1) in (
+      (start .pre .0 .0, start .pre .1 .1 .0),
+      (
+        start .pre .1 .1 .1,
+        (omega (arith, walk .ensures .1, walk .kept .1 .1 .0, room .0), omega (arith, walk .ensures .1, room .1), walked-lt _ _ _ _ h),
+      ),
+    )
 
 choose-basis-requires : tie.Need-choose-basis-requires
 choose-basis-requires c κs =
-    let s = c .before .before .before .before .before .before .before .before .before .before .before .before .before .before .before .before .before .before .before .before in
-    let a = s .args in
-    let p = c .before .before .before .before .before .before .before .before .before .before .before .put-walk in
-    let q = c .before .before .before .before .before .before .shifts-of-rows .kept .1 .1 .1 .1 .1 .1 .0 in
-    let r = s .pre .1 .0 in (
-      (omega (arith, p .ensures .1, p .kept .1 .1 .0, r .0), omega (arith, p .ensures .1, q, r .1), search needs, search needs, search needs, s .pre .0 .1),
-      walked (a .n) (a .w) (now (a .candidates)) _ _ (c .before .before .before .before .before .before .before .before .before .before .before .put-walk .ensures .0) (c .before .before .before .before .before .before .before .before .before .before .before .put-walk .ensures .1),
+    let valued = c .before .before .before .before .before .before in
+    let listed = valued .before .before .before .before .before in
+    let start = listed .before .before .before .before .before .before .before .before .before in
+    let a = start .args in
+    let walk = listed .put-walk in
+    let kept = valued .shifts-of-rows .kept .1 .1 .1 .1 .1 .1 .0 in
+    let room = start .pre .1 .0 in (
+      (
+        omega (arith, walk .ensures .1, walk .kept .1 .1 .0, room .0),
+        omega (arith, walk .ensures .1, kept, room .1),
+        search needs,
+        search needs,
+        search needs,
+        start .pre .0 .1,
+      ),
+      walked (a .n) (a .w) (now (a .candidates)) _ _ (walk .ensures .0) (walk .ensures .1),
     )
 
 same-length : tie.Need-same-length
@@ -47,12 +62,16 @@ same-length-4 c = search needs
 
 returns : tie.Need-returns
 returns c =
-    let s = c .before .before .before .before .before .before .before .before .before .before .before .before .before .before .before .before .before .before .before .before .before .before .before .before .before in
-    let a = s .args in
+    let chosen = c .before .before .before .before in
+    let valued = chosen .before .before .before .before .before .before .before in
+    let listed = valued .before .before .before .before .before in
+    let start = listed .before .before .before .before .before .before .before .before .before in
+    let a = start .args in
+    let walk = listed .put-walk in
     let f = ofRows (rowsOf (now (a .masks)) (now (a .values)) (now (a .words))) in
-    let h = walked (a .n) (a .w) (now (a .candidates)) _ _ (c .before .before .before .before .before .before .before .before .before .before .before .before .before .before .before .before .put-walk .ensures .0) (c .before .before .before .before .before .before .before .before .before .before .before .before .before .before .before .before .put-walk .ensures .1) in
-    found f (a .n) (a .w) (s .pre .0 .1) _ (value-agree _ _ _ _ h (shift f (a .n)) _ _ (c .before .before .before .before .before .before .before .before .before .before .before .shifts-of-rows .ensures)) _ _ _ _ _
-    (c .before .before .before .before .choose-basis .ensures)
+    let h = walked (a .n) (a .w) (now (a .candidates)) _ _ (walk .ensures .0) (walk .ensures .1) in
+    found f (a .n) (a .w) (start .pre .0 .1) _ (value-agree _ _ _ _ h (shift f (a .n)) _ _ (valued .shifts-of-rows .ensures)) _ _ _ _ _
+    (chosen .choose-basis .ensures)
 
 pub find-basis-in-spec : {M : Type 1} → statement M
 find-basis-in-spec =

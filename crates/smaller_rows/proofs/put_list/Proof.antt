@@ -25,8 +25,12 @@ same-length-3 c = search needs
 
 returns : tie.Need-returns
 returns c =
-    let a = c .before .before .before .before .before .before .before .before .before .before .before .before .before .before .before .before .before .before .args in
-    list-put (a .count) (now (a .masks)) (now (a .values)) (now (a .words)) _ _ _ _ _ _ (c .before .before .before .before .before .before .before .before .before .before .copy-first .ensures) (c .before .before .before .before .before .before .copy-first2 .ensures) (c .before .before .copy-first3 .ensures)
+    let words = c .before .before in
+    let values = words .before .before .before .before in
+    let masks = values .before .before .before .before in
+    let a = masks .before .before .before .before .before .before .before .before .args in
+    list-put (a .count) (now (a .masks)) (now (a .values)) (now (a .words)) _ _ _ _ _ _ (masks .copy-first .ensures)
+    (values .copy-first2 .ensures) (words .copy-first3 .ensures)
 
 pub put-list-spec : {M : Type 1} → statement M
 put-list-spec =

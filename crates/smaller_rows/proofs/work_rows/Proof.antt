@@ -30,29 +30,45 @@ slice-aggregate-replay-rows-4 c = search needs
 
 replay-rows-requires : tie.Need-replay-rows-requires
 replay-rows-requires c κs =
-    let s = c .before .before .before .before .before .before .before .before .before .before .before .before .before .before .before .before .before in
-    let a = s .args in (
-      (s .pre .0 .0, omega (arith, s .pre .0 .0, c .before .before .before .before .before .before .find-basis .kept), found-independent (a .n) (a .w) (s .pre .0 .1) (rowsOf (now (a .masks)) (now (a .values)) (now (a .words))) _ _ _ _ _ (c .before .before .before .before .before .before .find-basis .ensures)),
-      (s .pre .1 .1 .0, search needs),
+    let found = c .before .before .before .before .before .before in
+    let start = found .before .before .before .before .before .before .before .before .before .before .before in
+    let a = start .args in (
+      (
+        start .pre .0 .0,
+        omega (arith, start .pre .0 .0, found .find-basis .kept),
+        found-independent (a .n) (a .w) (start .pre .0 .1) (rowsOf (now (a .masks)) (now (a .values)) (now (a .words))) _ _ _ _ _ (found .find-basis .ensures),
+      ),
+      (start .pre .1 .1 .0, search needs),
     )
 
 returns : tie.Need-returns
 returns c =
-    let s = c .before .before .before .before .before .before .before .before .before .before .before .before .before .before .before .before .before .before .before .before .before .before .before in
-    let a = s .args in
-    work-stopped (a .n) (a .w) (s .pre .0 .1) (rowsOf (now (a .masks)) (now (a .values)) (now (a .words))) _ _ _ _ _ (c .before .before .before .before .before .before .before .before .before .before .before .before .find-basis .ensures) _ _ _ _ (c .before .before .before .before .before .replay-rows .ensures) _ _ _ _ _ (c .if1 .taken)
+    let moved = c .before .before .before .before .before in
+    let found = moved .before .before .before .before .before .before .before in
+    let start = found .before .before .before .before .before .before .before .before .before .before .before in
+    let a = start .args in
+    work-stopped (a .n) (a .w) (start .pre .0 .1) (rowsOf (now (a .masks)) (now (a .values)) (now (a .words))) _ _ _ _ _ (found .find-basis .ensures) _ _ _ _
+    (moved .replay-rows .ensures) _ _ _ _ _ (c .if1 .taken)
 
 slice-aggregate-copy-first : tie.Need-slice-aggregate-copy-first
 slice-aggregate-copy-first c = search needs
 
 copy-first-requires : tie.Need-copy-first-requires
-copy-first-requires c κs = omega (arith, c .before .before .before .before .before .before .before .before .before .before .before .before .before .before .before .before .before .before .before .before .before .before .before .before .before .pre .0, c .before .before .before .before .before .before .before .before .before .before .before .before .before .before .find-basis .kept)
+copy-first-requires c κs =
+    let left = c .before .before in
+    let found = left .before .before .before .before .before .before .before .before .before .before .before .before in
+    let start = found .before .before .before .before .before .before .before .before .before .before .before in
+    omega (arith, start .pre .0, found .find-basis .kept)
 
 slice-aggregate-copy-first-2 : tie.Need-slice-aggregate-copy-first-2
 slice-aggregate-copy-first-2 c = search needs
 
 copy-first-requires-2 : tie.Need-copy-first-requires-2
-copy-first-requires-2 c κs = omega (arith, c .before .before .before .before .before .before .before .before .before .before .before .before .before .before .before .before .before .before .before .before .before .before .before .before .before .before .before .before .before .before .pre .0, c .before .before .before .before .before .before .before .before .before .before .before .before .before .before .before .before .before .before .before .find-basis .kept)
+copy-first-requires-2 c κs =
+    let left = c .before .before .before .before .before .before .before in
+    let found = left .before .before .before .before .before .before .before .before .before .before .before .before in
+    let start = found .before .before .before .before .before .before .before .before .before .before .before in
+    omega (arith, start .pre .0, found .find-basis .kept)
 
 slice-aggregate-put-list : tie.Need-slice-aggregate-put-list
 slice-aggregate-put-list c = search needs
@@ -65,10 +81,12 @@ slice-aggregate-put-list-3 c = search needs
 
 put-list-requires : tie.Need-put-list-requires
 put-list-requires c κs =
-    let s = c .before .before .before .before .before .before .before .before .before .before .before .before .before .before .before .before .before .before .before .before .before .before .before .before .before .before .before .before .before .before .before .before .before .before .before .before .before .before .before in
-    let r = c .before .before .before .before .before .before .before .before .before .before .before .before .before .before .before .before .before .before .before .before .before .replay-rows in (
+    let left = c .before .before .before .before .before .before .before .before .before .before .before .before .before .before .before .before in
+    let moved = left .before .before .before .before .before in
+    let start = moved .before .before .before .before .before .before .before .before .before .before .before .before .before .before .before .before .before .before in
+    let r = moved .replay-rows in (
       (omega (arith, r .ensures .few, r .kept), omega (arith, r .ensures .few, r .kept), omega (arith, r .ensures .few, r .kept)),
-      (omega (arith, r .ensures .few, s .pre .1 .0), omega (arith, r .ensures .few, s .pre .1 .0), omega (arith, r .ensures .few, s .pre .1 .0)),
+      (omega (arith, r .ensures .few, start .pre .1 .0), omega (arith, r .ensures .few, start .pre .1 .0), omega (arith, r .ensures .few, start .pre .1 .0)),
     )
 
 same-length : tie.Need-same-length
@@ -88,10 +106,17 @@ same-length-5 c = search needs
 
 returns-2 : tie.Need-returns-2
 returns-2 c =
-    let s = c .before .before .before .before .before .before .before .before .before .before .before .before .before .before .before .before .before .before .before .before .before .before .before .before .before .before .before .before .before .before .before .before .before .before .before .before .before .before .before .before .before .before .before .before .before .before in
-    let a = s .args in
-    work-done (a .n) (a .w) (s .pre .0 .1) (rowsOf (now (a .masks)) (now (a .values)) (now (a .words))) _ _ _ _ _ (c .before .before .before .before .before .before .before .before .before .before .before .before .before .before .before .before .before .before .before .before .before .before .before .before .before .before .before .before .before .before .before .before .before .before .before .find-basis .ensures) _ _ _ _ (c .before .before .before .before .before .before .before .before .before .before .before .before .before .before .before .before .before .before .before .before .before .before .before .before .before .before .before .before .replay-rows .ensures) _ _ _ _ _ _ _ _ _ _ (c .before .before .before .before .before .before .before .before .before .before .before .before .before .before .before .before .before .before .before .before .before .before .before .if1 .left)
-    (c .before .before .before .before .before .before .before .before .before .before .before .before .before .before .before .before .before .before .before .before .copy-first .ensures) (c .before .before .before .before .before .before .before .before .before .before .before .before .before .before .before .copy-first2 .ensures) (c .before .before .before .before .before .before .put-list .ensures)
+    let rows = c .before .before .before .before .before .before in
+    let sigma = rows .before .before .before .before .before .before .before .before .before in
+    let basis = sigma .before .before .before .before .before in
+    let left = basis .before .before .before in
+    let moved = left .before .before .before .before .before in
+    let found = moved .before .before .before .before .before .before .before in
+    let start = found .before .before .before .before .before .before .before .before .before .before .before in
+    let a = start .args in
+    work-done (a .n) (a .w) (start .pre .0 .1) (rowsOf (now (a .masks)) (now (a .values)) (now (a .words))) _ _ _ _ _ (found .find-basis .ensures) _ _ _ _
+    (moved .replay-rows .ensures) _ _ _ _ _ _ _ _ _ _ (left .if1 .left) (basis .copy-first .ensures) (sigma .copy-first2 .ensures)
+    (rows .put-list .ensures)
 
 pub work-rows-spec : {M : Type 1} → statement M
 work-rows-spec =

@@ -1,12 +1,8 @@
 -- `table_checks::then_entries` meets its contract: the earlier refusal, or one check. Assumes nothing.
-use mathlib.Core.Path.{ap, _∙_}
-use mathlib.Core.List.{[], _∷_}
-use Prim.Native.Nat.{ℕ}
 use denote.Ref.{now}
-use lib.Dec.{ltb}
-use lib.ListN.{length}
-use Rattle.block.specs.Refusals.{check, verdict}
-use Rattle.verdicts.specs.Verdicts.{then-refused, then-answered}
+use Rattle.block.specs.Refusals.{badEntry}
+use Rattle.verdicts.specs.Verdicts.{then-refused}
+use Rattle.table_checks.specs.Steps.{malformed-asked}
 use borrow.Author.Needs.{needs}
 use Rattle.table_checks.proofs.then_entries.Statement.{statement}
 use Rattle.table_checks.proofs.then_entries.Tie as tie
@@ -22,10 +18,9 @@ refuse-where-requires c κs = search needs
 
 returns-2 : tie.Need-returns-2
 returns-2 c =
-    let start = c .before .before .before .before .before in
-    c .refuse-where .ensures
-    ∙ ap (λ (i : ℕ). verdict (check (ltb i (length (now (start .args .table)))) 6 0 i ∷ [])) (c .before .first-bad-entry .ensures)
-    ∙ then-answered _ _ (c .before .before .if1 .left)
+    let left = c .before .before in
+    let a = left .before .before .before .args in
+    malformed-asked (a .v) _ 0 _ (badEntry (a .k)) (now (a .table)) (left .if1 .left) (c .before .first-bad-entry .ensures) (c .refuse-where .ensures)
 
 pub then-entries-spec : {M : Type 1} → statement M
 then-entries-spec =

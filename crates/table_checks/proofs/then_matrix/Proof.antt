@@ -1,12 +1,8 @@
 -- `table_checks::then_matrix` meets its contract: the earlier refusal, or one check. Assumes nothing.
-use mathlib.Core.Path.{ap, _∙_}
-use mathlib.Core.List.{[], _∷_}
-use Prim.Native.Nat.{ℕ}
 use denote.Ref.{now}
-use lib.Dec.{ltb}
-use lib.ListN.{length}
-use Rattle.block.specs.Refusals.{check, verdict}
-use Rattle.verdicts.specs.Verdicts.{then-refused, then-answered}
+use Rattle.block.specs.Refusals.{badNumber}
+use Rattle.verdicts.specs.Verdicts.{then-refused}
+use Rattle.table_checks.specs.Steps.{malformed-asked}
 use borrow.Author.Needs.{needs}
 use Rattle.table_checks.proofs.then_matrix.Statement.{statement}
 use Rattle.table_checks.proofs.then_matrix.Tie as tie
@@ -22,10 +18,9 @@ refuse-where-requires c κs = search needs
 
 returns-2 : tie.Need-returns-2
 returns-2 c =
-    let start = c .before .before .before .before .before in
-    c .refuse-where .ensures
-    ∙ ap (λ (i : ℕ). verdict (check (ltb i (length (now (start .args .rows)))) 6 1 i ∷ [])) (c .before .first-bad-number .ensures)
-    ∙ then-answered _ _ (c .before .before .if1 .left)
+    let left = c .before .before in
+    let a = left .before .before .before .args in
+    malformed-asked (a .v) _ 1 _ (badNumber (a .n)) (now (a .rows)) (left .if1 .left) (c .before .first-bad-number .ensures) (c .refuse-where .ensures)
 
 pub then-matrix-spec : {M : Type 1} → statement M
 then-matrix-spec =
