@@ -25,14 +25,14 @@ candidate w c k t = leb 1 (ones t) && (leb (ones t) w && not (span c k t))
 unfoldable pub before : (ℕ → ℕ) → ℕ → ℕ → Bool
 before r a b = ltb (r b) (r a) || (eqb (r a) (r b) && ltb a b)
 
--- of b, the best so far or 0 for none, and t, the one to keep
+-- of b, the best so far or 0 for none, and t, the one to keep under an order
 unfoldable pub better : (ℕ → ℕ → Bool) → (ℕ → Bool) → ℕ → ℕ → ℕ
-better ahead ok b t = cond (ok t && (eqb b 0 || ahead t b)) t b
+better order ok b t = cond (ok t && (eqb b 0 || order t b)) t b
 
 -- of the numbers below m that pass, the one that stands before the others; 0 where none passes
 unfoldable pub best : (ℕ → ℕ → Bool) → (ℕ → Bool) → ℕ → ℕ
-best ahead ok zero = 0
-best ahead ok (suc m) = better ahead ok (best ahead ok m) m
+best order ok zero = 0
+best order ok (suc m) = better order ok (best order ok m) m
 
 -- the number taken after those of cs, of which there are k: r is R of the original block
 unfoldable pub next : (ℕ → ℕ) → ℕ → ℕ → ℕ → List ℕ → ℕ

@@ -1,7 +1,7 @@
 -- The operations on lists of rows (01, Numbers that come back): for each its checks in their order, its answer and its results.
 -- Assumes nothing.
 use mathlib.Core.Bool.{Bool, not, cond, _||_}
-use mathlib.Core.List.{List, [], _∷_}
+use mathlib.Core.List.{List, [], _∷_, _++_}
 use Prim.Native.Nat.{ℕ, suc, _+_, _^_}
 use lib.Dec.{eqb, ltb}
 use lib.ListN.{length}
@@ -31,21 +31,23 @@ badRowCheck n k rs =
 abbrev pub shareCheck : ℕ → List Row → Check
 shareCheck n rs = check (ltb (sharing n rs) (length rs)) 7 (sharing n rs) (second n rs (sharing n rs))
 
--- ---- a single shift value of a list: 1, 2, 3 (t), 4, 6, 7
+-- what every operation that takes a list to work on asks of its rows, last of all but 9: 6, 7
+abbrev pub rowChecks : ℕ → ℕ → List Row → List Check
+rowChecks n k rs = badRowCheck n k rs ∷ shareCheck n rs ∷ []
+
+-- ---- a single shift value of a list: 1, 2, 3 (t), 4, and its rows
 
 unfoldable pub rowValueVerdict : ℕ → ℕ → ℕ → List Row → Answer
 rowValueVerdict n k t rs =
     verdict (sizeChecks listInputs n k (
     check (not (ltb t (2 ^ n))) 3 0 0
     ∷ countCheck givenRows rs
-    ∷ badRowCheck n k rs
-    ∷ shareCheck n rs
-    ∷ []))
+    ∷ rowChecks n k rs))
 
 unfoldable pub rowValue : ℕ → ℕ → ℕ → List Row → ValueAnswer
 rowValue n k t rs = withValue (rowValueVerdict n k t rs) (shift (ofRows rs) n t)
 
--- ---- the row method: 1, 2, 3 (w), 4, 5, 6, 7, 9
+-- ---- the row method: 1, 2, 3 (w), 4, 5, its rows, 9
 
 -- the rows after the first i steps
 unfoldable pub rowsAfter : ℕ → ℕ → ℕ → List Row → List Row
@@ -55,18 +57,23 @@ rowsAfter n w i rs = moved n (at (basisOf (ofRows rs) n w)) i rs
 unfoldable pub passing : ℕ → ℕ → List Row → ℕ
 passing n w rs = first n (λ i. ltb smallerRows (length (rowsAfter n w (suc i) rs)))
 
--- `short` says that the lent room is too short: 512 rows, and n numbers for each matrix
-unfoldable pub methodChecks : ℕ → ℕ → ℕ → List Row → Bool → List Check
-methodChecks n k w rs short =
+-- 9: the list passes 512 rows
+abbrev pub passingCheck : ℕ → ℕ → List Row → Check
+passingCheck n w rs = check (ltb (passing n w rs) n) 9 (suc (passing n w rs)) 0
+
+-- the checks before 9, which needs the rows moved; `short` says that the lent room is too short
+abbrev pub methodChecked : ℕ → ℕ → ℕ → List Row → Bool → List Check
+methodChecked n k w rs short =
     sizeChecks listInputs n k (
     check (outside 1 n w) 3 0 0
     ∷ countCheck givenRows rs
     ∷ check short 5 0 0
-    ∷ badRowCheck n k rs
-    ∷ shareCheck n rs
-    ∷ check (ltb (passing n w rs) n) 9 (suc (passing n w rs)) 0
-    ∷ [])
+    ∷ rowChecks n k rs)
 
+unfoldable pub methodChecks : ℕ → ℕ → ℕ → List Row → Bool → List Check
+methodChecks n k w rs short = methodChecked n k w rs short ++ (passingCheck n w rs ∷ [])
+
+-- the lent room: n numbers for each matrix, and 512 rows
 unfoldable pub rowMethodVerdict : ℕ → ℕ → ℕ → List Row → ℕ → ℕ → ℕ → Answer
 rowMethodVerdict n k w rs roomT roomSigma roomRows =
     verdict (methodChecks n k w rs (ltb roomT n || (ltb roomSigma n || ltb roomRows smallerRows)))
@@ -92,16 +99,14 @@ rowMethod n k w rs roomT roomSigma roomRows =
     withRows (rowMethodVerdict n k w rs roomT roomSigma roomRows)
     (measure (ofRows rs) n) (measure (smallerOf (ofRows rs) n w) n) (length (smallerList n w rs))
 
--- ---- filling a table from rows: 1, 2, 4 (up to 512 rows), 5, 6, 7
+-- ---- filling a table from rows: 1, 2, 4 (up to 512 rows), 5, and its rows
 
 unfoldable pub fillVerdict : ℕ → ℕ → List Row → ℕ → Answer
 fillVerdict n k rs room =
     verdict (sizeChecks tableInputs n k (
     countCheck smallerRows rs
     ∷ check (ltb room (2 ^ n)) 5 0 0
-    ∷ badRowCheck n k rs
-    ∷ shareCheck n rs
-    ∷ []))
+    ∷ rowChecks n k rs))
 
 unfoldable pub filled : ℕ → List Row → List ℕ
 filled n rs = tab (2 ^ n) (ofRows rs)

@@ -36,6 +36,10 @@ verdict (c ∷ cs) = cond (c .holds) (answer (c .number) (c .a) (c .b)) (verdict
 abbrev pub answered : Answer → Bool
 answered v = eqb (v .number) 0
 
+-- an answer after an earlier one: a refusal stays, and after 0 the next counts
+abbrev pub andThen : Answer → Answer → Answer
+andThen v u = cond (answered v) u v
+
 -- a value, measure or count that goes with an answer: 0 with a refusal
 abbrev pub carried : Answer → ℕ → ℕ
 carried v x = cond (answered v) x 0

@@ -15,38 +15,38 @@ use Rattle.block.specs.Basis.{before, better, best}
 use Rattle.choice.specs.Order.{Strict, before-true}
 
 -- b is the choice among the numbers below m: it passes, and stands before every other that passes
-pub record Choice (ahead : ℕ → ℕ → Bool) (ok : ℕ → Bool) (m b : ℕ) : Type 0 where
+pub record Choice (order : ℕ → ℕ → Bool) (ok : ℕ → Bool) (m b : ℕ) : Type 0 where
   pub below : b < m
   pub passes : ok b ≡ true
-  pub leads : (t : ℕ) → t < m → ok t ≡ true → (t ≡ b → ⊥) → ahead b t ≡ true
+  pub leads : (t : ℕ) → t < m → ok t ≡ true → (t ≡ b → ⊥) → order b t ≡ true
 
-module _ (ahead : ℕ → ℕ → Bool) (ok : ℕ → Bool) where
+module _ (order : ℕ → ℕ → Bool) (ok : ℕ → Bool) where
   -- ---- the better of two
 
   -- a number that does not pass is not taken
-  pub better-no : (b t : ℕ) → ok t ≡ false → better ahead ok b t ≡ b
+  pub better-no : (b t : ℕ) → ok t ≡ false → better order ok b t ≡ b
   unfolding better
   better-no b t h = rw h
 
   -- the first that passes is taken
-  pub better-none : (b t : ℕ) → ok t ≡ true → b ≡ 0 → better ahead ok b t ≡ t
+  pub better-none : (b t : ℕ) → ok t ≡ true → b ≡ 0 → better order ok b t ≡ t
   unfolding better
   better-none b t h e = rw (h, eq-eqb b 0 e)
 
   -- one that passes and stands before the best so far is taken
-  pub better-yes : (b t : ℕ) → ok t ≡ true → ahead t b ≡ true → better ahead ok b t ≡ t
+  pub better-yes : (b t : ℕ) → ok t ≡ true → order t b ≡ true → better order ok b t ≡ t
   unfolding better
   better-yes b t h e = rw (h, e, or-true)
 
   -- the best so far stays where the other does not stand before it
-  pub better-keep : (b t : ℕ) → (b ≡ 0 → ⊥) → ahead t b ≡ false → better ahead ok b t ≡ b
+  pub better-keep : (b t : ℕ) → (b ≡ 0 → ⊥) → order t b ≡ false → better order ok b t ≡ b
   unfolding better
   better-keep b t n e = rw (ne-eqb b 0 n, e, and-false)
 
   -- ---- the search
 
   -- one number more
-  pub best-more : (m : ℕ) → best ahead ok (m + 1) ≡ better ahead ok (best ahead ok m) m
+  pub best-more : (m : ℕ) → best order ok (m + 1) ≡ better order ok (best order ok m) m
   unfolding best
   best-more m = rw add-one
 
@@ -55,22 +55,22 @@ module _ (ahead : ℕ → ℕ → Bool) (ok : ℕ → Bool) where
   better-of b t false = inr refl
 
   -- what is found lies below any bound of the search that is not 0
-  pub best-lt : (m k : ℕ) → m ≤ k → 0 < k → best ahead ok m < k
+  pub best-lt : (m k : ℕ) → m ≤ k → 0 < k → best order ok m < k
   unfolding best better
   best-lt zero k h l = l
   best-lt (suc m) k h l =
       ⊎-elim (λ e. rw e (omega arith)) (λ e. rw e (best-lt m k (omega arith) l))
-      (better-of (best ahead ok m) m (ok m && (eqb (best ahead ok m) 0 || ahead m (best ahead ok m))))
+      (better-of (best order ok m) m (ok m && (eqb (best order ok m) 0 || order m (best order ok m))))
 
   -- and passes, where it is not 0
-  pub best-passes : (m : ℕ) → (best ahead ok m ≡ 0 → ⊥) → ok (best ahead ok m) ≡ true
+  pub best-passes : (m : ℕ) → (best order ok m ≡ 0 → ⊥) → ok (best order ok m) ≡ true
   unfolding best better
   best-passes zero n = absurd (n refl)
   best-passes (suc m) n =
-      go (λ k. best-passes m k) (ok m) (eqb (best ahead ok m) 0 || ahead m (best ahead ok m)) refl n
+      go (λ k. best-passes m k) (ok m) (eqb (best order ok m) 0 || order m (best order ok m)) refl n
     where
-      go : ((best ahead ok m ≡ 0 → ⊥) → ok (best ahead ok m) ≡ true) → (x y : Bool) → ok m ≡ x
-          → (cond (x && y) m (best ahead ok m) ≡ 0 → ⊥) → ok (cond (x && y) m (best ahead ok m)) ≡ true
+      go : ((best order ok m ≡ 0 → ⊥) → ok (best order ok m) ≡ true) → (x y : Bool) → ok m ≡ x
+          → (cond (x && y) m (best order ok m) ≡ 0 → ⊥) → ok (cond (x && y) m (best order ok m)) ≡ true
       go ih true true e k = e
       go ih true false e k = ih k
       go ih false y e k = ih k
@@ -82,14 +82,14 @@ module _ (ahead : ℕ → ℕ → Bool) (ok : ℕ → Bool) where
   NonePass m = (t : ℕ) → t < m → ok t ≡ false
 
   -- the choice among one number more
-  extend : (m b : ℕ) → b < suc m → ok b ≡ true → ((t : ℕ) → t < m → ok t ≡ true → (t ≡ b → ⊥) → ahead b t ≡ true)
-      → (ok m ≡ true → (m ≡ b → ⊥) → ahead b m ≡ true) → Choice ahead ok (suc m) b
+  extend : (m b : ℕ) → b < suc m → ok b ≡ true → ((t : ℕ) → t < m → ok t ≡ true → (t ≡ b → ⊥) → order b t ≡ true)
+      → (ok m ≡ true → (m ≡ b → ⊥) → order b m ≡ true) → Choice order ok (suc m) b
   extend m b l p f g =
-      record { below = l; passes = p; leads = below-suc (λ t. ok t ≡ true → (t ≡ b → ⊥) → ahead b t ≡ true) m f g }
+      record { below = l; passes = p; leads = below-suc (λ t. ok t ≡ true → (t ≡ b → ⊥) → order b t ≡ true) m f g }
 
-  module _ (s : Strict ahead) where
+  module _ (s : Strict order) where
     -- there is at most one choice
-    pub choice-unique : (m a b : ℕ) → Choice ahead ok m a → Choice ahead ok m b → a ≡ b
+    pub choice-unique : (m a b : ℕ) → Choice order ok m a → Choice order ok m b → a ≡ b
     choice-unique m a b p q = go (ℕ-discrete a b)
       where
         go : Dec (a ≡ b) → a ≡ b
@@ -100,16 +100,16 @@ module _ (ahead : ℕ → ℕ → Bool) (ok : ℕ → Bool) where
             (sym (s .asymmetric a b (p .leads b (q .below) (q .passes) (λ e. n (sym e)))) ∙ q .leads a (p .below) (p .passes) n))
 
     -- what the search finds is the choice, or 0 where no number passes
-    pub best-either : ok 0 ≡ false → (m : ℕ) → (NonePass m × (best ahead ok m ≡ 0)) ⊎ Choice ahead ok m (best ahead ok m)
+    pub best-either : ok 0 ≡ false → (m : ℕ) → (NonePass m × (best order ok m ≡ 0)) ⊎ Choice order ok m (best order ok m)
     unfolding best
     best-either z zero = inl ((λ t h. absurd (omega arith)), refl)
     best-either z (suc m) = go (best-either z m) (ok m) refl
       where
         b : ℕ
-        b = best ahead ok m
+        b = best order ok m
 
-        go : (NonePass m × (b ≡ 0)) ⊎ Choice ahead ok m b → (x : Bool) → ok m ≡ x
-            → (NonePass (suc m) × (better ahead ok b m ≡ 0)) ⊎ Choice ahead ok (suc m) (better ahead ok b m)
+        go : (NonePass m × (b ≡ 0)) ⊎ Choice order ok m b → (x : Bool) → ok m ≡ x
+            → (NonePass (suc m) × (better order ok b m ≡ 0)) ⊎ Choice order ok (suc m) (better order ok b m)
         go (inl h) false e = inl (below-suc (λ t. ok t ≡ false) m (h .0) e, better-no b m e ∙ h .1)
         go (inl h) true e =
             inr
@@ -119,13 +119,13 @@ module _ (ahead : ℕ → ℕ → Bool) (ok : ℕ → Bool) where
             inr
             (rw (better-no b m e)
             (extend m b (omega (arith, c .below)) (c .passes) (c .leads) (λ q n. absurd (false≢true (sym e ∙ q)))))
-        go (inr c) true e = inr (pass (ahead m b) refl)
+        go (inr c) true e = inr (pass (order m b) refl)
           where
-            leads : ahead m b ≡ true → (t : ℕ) → t < m → ok t ≡ true → Dec (t ≡ b) → ahead m t ≡ true
+            leads : order m b ≡ true → (t : ℕ) → t < m → ok t ≡ true → Dec (t ≡ b) → order m t ≡ true
             leads a t l q (yes d) = rw d a
             leads a t l q (no n) = s .transitive m b t a (c .leads t l q n)
 
-            pass : (y : Bool) → ahead m b ≡ y → Choice ahead ok (suc m) (better ahead ok b m)
+            pass : (y : Bool) → order m b ≡ y → Choice order ok (suc m) (better order ok b m)
             pass true a =
                 rw (better-yes b m e a)
                 (extend m m (omega arith) e (λ t l q n. leads a t l q (ℕ-discrete t b)) (λ q n. absurd (n refl)))
@@ -134,36 +134,36 @@ module _ (ahead : ℕ → ℕ → Bool) (ok : ℕ → Bool) where
                 (extend m b (omega (arith, c .below)) (c .passes) (c .leads) (λ q n. s .total m b n a))
 
     -- where some number passes, what the search finds is the choice
-    pub best-choice : ok 0 ≡ false → (m t : ℕ) → t < m → ok t ≡ true → Choice ahead ok m (best ahead ok m)
+    pub best-choice : ok 0 ≡ false → (m t : ℕ) → t < m → ok t ≡ true → Choice order ok m (best order ok m)
     best-choice z m t l h = ⊎-elim (λ n. absurd (false≢true (sym (n .0 t l) ∙ h))) (λ c. c) (best-either z m)
 
 -- ---- what the search depends on
 
 -- the better of two depends on their order alone, and on that only where both may be taken
-better-agree : (ahead early : ℕ → ℕ → Bool) (ok : ℕ → Bool) (b t : ℕ)
-    → (ok t ≡ true → (b ≡ 0 → ⊥) → ahead t b ≡ early t b) → better ahead ok b t ≡ better early ok b t
+better-agree : (order early : ℕ → ℕ → Bool) (ok : ℕ → Bool) (b t : ℕ)
+    → (ok t ≡ true → (b ≡ 0 → ⊥) → order t b ≡ early t b) → better order ok b t ≡ better early ok b t
 unfolding better
-better-agree ahead early ok b t h = go (ok t) (eqb b 0) refl refl
+better-agree order early ok b t h = go (ok t) (eqb b 0) refl refl
   where
-    go : (x y : Bool) → ok t ≡ x → eqb b 0 ≡ y → cond (x && (y || ahead t b)) t b ≡ cond (x && (y || early t b)) t b
+    go : (x y : Bool) → ok t ≡ x → eqb b 0 ≡ y → cond (x && (y || order t b)) t b ≡ cond (x && (y || early t b)) t b
     go true true e d = refl
     go true false e d = ap (λ (z : Bool). cond z t b) (h e (eqb-false b 0 d))
     go false y e d = refl
 
 -- the test below m
-pub best-cong : (ahead : ℕ → ℕ → Bool) (p q : ℕ → Bool) (m : ℕ) → ((t : ℕ) → t < m → p t ≡ q t) → best ahead p m ≡ best ahead q m
+pub best-cong : (order : ℕ → ℕ → Bool) (p q : ℕ → Bool) (m : ℕ) → ((t : ℕ) → t < m → p t ≡ q t) → best order p m ≡ best order q m
 unfolding best better
-best-cong ahead p q zero h = refl
-best-cong ahead p q (suc m) h = rw (best-cong ahead p q m (λ t l. h t (omega arith)), h m (omega arith))
+best-cong order p q zero h = refl
+best-cong order p q (suc m) h = rw (best-cong order p q m (λ t l. h t (omega arith)), h m (omega arith))
 
 -- the order among the numbers below m that pass: it is asked of no others
-pub best-agree : (ahead early : ℕ → ℕ → Bool) (ok : ℕ → Bool) (m : ℕ)
-    → ((a b : ℕ) → a < m → b < m → ok a ≡ true → ok b ≡ true → ahead a b ≡ early a b) → best ahead ok m ≡ best early ok m
+pub best-agree : (order early : ℕ → ℕ → Bool) (ok : ℕ → Bool) (m : ℕ)
+    → ((a b : ℕ) → a < m → b < m → ok a ≡ true → ok b ≡ true → order a b ≡ early a b) → best order ok m ≡ best early ok m
 unfolding best
-best-agree ahead early ok zero h = refl
-best-agree ahead early ok (suc m) h =
-    rw (best-agree ahead early ok m (λ a b l k p q. h a b (omega arith) (omega arith) p q))
-    (better-agree ahead early ok (best early ok m) m
+best-agree order early ok zero h = refl
+best-agree order early ok (suc m) h =
+    rw (best-agree order early ok m (λ a b l k p q. h a b (omega arith) (omega arith) p q))
+    (better-agree order early ok (best early ok m) m
     (λ p n. h m (best early ok m) (omega arith) (best-lt early ok m (suc m) (omega arith) (omega arith)) p (best-passes early ok m n)))
 
 -- ---- the choice by R

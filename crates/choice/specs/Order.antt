@@ -1,85 +1,118 @@
--- What makes a test on two numbers a strict total order, what the order of candidates says, and that it is such an order. Not here:
+-- What makes a test on two numbers a strict total order; orders by keys; and that the order of candidates is such an order. Not here:
 -- the choice under an order (`Choice`). Assumes nothing.
-use mathlib.Core.Path.{_≡_, sym, _∙_}
-use mathlib.Core.Bool.{Bool, true, false, false≢true}
+use mathlib.Core.Path.{_≡_, refl, sym, ap, _∙_}
+use mathlib.Core.Bool.{Bool, true, false, _&&_, _||_}
 use Prim.Native.Nat.{ℕ, _≤_, _<_}
-use native.Mathlib.Decide.{decLt}
+use native.Mathlib.Decide.{ℕ-discrete}
 use native.Mathlib.Omega.{arith}
 use borrow.Author.Tests.{eq-eqb, ne-eqb, lt-ltb, le-ltb, ltb-true, ltb-false}
-use lib.Dec.{ltb}
+use lib.Dec.{eqb, ltb}
 use Rattle.block.specs.Basis.{before}
 
--- `ahead a b` says that a stands before b: never both ways, passed on, and one way or the other for different numbers
-pub record Strict (ahead : ℕ → ℕ → Bool) : Type 0 where
-  pub asymmetric : (a b : ℕ) → ahead a b ≡ true → ahead b a ≡ false
-  pub transitive : (a b c : ℕ) → ahead a b ≡ true → ahead b c ≡ true → ahead a c ≡ true
-  pub total : (a b : ℕ) → (a ≡ b → ⊥) → ahead a b ≡ false → ahead b a ≡ true
+-- `order a b` says that a stands before b: never both ways, passed on, and one way or the other for different numbers
+pub record Strict (order : ℕ → ℕ → Bool) : Type 0 where
+  pub asymmetric : (a b : ℕ) → order a b ≡ true → order b a ≡ false
+  pub transitive : (a b c : ℕ) → order a b ≡ true → order b c ≡ true → order a c ≡ true
+  pub total : (a b : ℕ) → (a ≡ b → ⊥) → order a b ≡ false → order b a ≡ true
 
--- ---- the order of candidates, by R and then by the number
+-- nothing stands before itself
+strict-self : (order : ℕ → ℕ → Bool) → Strict order → (a : ℕ) → order a a ≡ false
+strict-self order s a = go (order a a) refl
+  where
+    go : (x : Bool) → order a a ≡ x → order a a ≡ false
+    go true e = s .asymmetric a a e
+    go false e = e
 
--- a greater R stands before
-pub before-greater : (r : ℕ → ℕ) (a b : ℕ) → r b < r a → before r a b ≡ true
+-- the smaller number first
+ltb-strict : Strict ltb
+ltb-strict =
+    record {
+      asymmetric = λ a b h. le-ltb b a (omega (arith, ltb-true a b h));
+      transitive = λ a b c h k. lt-ltb a c (omega (arith, ltb-true a b h, ltb-true b c k));
+      total = λ a b n h. lt-ltb b a (omega (arith, ltb-false a b h));
+    }
+
+-- the greater number first
+abbrev more : ℕ → ℕ → Bool
+more a b = ltb b a
+
+more-strict : Strict more
+more-strict =
+    record {
+      asymmetric = λ a b h. ltb-strict .asymmetric b a h;
+      transitive = λ a b c h k. ltb-strict .transitive c b a k h;
+      total = λ a b n h. ltb-strict .total b a (λ e. n (sym e)) h;
+    }
+
+-- ---- orders by keys
+
+-- a stands before b where its key does; among equal keys as `order` has it
+abbrev byKey : (ℕ → ℕ → Bool) → (ℕ → ℕ) → (ℕ → ℕ → Bool) → ℕ → ℕ → Bool
+byKey less key order a b = less (key a) (key b) || (eqb (key a) (key b) && order a b)
+
+module _ (less : ℕ → ℕ → Bool) (sl : Strict less) (key : ℕ → ℕ) (order : ℕ → ℕ → Bool) where
+  -- keys decide where they differ
+  key-differs : (a b : ℕ) → (key a ≡ key b → ⊥) → byKey less key order a b ≡ less (key a) (key b)
+  key-differs a b n = rw (ne-eqb (key a) (key b) n) (or-none (less (key a) (key b)))
+    where
+      or-none : (x : Bool) → x || false ≡ x
+      or-none true = refl
+      or-none false = refl
+
+  -- and else the other order
+  key-equal : (a b : ℕ) → key a ≡ key b → byKey less key order a b ≡ order a b
+  key-equal a b e = rw (e, strict-self less sl (key b), eq-eqb (key b) (key b) refl)
+
+  -- a key that stands before is enough
+  key-first : (a b : ℕ) → less (key a) (key b) ≡ true → byKey less key order a b ≡ true
+  key-first a b h = rw h
+
+  -- an order by a key is strict and total
+  key-strict : Strict order → Strict (byKey less key order)
+  key-strict s = record { asymmetric = asymmetric; transitive = transitive; total = total }
+    where
+      asymmetric : (a b : ℕ) → byKey less key order a b ≡ true → byKey less key order b a ≡ false
+      asymmetric a b h = go (ℕ-discrete (key a) (key b))
+        where
+          go : Dec (key a ≡ key b) → byKey less key order b a ≡ false
+          go (yes e) = key-equal b a (sym e) ∙ s .asymmetric a b (sym (key-equal a b e) ∙ h)
+          go (no n) = key-differs b a (λ e. n (sym e)) ∙ sl .asymmetric (key a) (key b) (sym (key-differs a b n) ∙ h)
+
+      total : (a b : ℕ) → (a ≡ b → ⊥) → byKey less key order a b ≡ false → byKey less key order b a ≡ true
+      total a b m h = go (ℕ-discrete (key a) (key b))
+        where
+          go : Dec (key a ≡ key b) → byKey less key order b a ≡ true
+          go (yes e) = key-equal b a (sym e) ∙ s .total a b m (sym (key-equal a b e) ∙ h)
+          go (no n) = key-differs b a (λ e. n (sym e)) ∙ sl .total (key a) (key b) n (sym (key-differs a b n) ∙ h)
+
+      transitive : (a b c : ℕ) → byKey less key order a b ≡ true → byKey less key order b c ≡ true → byKey less key order a c ≡ true
+      transitive a b c h k = go (ℕ-discrete (key a) (key b)) (ℕ-discrete (key b) (key c))
+        where
+          go : Dec (key a ≡ key b) → Dec (key b ≡ key c) → byKey less key order a c ≡ true
+          go (yes e) (yes d) =
+              key-equal a c (e ∙ d) ∙ s .transitive a b c (sym (key-equal a b e) ∙ h) (sym (key-equal b c d) ∙ k)
+          go (yes e) (no n) = key-first a c (ap (λ (x : ℕ). less x (key c)) e ∙ sym (key-differs b c n) ∙ k)
+          go (no n) (yes d) = key-first a c (ap (less (key a)) (sym d) ∙ sym (key-differs a b n) ∙ h)
+          go (no n) (no m) = key-first a c (sl .transitive (key a) (key b) (key c) (sym (key-differs a b n) ∙ h) (sym (key-differs b c m) ∙ k))
+
+  -- what it says that a stands before b: the other key does not, and among equal keys the other order has it so
+  key-true : (a b : ℕ) → byKey less key order a b ≡ true → (less (key b) (key a) ≡ false) × (key a ≡ key b → order a b ≡ true)
+  key-true a b h = go (ℕ-discrete (key a) (key b))
+    where
+      go : Dec (key a ≡ key b) → (less (key b) (key a) ≡ false) × (key a ≡ key b → order a b ≡ true)
+      go (yes e) = (rw e (strict-self less sl (key b)), λ d. sym (key-equal a b d) ∙ h)
+      go (no n) = (sl .asymmetric (key a) (key b) (sym (key-differs a b n) ∙ h), λ d. absurd (n d))
+
+-- ---- the order of candidates: R is the key, the greater first, and then the smaller number
+
+-- it is a strict total order, for every R
+pub before-strict : (r : ℕ → ℕ) → Strict (before r)
 unfolding before
-before-greater r a b h = rw (lt-ltb (r b) (r a) h)
-
--- a smaller R does not
-pub before-less : (r : ℕ → ℕ) (a b : ℕ) → r a < r b → before r a b ≡ false
-unfolding before
-before-less r a b h = rw (le-ltb (r b) (r a) (omega arith), ne-eqb (r a) (r b) (λ e. omega arith))
-
--- at equal R the smaller number stands before
-pub before-equal : (r : ℕ → ℕ) (a b : ℕ) → r a ≡ r b → before r a b ≡ ltb a b
-unfolding before
-before-equal r a b h = rw (le-ltb (r b) (r a) (omega arith), eq-eqb (r a) (r b) h)
+before-strict r = key-strict more more-strict r ltb ltb-strict
 
 -- what it says that a stands before b: the R of a is no smaller, and at equal R the number a is smaller
 pub before-true : (r : ℕ → ℕ) (a b : ℕ) → before r a b ≡ true → (r b ≤ r a) × (r a ≡ r b → a < b)
-before-true r a b h = go (decLt (r b) (r a)) (decLt (r a) (r b))
-  where
-    go : Dec (r b < r a) → Dec (r a < r b) → (r b ≤ r a) × (r a ≡ r b → a < b)
-    go (yes g) d = (omega arith, λ e. absurd (omega arith))
-    go (no g) (yes l) = absurd (false≢true (sym (before-less r a b l) ∙ h))
-    go (no g) (no l) = (omega arith, λ e. ltb-true a b (sym (before-equal r a b e) ∙ h))
-
--- what it says that a does not
-pub before-false : (r : ℕ → ℕ) (a b : ℕ) → before r a b ≡ false → (r a ≤ r b) × (r a ≡ r b → b ≤ a)
-before-false r a b h = go (decLt (r b) (r a)) (decLt (r a) (r b))
-  where
-    go : Dec (r b < r a) → Dec (r a < r b) → (r a ≤ r b) × (r a ≡ r b → b ≤ a)
-    go (yes g) d = absurd (false≢true (sym h ∙ before-greater r a b g))
-    go (no g) (yes l) = (omega arith, λ e. absurd (omega arith))
-    go (no g) (no l) = (omega arith, λ e. ltb-false a b (sym (before-equal r a b e) ∙ h))
-
--- the order of candidates is a strict total order, for every R
-pub before-strict : (r : ℕ → ℕ) → Strict (before r)
-before-strict r = record { asymmetric = asymmetric; transitive = transitive; total = total }
-  where
-    asymmetric : (a b : ℕ) → before r a b ≡ true → before r b a ≡ false
-    asymmetric a b h = go (before-true r a b h) (decLt (r b) (r a))
-      where
-        go : (r b ≤ r a) × (r a ≡ r b → a < b) → Dec (r b < r a) → before r b a ≡ false
-        go t (yes g) = before-less r b a g
-        go t (no n) =
-            let e : r a ≡ r b = omega (arith, t .0) in
-            before-equal r b a (sym e) ∙ le-ltb b a (omega (arith, t .1 e))
-
-    transitive : (a b c : ℕ) → before r a b ≡ true → before r b c ≡ true → before r a c ≡ true
-    transitive a b c h k = go (before-true r a b h) (before-true r b c k) (decLt (r c) (r a))
-      where
-        go : (r b ≤ r a) × (r a ≡ r b → a < b) → (r c ≤ r b) × (r b ≡ r c → b < c) → Dec (r c < r a) → before r a c ≡ true
-        go t u (yes g) = before-greater r a c g
-        go t u (no n) =
-            before-equal r a c (omega (arith, t .0, u .0))
-            ∙ lt-ltb a c (omega (arith, t .1 (omega (arith, t .0, u .0)), u .1 (omega (arith, t .0, u .0))))
-
-    total : (a b : ℕ) → (a ≡ b → ⊥) → before r a b ≡ false → before r b a ≡ true
-    total a b n h = go (before-false r a b h) (decLt (r a) (r b))
-      where
-        less : b ≤ a → b < a
-        less l = omega arith
-
-        go : (r a ≤ r b) × (r a ≡ r b → b ≤ a) → Dec (r a < r b) → before r b a ≡ true
-        go t (yes g) = before-greater r b a g
-        go t (no m) =
-            let e : r a ≡ r b = omega (arith, t .0) in
-            before-equal r b a (sym e) ∙ lt-ltb b a (less (t .1 e))
+unfolding before
+before-true r a b h =
+    let t = key-true more more-strict r ltb a b h in
+    (ltb-false (r a) (r b) (t .0), λ e. ltb-true a b (t .1 e))

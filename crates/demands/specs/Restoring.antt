@@ -9,9 +9,8 @@ use borrow.Author.Tests.{lt-ltb, le-ltb, eq-eqb}
 use lib.Dec.{eqb, ltb}
 use lib.ListN.{length, getD}
 use lib.Seq.{ext-getD}
-use Rattle.slices.specs.Places.{at, tab, first}
+use Rattle.slices.specs.Places.{at, tab}
 use Rattle.slices.specs.Filled.{tab-at, length-tab, getD-any}
-use Rattle.slices.specs.Least.{first-is}
 use Rattle.block.specs.Words.{none, ofTable}
 use Rattle.block.specs.Basis.{columns, apply, basisOf, sigmaOf}
 use Rattle.block.specs.Refusals.{Check, check, verdict, answer, badEntry, badNumber, malformed}
@@ -19,13 +18,9 @@ use Rattle.block.specs.Tables.{tableMethodVerdict, smallerTable, restoreVerdict
 use Rattle.matrix.specs.Linear.{columns-lt}
 use Rattle.matrix.specs.Candidate.{basis-independent}
 use Rattle.table_checks.specs.Passed.{MethodPassed, method-passed, method-sizes, method-entries}
-use Rattle.verdicts.specs.Verdicts.{verdict-miss, verdict-none}
+use Rattle.verdicts.specs.Verdicts.{verdict-miss, verdict-none, none-passes}
 use Rattle.demands.specs.Matrix.{sigma-length, sigma-lt, sigma-independent}
 use Rattle.demands.specs.Blocks.{smaller-at, smaller-length, block-at}
-
--- a list with no bad entry passes its check of 6
-pub not-malformed : (a : ℕ) (bad : ℕ → Bool) (l : List ℕ) → ((i : ℕ) → i < length l → bad (at l i) ≡ false) → malformed a bad l .holds ≡ false
-not-malformed a bad l h = le-ltb _ (length l) (rw (first-is (length l) (λ i. bad (at l i)) (length l) (omega arith) h (λ b. absurd (omega arith))) (omega arith))
 
 -- going back from sigma and the smaller table of any table gives the table
 pub restored-same : (n w : ℕ) (table : List ℕ) → 1 ≤ w → length table ≡ 2 ^ n
@@ -58,9 +53,9 @@ restoring-answers n k w table roomT roomSigma roomTable room h r =
           ∙ verdict-miss _ _ (rw (eq-eqb (length (sigmaOf f n w)) n (sigma-length f n w (p .least)), eq-eqb (length (smallerTable f n w)) (2 ^ n) (smaller-length f n w)))
           ∙ verdict-miss _ _ (le-ltb room (2 ^ n) r)
           ∙ verdict-miss _ _
-          (not-malformed 1 (badNumber n) (sigmaOf f n w)
+          (none-passes (length (sigmaOf f n w)) (λ j. badNumber n (at (sigmaOf f n w) j))
           (λ j b. ap not (lt-ltb (at (sigmaOf f n w) j) (2 ^ n) (sigma-lt f n w (p .least) j (rw (sigma-length f n w (p .least)) at b)))))
-          ∙ verdict-miss _ _ (not-malformed 0 (badEntry k) (smallerTable f n w) entry)
+          ∙ verdict-miss _ _ (none-passes (length (smallerTable f n w)) (λ z. badEntry k (at (smallerTable f n w) z)) entry)
           ∙ verdict-miss _ _ (le-ltb _ n (rw (sigma-independent f n w (p .least)) (omega arith)))
           ∙ verdict-none,
       restored-same n w table (p .least) (p .entries),

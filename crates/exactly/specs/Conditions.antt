@@ -3,7 +3,7 @@
 -- passes 512 rows (9). Not here: the form of a line (`Forms`). Assumes nothing.
 use mathlib.Core.Path.{_≡_, refl, sym, ap, ap₂, _∙_}
 use mathlib.Core.Bool.{Bool, true, false, not, _&&_, _||_, false≢true}
-use mathlib.Core.List.{List}
+use mathlib.Core.List.{List, _∷_}
 use mathlib.Core.Logic.{_⊎_, _↔_, inl, inr}
 use Prim.Native.Nat.{ℕ, zero, suc, _^_, _≤_, _<_, min}
 use native.Mathlib.Decide.{decLt, ℕ-discrete}
@@ -20,13 +20,14 @@ use Rattle.bits.specs.Xor.{xor-cancel, xor-cancel-r}
 use Rattle.bits.specs.Bit.{bit-lt, bit-and, bit-none, bit-ext}
 use Rattle.slices.specs.Places.{at, first}
 use Rattle.slices.specs.Least.{first-is, first-below, first-passes, first-found}
+use Rattle.block.specs.Limits.{outputs, smallerRows}
 use Rattle.block.specs.Words.{none, under}
 use Rattle.block.specs.Basis.{span, columns}
-use Rattle.block.specs.Refusals.{check, outside, some, badEntry, badNumber, badRow, malformed, rowAt, share, second, sharing, dependent}
-use Rattle.block.specs.Lists.{badRowCheck, shareCheck, rowsAfter, passing}
+use Rattle.block.specs.Refusals.{Check, check, outside, sizeChecks, some, badEntry, badNumber, badRow, malformed, rowAt, share, second, sharing, dependent}
+use Rattle.block.specs.Lists.{badRowCheck, shareCheck, rowsAfter, passing, passingCheck}
 use Rattle.block.specs.declared.Row.{Row}
 use Rattle.matrix.specs.Linear.{columns-none, columns-more, columns-xor, columns-unit}
-use Rattle.exactly.specs.General.{placed, plain, Decides}
+use Rattle.exactly.specs.General.{Reason, placed, plain, Decides, Decided, _also_}
 
 -- ---- tests and what they say
 
@@ -86,6 +87,17 @@ OutOfRange lo hi x = (x < lo) ⊎ (hi < x)
 
 pub outside-says : (lo hi x : ℕ) → Says (outside lo hi x) (OutOfRange lo hi x)
 outside-says lo hi x = or-says (lt-says x lo) (lt-says hi x)
+
+pub range-decided : (m lo hi x : ℕ) → (m ≡ 0 → ⊥) → Decides (check (outside lo hi x) m 0 0) (plain m (OutOfRange lo hi x))
+range-decided m lo hi x h = plain-decided m h (outside-says lo hi x)
+
+-- 1 and 2, with which every operation begins
+abbrev pub sizeReasons : ℕ → ℕ → ℕ → List Reason → List Reason
+sizeReasons most n k rs = plain 1 (OutOfRange 1 most n) ∷ plain 2 (OutOfRange 1 outputs k) ∷ rs
+
+pub sizes-decided : {cs : List Check} {rs : List Reason} (most n k : ℕ) → Decided cs rs → Decided (sizeChecks most n k cs) (sizeReasons most n k rs)
+sizes-decided most n k d =
+    range-decided 1 1 most n (λ e. omega arith) also range-decided 2 1 outputs k (λ e. omega arith) also d
 
 -- ---- the least number below m with P
 
@@ -376,24 +388,24 @@ dependent-decided n s =
 -- a, from 1, is the first step after which there are more than 512 rows
 pub record FirstPassing (n w : ℕ) (rs : List Row) (a : ℕ) : Type 0 where
   pub step : (1 ≤ a) × (a ≤ n)
-  pub passes : 512 < length (rowsAfter n w a rs)
-  pub before : (j : ℕ) → 1 ≤ j → j < a → length (rowsAfter n w j rs) ≤ 512
+  pub passes : smallerRows < length (rowsAfter n w a rs)
+  pub before : (j : ℕ) → 1 ≤ j → j < a → length (rowsAfter n w j rs) ≤ smallerRows
 
 module _ (n w : ℕ) (rs : List Row) where
   -- there are more than 512 rows after step i + 1
   abbrev MoreAfter : ℕ → Type 0
-  MoreAfter i = 512 < length (rowsAfter n w (suc i) rs)
+  MoreAfter i = smallerRows < length (rowsAfter n w (suc i) rs)
 
   passing-least : passing n w rs < n → Least n MoreAfter (passing n w rs)
   unfolding passing
-  passing-least = first-least n _ MoreAfter (λ i b. lt-says 512 (length (rowsAfter n w (suc i) rs)))
+  passing-least = first-least n _ MoreAfter (λ i b. lt-says smallerRows (length (rowsAfter n w (suc i) rs)))
 
   least-passing : (i : ℕ) → Least n MoreAfter i → (passing n w rs < n) × (passing n w rs ≡ i)
   unfolding passing
-  least-passing = least-first n _ MoreAfter (λ i b. lt-says 512 (length (rowsAfter n w (suc i) rs)))
+  least-passing = least-first n _ MoreAfter (λ i b. lt-says smallerRows (length (rowsAfter n w (suc i) rs)))
 
   pub passing-decided :
-      Decides (check (ltb (passing n w rs) n) 9 (suc (passing n w rs)) 0) (placed 9 (λ a b. FirstPassing n w rs a × (b ≡ 0)))
+      Decides (passingCheck n w rs) (placed 9 (λ a b. FirstPassing n w rs a × (b ≡ 0)))
   passing-decided = record { same = refl; refuses = λ e. omega arith; sound = λ e. (sound (ltb-true _ _ e), refl); only = only }
     where
       sound : passing n w rs < n → FirstPassing n w rs (suc (passing n w rs))
@@ -402,11 +414,11 @@ module _ (n w : ℕ) (rs : List Row) where
           s : Least n MoreAfter (passing n w rs)
           s = passing-least l
 
-          before : (j : ℕ) → 1 ≤ j → j < suc (passing n w rs) → length (rowsAfter n w j rs) ≤ 512
+          before : (j : ℕ) → 1 ≤ j → j < suc (passing n w rs) → length (rowsAfter n w j rs) ≤ smallerRows
           before zero g h = absurd (omega arith)
           before (suc j) g h = few (s .earlier j (omega arith))
             where
-              few : (512 < length (rowsAfter n w (suc j) rs) → ⊥) → length (rowsAfter n w (suc j) rs) ≤ 512
+              few : (smallerRows < length (rowsAfter n w (suc j) rs) → ⊥) → length (rowsAfter n w (suc j) rs) ≤ smallerRows
               few no-more = omega arith
 
       only : (a b : ℕ) → FirstPassing n w rs a × (b ≡ 0) → (ltb (passing n w rs) n ≡ true) × (suc (passing n w rs) ≡ a) × (0 ≡ b)

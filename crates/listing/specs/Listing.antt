@@ -77,6 +77,16 @@ pub record Listed (most : ℕ) (masks values words : List ℕ) : Type 0 where
   pub some : 1 ≤ length masks
   pub few : length masks ≤ most
 
+-- a list of 1 to most rows lies in such slices
+pub listed-rows : (most : ℕ) (masks values words : List ℕ) → (1 ≤ length (rowsOf masks values words)) × (length (rowsOf masks values words) ≤ most)
+    → Listed most masks values words
+listed-rows most masks values words h =
+    let some : 1 ≤ length (rowsOf masks values words) = h .0 in
+    let few : length (rowsOf masks values words) ≤ most = h .1 in
+    let e = equal-lengths masks values words (omega arith) in
+    let c = rows-count masks values words (e .0) (e .1) in
+    record { values-too = e .0; words-too = e .1; some = omega arith; few = omega arith }
+
 -- a greater bound holds too
 pub listed-more : (most more : ℕ) (masks values words : List ℕ) → most ≤ more → Listed most masks values words
     → Listed more masks values words

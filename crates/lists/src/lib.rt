@@ -3,6 +3,7 @@
 // lent holds what it held. This crate holds nothing else: what the operations are made of stands in the crates below it.
 use block::Answer;
 use block::RowMethodAnswer;
+use block::SMALLER_ROWS;
 use block::ValueAnswer;
 ghost use Rattle.block.specs.Words.{rowsOf};
 ghost use Rattle.promises.specs.Lent.{lentFlat};
@@ -77,12 +78,12 @@ pub fn row_method(
         (now («smaller_masks» .exit)) (now («smaller_values» .exit)) (now («smaller_words» .exit)))
         (now (basis .entry)) (now (sigma .entry)) r (now (basis .exit)) (now (sigma .exit)) ⌝ }
 {
-    let room = row_checks::least_room(
+    let room = listing::least_room(
         smaller_masks.len(),
         smaller_values.len(),
         smaller_words.len(),
     );
-    let short = row_checks::is_short(n, basis.len(), sigma.len(), room);
+    let short = checks::is_short(n, basis.len(), sigma.len(), SMALLER_ROWS, room);
     row_work::method_rows(
         n,
         k,

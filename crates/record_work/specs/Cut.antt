@@ -2,9 +2,9 @@
 -- of its first 513 rows. So each operation answers alike for the list and for its first 513 rows; the law is one, `cut-same`, and then
 -- it is said of each operation. Assumes nothing.
 use mathlib.Core.Path.{_≡_, refl, sym, ap, _∙_}
-use mathlib.Core.Bool.{Bool, true, false, not, _||_}
+use mathlib.Core.Bool.{Bool, true, false, not, cond, _||_}
 use mathlib.Core.List.{List, [], _∷_, _++_}
-use Prim.Native.Nat.{ℕ, suc, _^_, _≤_, _<_}
+use Prim.Native.Nat.{ℕ, _^_, _≤_, _<_}
 use native.Mathlib.Decide.{decLe}
 use native.Mathlib.Omega.{arith}
 use borrow.Author.Tests.{lt-ltb, le-ltb}
@@ -17,12 +17,12 @@ use Rattle.block.specs.Measure.{shift, measure}
 use Rattle.block.specs.Basis.{smallerOf}
 use Rattle.block.specs.Refusals.{Check, check, verdict, answered, carried, stored, outside, sizeChecks}
 use Rattle.block.specs.Tables.{withValue}
-use Rattle.block.specs.Lists.{countCheck, badRowCheck, shareCheck, rowValueVerdict, rowValue, passing, methodChecks, rowMethodVerdict, rowMethod, smallerList, fillVerdict, filled}
+use Rattle.block.specs.Lists.{countCheck, badRowCheck, rowChecks, rowValueVerdict, rowValue, passingCheck, methodChecks, rowMethodVerdict, rowMethod, smallerList, fillVerdict, filled}
 use Rattle.block.specs.Text.{withBytes, writeVerdict, writeText, textOf}
 use Rattle.block.specs.Sheet.{sheet, sheetVerdict, sheetText}
 use Rattle.block.specs.declared.Row.{Row}
 use Rattle.block.specs.declared.Answer.{Answer}
-use Rattle.verdicts.specs.Verdicts.{verdict-hit, verdict-miss, Numbered}
+use Rattle.verdicts.specs.Verdicts.{verdict-hit, verdict-miss, Numbered, verdict-parts}
 
 -- what stands after a check that holds does not count
 pub past : (pre : List Check) (c : Check) (ds es : List Check) → c .holds ≡ true → verdict (pre ++ (c ∷ ds)) ≡ verdict (pre ++ (c ∷ es))
@@ -37,20 +37,18 @@ past (p ∷ pre) c ds es h = go (past pre c ds es h) (p .holds) refl
 -- with such a check there is a refusal
 refused : (pre : List Check) (c : Check) (ds : List Check) → Numbered pre → eqb (c .number) 0 ≡ false → c .holds ≡ true
     → answered (verdict (pre ++ (c ∷ ds))) ≡ false
-refused [] c ds nn n h = ap answered (verdict-hit c ds h) ∙ n
-refused (p ∷ pre) c ds nn n h = go (refused pre c ds (nn .1) n h) (p .holds) refl
+refused pre c ds nn n h = ap answered (verdict-parts pre (c ∷ ds) nn) ∙ go (answered (verdict pre)) refl
   where
-    go : answered (verdict (pre ++ (c ∷ ds))) ≡ false → (b : Bool) → p .holds ≡ b
-        → answered (verdict (p ∷ (pre ++ (c ∷ ds)))) ≡ false
-    go ih true e = ap answered (verdict-hit p (pre ++ (c ∷ ds)) e) ∙ nn .0
-    go ih false e = ap answered (verdict-miss p (pre ++ (c ∷ ds)) e) ∙ ih
+    go : (b : Bool) → answered (verdict pre) ≡ b → answered (cond b (verdict (c ∷ ds)) (verdict pre)) ≡ false
+    go true e = ap answered (verdict-hit c ds h) ∙ n
+    go false e = e
 
 too-many : (most : ℕ) (rs : List Row) → most < length rs → countCheck most rs ≡ check true 4 0 0
 too-many most rs h = rw (lt-ltb most (length rs) h, le-ltb (length rs) 1 (omega arith))
 
 -- an operation whose verdict comes of the checks `pre`, the number of rows, and checks `rest` of the rows; F is its answer, or what lent
 -- storage holds at the end, by the verdict and the rows, which do not count with a refusal
-module _ (pre : List Check) (most : ℕ) (rest : List Row → List Check) (numbered : Numbered pre) (few : most ≤ 512) where
+module _ (pre : List Check) (most : ℕ) (rest : List Row → List Check) (numbered : Numbered pre) (few : most ≤ smallerRows) where
   abbrev pub verdictOf : List Row → Answer
   verdictOf rs = verdict (pre ++ (countCheck most rs ∷ rest rs))
 
@@ -74,7 +72,7 @@ module _ (pre : List Check) (most : ℕ) (rest : List Row → List Check) (numbe
 pub value-cut : (n k t : ℕ) (rs : List Row) → rowValue n k t (take 513 rs) ≡ rowValue n k t rs
 unfolding rowValue rowValueVerdict
 value-cut n k t =
-    cut-same (sizeChecks listInputs n k (check (not (ltb t (2 ^ n))) 3 0 0 ∷ [])) givenRows (λ l. badRowCheck n k l ∷ shareCheck n l ∷ [])
+    cut-same (sizeChecks listInputs n k (check (not (ltb t (2 ^ n))) 3 0 0 ∷ [])) givenRows (rowChecks n k)
     (refl, (refl, (refl, tt))) (omega arith) (λ v l. withValue v (shift (ofRows l) n t)) (λ v l m h. rw h)
 
 -- ---- filling a table
@@ -84,7 +82,7 @@ module _ (n k room : ℕ) where
       → (rs : List Row) → F (fillVerdict n k (take 513 rs) room) (take 513 rs) ≡ F (fillVerdict n k rs room) rs
   unfolding fillVerdict
   fill-alike =
-      cut-same (sizeChecks tableInputs n k []) smallerRows (λ l. check (ltb room (2 ^ n)) 5 0 0 ∷ badRowCheck n k l ∷ shareCheck n l ∷ [])
+      cut-same (sizeChecks tableInputs n k []) smallerRows (λ l. check (ltb room (2 ^ n)) 5 0 0 ∷ rowChecks n k l)
       (refl, (refl, tt)) (omega arith)
 
   pub fill-cut : (rs : List Row) → fillVerdict n k (take 513 rs) room ≡ fillVerdict n k rs room
@@ -120,7 +118,7 @@ module _ (n k w : ℕ) (short : Bool) where
   unfolding methodChecks
   method-alike =
       cut-same (sizeChecks listInputs n k (check (outside 1 n w) 3 0 0 ∷ [])) givenRows
-      (λ l. check short 5 0 0 ∷ badRowCheck n k l ∷ shareCheck n l ∷ check (ltb (passing n w l) n) 9 (suc (passing n w l)) 0 ∷ [])
+      (λ l. check short 5 0 0 ∷ (rowChecks n k l ++ (passingCheck n w l ∷ [])))
       (refl, (refl, (refl, tt))) (omega arith)
 
 module _ (n k w a b c : ℕ) where

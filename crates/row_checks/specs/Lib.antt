@@ -1,3 +1,3 @@
--- What the checks of lists of rows are made of: the first pair, the lists of checks, and what an answer of 0 says.
-pub mod Pairs
+-- The verdicts on lists, step by step, and what an answer of 0 says where the rows lie in three flat slices.
+pub mod Steps
 pub mod Checked

@@ -1,3 +1,2 @@
--- The work of the row method, as its parts have it.
-pub mod Work
+-- The row method for any arguments: what comes back and what is left, in the verdict's own terms.
 pub mod Method

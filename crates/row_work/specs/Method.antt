@@ -2,26 +2,25 @@
 -- short; the row method and the sheet differ only in that. Assumes nothing.
 use mathlib.Core.Path.{_≡_, refl, sym, ap, _∙_, subst}
 use mathlib.Core.Bool.{Bool, true, false, cond, _||_}
-use mathlib.Core.List.{List, [], _∷_, _++_, map}
+use mathlib.Core.List.{List, [], _∷_, map}
 use Prim.Native.Nat.{ℕ, suc, _≤_, _<_}
 use native.Mathlib.Omega.{arith}
-use borrow.Author.Tests.{ltb-false}
 use lib.Dec.{ltb}
 use lib.ListN.{length}
 use Rattle.block.specs.Limits.{smallerRows}
 use Rattle.block.specs.Words.{ofRows}
 use Rattle.block.specs.Measure.{measure}
 use Rattle.block.specs.Basis.{basisOf, sigmaOf, smallerOf}
-use Rattle.block.specs.Refusals.{check, answer, verdict, stored}
-use Rattle.block.specs.Lists.{passing, methodChecks, rowMethodVerdict, withRows, rowMethod, smallerList}
+use Rattle.block.specs.Refusals.{answer, verdict, stored}
+use Rattle.block.specs.Lists.{passing, passingCheck, methodChecked, methodChecks, rowMethodVerdict, withRows, rowMethod, smallerList}
 use Rattle.block.specs.declared.Row.{Row}
 use Rattle.block.specs.declared.Answer.{Answer}
 use Rattle.block.specs.declared.RowMethodAnswer.{RowMethodAnswer}
-use Rattle.checks.specs.Sizes.{or-left, or-right}
-use Rattle.row_checks.specs.Checked.{methodChecked, method-checks, method-numbered}
+use Rattle.checks.specs.Sizes.{long-enough}
+use Rattle.answered_laws.specs.Passed.{method-numbered}
 use Rattle.verdicts.specs.Verdicts.{verdict-hit, verdict-miss, verdict-none, part-refuses, part-passes, rows-refused, kept, given}
-use Rattle.row_work.specs.Work.{Kept, Made, RowsWorked}
-use Rattle.row_work.specs.declared.RowWork.{RowWork}
+use Rattle.smaller_rows.specs.Work.{Kept, Made, RowsWorked}
+use Rattle.smaller_rows.specs.declared.RowWork.{RowWork}
 
 -- the answer, and T, sigma and the smaller rows in lent storage, by the verdict
 pub record MethodDone (n k w : ℕ) (rs : List Row) (short : Bool) (t s m v d t′ s′ m′ v′ d′ : List ℕ) (r : RowMethodAnswer) : Type 0 where
@@ -56,28 +55,28 @@ module _ (n k w : ℕ) (rs : List Row) (short : Bool) (t s m v d : List ℕ) (c 
   pub method-refused : (c .number ≡ 0 → ⊥)
       → MethodDone n k w rs short t s m v d t s m v d
       (record { number = c .number; a = c .a; b = c .b; before = 0; after = 0; count = 0 })
+  unfolding methodChecks
   method-refused h =
-      refusal c t s m v d (part-refuses c (methodChecked n k w rs short) _ e h ∙ ap verdict (sym (method-checks n k w rs short))) h
+      refusal c t s m v d (part-refuses c (methodChecked n k w rs short) (passingCheck n w rs ∷ []) e h) h
       (record { basis = refl; sigma = refl; masks = refl; values = refl; words = refl })
 
   module _ (z : c .number ≡ 0) (t′ s′ m′ v′ d′ : List ℕ) (r : RowWork) (g : RowsWorked n w rs t s m v d t′ s′ m′ v′ d′ r) where
     -- the verdict is that of 9
-    last : verdict (check (ltb (passing n w rs) n) 9 (suc (passing n w rs)) 0 ∷ []) ≡ verdict (methodChecks n k w rs short)
-    last =
-        part-passes c (methodChecked n k w rs short) _ e (method-numbered n k w rs short) z
-        ∙ ap verdict (sym (method-checks n k w rs short))
+    last : verdict (passingCheck n w rs ∷ []) ≡ verdict (methodChecks n k w rs short)
+    unfolding methodChecks
+    last = part-passes c (methodChecked n k w rs short) (passingCheck n w rs ∷ []) e (method-numbered n k w rs short) z
 
     -- 9
-    pub method-passed : (r .step ≡ 0 → ⊥)
+    pub method-stopped : (r .step ≡ 0 → ⊥)
         → MethodDone n k w rs short t s m v d t′ s′ m′ v′ d′ (record { number = 9; a = r .step; b = 0; before = 0; after = 0; count = 0 })
-    method-passed h =
+    method-stopped h =
         refusal (answer 9 (r .step) 0) t′ s′ m′ v′ d′
         (go (ltb (passing n w rs) n) refl) (λ q. omega arith) (g .kept h)
       where
         go : (b : Bool) → ltb (passing n w rs) n ≡ b → answer 9 (r .step) 0 ≡ verdict (methodChecks n k w rs short)
         go true q =
             ap (λ (x : ℕ). answer 9 x 0) (g .stopped ∙ ap (λ (b : Bool). cond b (suc (passing n w rs)) 0) q)
-            ∙ sym (verdict-hit (check (ltb (passing n w rs) n) 9 (suc (passing n w rs)) 0) [] q) ∙ last
+            ∙ sym (verdict-hit (passingCheck n w rs) [] q) ∙ last
         go false q = absurd (h (g .stopped ∙ ap (λ (b : Bool). cond b (suc (passing n w rs)) 0) q))
 
     -- 0
@@ -105,7 +104,7 @@ module _ (n k w : ℕ) (rs : List Row) (short : Bool) (t s m v d : List ℕ) (c 
           where
             one-more : (x : ℕ) → suc x ≡ 0 → ⊥
             one-more x e = omega arith
-        go false q = sym (verdict-miss (check (ltb (passing n w rs) n) 9 (suc (passing n w rs)) 0) [] q ∙ verdict-none) ∙ last
+        go false q = sym (verdict-miss (passingCheck n w rs) [] q ∙ verdict-none) ∙ last
 
         made-answer : {x y c : ℕ} → r .before ≡ x → r .after ≡ y → r .count ≡ c
             → record { number = 0; a = 0; b = 0; before = r .before; after = r .after; count = r .count } ≡ withRows (answer 0 0 0) x y c
@@ -130,9 +129,4 @@ method-by-rooms n k w rs short roomT roomSigma roomRows t s m v d t′ s′ m′
 -- where no room is short there are n numbers for each matrix and 512 rows
 pub rooms : (n roomT roomSigma roomRows : ℕ) → ltb roomT n || (ltb roomSigma n || ltb roomRows smallerRows) ≡ false
     → (n ≤ roomT) × (n ≤ roomSigma) × (smallerRows ≤ roomRows)
-rooms n roomT roomSigma roomRows h =
-    let rest = or-right (ltb roomT n) (ltb roomSigma n || ltb roomRows smallerRows) h in (
-      ltb-false roomT n (or-left (ltb roomT n) (ltb roomSigma n || ltb roomRows smallerRows) h),
-      ltb-false roomSigma n (or-left (ltb roomSigma n) (ltb roomRows smallerRows) rest),
-      ltb-false roomRows smallerRows (or-right (ltb roomSigma n) (ltb roomRows smallerRows) rest),
-    )
+rooms n roomT roomSigma roomRows h = long-enough n smallerRows roomT roomSigma roomRows h

@@ -1,5 +1,8 @@
 // The work of the sheet: the row method in working storage, and the sheet's text from what it leaves there. The answer has the measures
 // and the number of smaller rows too, for the line of a bulk import. The function here is inner.
+use block::LIST_INPUTS;
+use block::SHEET_ROOM;
+use block::SMALLER_ROWS;
 ghost use mathlib.Core.Path.{_≡_};
 ghost use lib.ListN.{length};
 ghost use Rattle.block.specs.Words.{rowsOf};
@@ -31,12 +34,12 @@ pub fn make_sheet(
     ensures { λ r. ⌜ r ≡ sheetWork n k w (rowsOf (now (masks .entry)) (now (values .entry)) (now (words .entry))) (length (now (out .entry))) ⌝ }
     ensures { λ r. ⌜ now (out .exit) ≡ stored (sheetVerdict n k w (rowsOf (now (masks .entry)) (now (values .entry)) (now (words .entry))) (length (now (out .entry)))) (sheetText n k w (rowsOf (now (masks .entry)) (now (values .entry)) (now (words .entry)))) (now (out .entry)) ⌝ }
 {
-    let mut basis = [0u32; 16];
-    let mut sigma = [0u32; 16];
-    let mut smaller_masks = [0u32; 512];
-    let mut smaller_values = [0u32; 512];
-    let mut smaller_words = [0u32; 512];
-    let short = out.len() < 17518;
+    let mut basis = [0u32; LIST_INPUTS];
+    let mut sigma = [0u32; LIST_INPUTS];
+    let mut smaller_masks = [0u32; SMALLER_ROWS];
+    let mut smaller_values = [0u32; SMALLER_ROWS];
+    let mut smaller_words = [0u32; SMALLER_ROWS];
+    let short = out.len() < SHEET_ROOM;
     let r = row_work::method_rows(
         n,
         k,

@@ -1,3 +1,4 @@
--- The checks of restoring in the order of the code, and what verdicts of 0 say.
+-- The checks of restoring in the order of the code, the verdicts step by step, and what verdicts of 0 say.
 pub mod Restoring
+pub mod Steps
 pub mod Passed

@@ -1,15 +1,17 @@
 -- The verdict of a list of checks is the first that holds: the answer of check i exactly where i is the least that holds, and 0
--- exactly where none does; a list in two parts; what goes with an answer and with a refusal. Assumes nothing.
+-- exactly where none does; what 0 says, check by check; a list in two parts, and lists asked one after the other; what goes with an
+-- answer and with a refusal. Assumes nothing.
 use mathlib.Core.Path.{_≡_, refl, sym, ap, _∙_}
 use mathlib.Core.Bool.{Bool, true, false, cond, false≢true}
 use mathlib.Core.List.{List, [], _∷_, _++_}
 use Prim.Native.Nat.{ℕ, zero, suc, _<_}
 use native.Mathlib.Omega.{arith}
-use borrow.Author.Tests.{eqb-true, eqb-false, eq-eqb, ne-eqb}
+use borrow.Author.Tests.{eqb-true, eq-eqb, ne-eqb, le-ltb, ltb-false}
 use lib.Dec.{eqb}
 use lib.ListN.{length, getD}
-use Rattle.slices.specs.Places.{over}
-use Rattle.block.specs.Refusals.{Check, check, answer, verdict, answered, carried, stored}
+use Rattle.slices.specs.Places.{first, over}
+use Rattle.slices.specs.Least.{first-is, first-below}
+use Rattle.block.specs.Refusals.{Check, check, answer, verdict, answered, andThen, carried, stored, some}
 use Rattle.block.specs.Tables.{withValue, withMeasures}
 use Rattle.block.specs.Lists.{withRows}
 use Rattle.block.specs.declared.Answer.{Answer}
@@ -27,6 +29,13 @@ verdict-miss c cs h = rw h
 pub verdict-none : verdict [] ≡ answer 0 0 0
 unfolding verdict
 verdict-none = refl
+
+-- a check that looks for some number: it holds nowhere exactly where none passes
+pub none-passes : (m : ℕ) (p : ℕ → Bool) → ((i : ℕ) → i < m → p i ≡ false) → some m p ≡ false
+none-passes m p h = le-ltb _ m (rw (first-is m p m (omega arith) h (λ b. absurd (omega arith))) (omega arith))
+
+pub passes-none : (m : ℕ) (p : ℕ → Bool) → some m p ≡ false → (i : ℕ) → i < m → p i ≡ false
+passes-none m p h i l = first-below m p i (omega (arith, ltb-false (first m p) m h))
 
 -- ---- "given exactly when"
 
@@ -74,6 +83,19 @@ answered-clear (c ∷ cs) nn e j h = go (answered-clear cs (nn .1)) (c .holds) r
     go ih false d zero h = d
     go ih false d (suc j) h = ih (sym (ap answered (verdict-miss c cs d)) ∙ e) j (omega arith)
 
+-- an answer of 0 that is some verdict
+pub zero-too : {v u : Answer} → v ≡ u → v .number ≡ 0 → u .number ≡ 0
+zero-too e h = sym (ap (λ (v : Answer). v .number) e) ∙ h
+
+-- the same check by check: the first does not hold, and the rest answer 0
+pub passes : (c : Check) (cs : List Check) → eqb (c .number) 0 ≡ false → verdict (c ∷ cs) .number ≡ 0
+    → (c .holds ≡ false) × (verdict cs .number ≡ 0)
+passes c cs n e = go (c .holds) refl
+  where
+    go : (b : Bool) → c .holds ≡ b → (c .holds ≡ false) × (verdict cs .number ≡ 0)
+    go true d = absurd (false≢true (sym n ∙ eq-eqb (c .number) 0 (zero-too (verdict-hit c cs d) e)))
+    go false d = (d, zero-too (verdict-miss c cs d) e)
+
 -- ---- a list in two parts: the second counts where the first answers 0
 
 pub verdict-then : (cs ds : List Check) → answered (verdict cs) ≡ true → Numbered cs → verdict (cs ++ ds) ≡ verdict ds
@@ -94,6 +116,51 @@ verdict-stop (c ∷ cs) ds e = go (λ h. verdict-stop cs ds h) (c .holds) refl
     go ih true d = verdict-hit c (cs ++ ds) d ∙ sym (verdict-hit c cs d)
     go ih false d =
         verdict-miss c (cs ++ ds) d ∙ ih (sym (ap answered (verdict-miss c cs d)) ∙ e) ∙ sym (verdict-miss c cs d)
+
+pub verdict-parts : (cs ds : List Check) → Numbered cs → verdict (cs ++ ds) ≡ andThen (verdict cs) (verdict ds)
+verdict-parts cs ds nn = go (answered (verdict cs)) refl
+  where
+    go : (b : Bool) → answered (verdict cs) ≡ b → verdict (cs ++ ds) ≡ cond b (verdict ds) (verdict cs)
+    go true e = verdict-then cs ds e nn
+    go false e = verdict-stop cs ds e
+
+-- ---- lists asked one after the other, as a function has it whose steps hand an earlier refusal on
+
+-- such a step: the earlier refusal, or its own answer
+pub then-refused : (v u : Answer) → (v .number ≡ 0 → ⊥) → v ≡ andThen v u
+then-refused v u h = rw (ne-eqb (v .number) 0 h)
+
+pub then-answered : (v u : Answer) → v .number ≡ 0 → u ≡ andThen v u
+then-answered v u h = rw (eq-eqb (v .number) 0 h)
+
+-- v is the verdict of the checks so far
+pub record Asked (cs : List Check) (v : Answer) : Type 0 where
+  pub numbered : Numbered cs
+  pub told : v ≡ verdict cs
+
+numbered-both : (cs ds : List Check) → Numbered cs → Numbered ds → Numbered (cs ++ ds)
+numbered-both [] ds p q = q
+numbered-both (c ∷ cs) ds p q = (p .0, numbered-both cs ds (p .1) q)
+
+-- a step that asks the checks ds
+pub asked-then : {cs : List Check} {u : Answer} (ds : List Check) (v : Answer) → Asked cs u → Numbered ds → v ≡ andThen u (verdict ds)
+    → Asked (cs ++ ds) v
+asked-then {cs} {u} ds v p q e =
+    record {
+      numbered = numbered-both cs ds (p .numbered) q;
+      told = e ∙ ap (λ (x : Answer). andThen x (verdict ds)) (p .told) ∙ sym (verdict-parts cs ds (p .numbered));
+    }
+
+-- a step of one check, whose test is q where it is asked
+pub asked-where : {cs : List Check} {u : Answer} (p q : Bool) (m a b : ℕ) (v : Answer) → Asked cs u → eqb m 0 ≡ false
+    → v ≡ andThen u (verdict (check p m a b ∷ [])) → (verdict cs .number ≡ 0 → p ≡ q) → Asked (cs ++ (check q m a b ∷ [])) v
+asked-where {cs} {u} p q m a b v k n e same =
+    asked-then (check q m a b ∷ []) v k (n, tt) (e ∙ go (answered u) refl)
+  where
+    go : (x : Bool) → answered u ≡ x → cond x (verdict (check p m a b ∷ [])) u ≡ cond x (verdict (check q m a b ∷ [])) u
+    go true d =
+        ap (λ (t : Bool). verdict (check t m a b ∷ [])) (same (zero-too (k .told) (eqb-true (u .number) 0 d)))
+    go false d = refl
 
 -- ---- what goes with an answer
 

@@ -4,6 +4,7 @@ use borrow.Author.Tests.{eq-eqb, ne-eqb}
 use denote.Ref.{now}
 use lib.ListN.{length}
 use Rattle.block.specs.Limits.{tableInputs, smallerRows}
+use Rattle.listing.specs.Listing.{listed-rows}
 use Rattle.row_checks.specs.Checked.{fill-checked, checked-words}
 use borrow.Author.Needs.{needs}
 use Rattle.lists.proofs.fill_table.Statement.{statement}
@@ -23,7 +24,7 @@ fill-rows-requires c κs =
     let a = checked .before .before .before .before .before .args in
     let w = fill-checked (a .n) (a .k) (now (a .masks)) (now (a .values)) (now (a .words)) (length (now (a .table))) _
     (checked .fill-verdict .ensures) (c .before .if1 .left) in (
-      (w .0 .size .1, w .1, w .0 .listed),
+      (w .0 .range .size .1, w .1, listed-rows smallerRows _ _ _ (w .0 .range .count)),
       (
         w .0 .disjoint .sound,
         checked-words tableInputs smallerRows (a .n) (a .k) (now (a .masks)) (now (a .values)) (now (a .words)) (w .0),

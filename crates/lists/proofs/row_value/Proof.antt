@@ -4,7 +4,9 @@ use native.Mathlib.Omega.{arith}
 use borrow.Author.Tests.{eq-eqb, ne-eqb}
 use denote.Ref.{now}
 use lib.Pow.{pow-mono}
+use Rattle.block.specs.Limits.{smallerRows}
 use Rattle.block.specs.Lists.{rowValue}
+use Rattle.listing.specs.Listing.{listed-rows}
 use Rattle.row_checks.specs.Checked.{value-checked}
 use borrow.Author.Needs.{needs}
 use Rattle.lists.proofs.row_value.Statement.{statement}
@@ -23,7 +25,7 @@ cast-shift-of-rows c =
     let a = checked .before .before .before .before .args in
     let w = value-checked (a .n) (a .k) (a .t) (now (a .masks)) (now (a .values)) (now (a .words)) _
     (checked .row-value-verdict .ensures) (c .if1 .left) in
-    omega (arith, w .1, pow-mono (w .0 .size .1))
+    omega (arith, w .1, pow-mono (w .0 .range .size .1))
 
 shift-of-rows-requires : tie.Need-shift-of-rows-requires
 shift-of-rows-requires c κs =
@@ -31,8 +33,7 @@ shift-of-rows-requires c κs =
     let a = checked .before .before .before .before .args in
     let w = value-checked (a .n) (a .k) (a .t) (now (a .masks)) (now (a .values)) (now (a .words)) _
     (checked .row-value-verdict .ensures) (c .if1 .left) in
-    let l = w .0 .listed in
-    ((w .0 .size .1, w .1, record { values-too = l .values-too; words-too = l .words-too; some = l .some; few = omega arith }), w .0 .disjoint)
+    ((w .0 .range .size .1, w .1, listed-rows smallerRows _ _ _ (omega (arith, w .0 .range .count .0), omega (arith, w .0 .range .count .1))), w .0 .disjoint)
 
 cast-t11 : tie.Need-cast-t11
 cast-t11 c = search needs

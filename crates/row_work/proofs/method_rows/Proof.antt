@@ -1,11 +1,11 @@
 -- `row_work::method_rows` meets its contract: the checks up to 7, then the work, which says 9 or 0. Assumes nothing.
-use mathlib.Core.Path.{_≡_}
-use Prim.Native.Nat.{ℕ, _≤_}
-use native.Mathlib.Omega.{arith}
 use denote.Ref.{now}
+use Rattle.block.specs.Limits.{givenRows}
 use Rattle.block.specs.Words.{rowsOf}
-use Rattle.row_checks.specs.Checked.{method-checked}
-use Rattle.row_work.specs.Method.{method-refused, method-passed, method-made}
+use Rattle.verdicts.specs.Verdicts.{zero-too}
+use Rattle.listing.specs.Listing.{listed-rows}
+use Rattle.answered_laws.specs.Passed.{method-passed}
+use Rattle.row_work.specs.Method.{method-refused, method-stopped, method-made}
 use borrow.Author.Needs.{needs}
 use Rattle.row_work.proofs.method_rows.Statement.{statement}
 use Rattle.row_work.proofs.method_rows.Tie as tie
@@ -15,16 +15,24 @@ method-checked-requires c κs = search needs
 
 returns : tie.Need-returns
 returns c =
-    let a = c .before .before .before .before .before .before .before .before .before .before .before .args in
-    method-refused (a .n) (a .k) (a .w) (rowsOf (now (a .masks)) (now (a .values)) (now (a .words))) (a .short) (now (a .basis)) (now (a .sigma)) (now (a .out-masks)) (now (a .out-values)) (now (a .out-words)) _ (c .before .before .method-checked .ensures) (c .if1 .taken)
+    let checked = c .before .before in
+    let a = checked .before .before .before .before .before .before .before .before .before .args in
+    method-refused (a .n) (a .k) (a .w) (rowsOf (now (a .masks)) (now (a .values)) (now (a .words))) (a .short) (now (a .basis)) (now (a .sigma))
+    (now (a .out-masks)) (now (a .out-values)) (now (a .out-words)) _ (checked .method-checked .ensures) (c .if1 .taken)
 
 work-rows-requires : tie.Need-work-rows-requires
 work-rows-requires c κs =
-    let s = c .before .before .before .before .before .before .before .before .before .before .before .before .before .before .before .before in
-    let a = s .args in
-    let p = method-checked (a .n) (a .k) (a .w) (now (a .masks)) (now (a .values)) (now (a .words)) (a .short) _ (c .before .before .before .before .before .before .before .method-checked .ensures) (c .before .before .before .before .before .if1 .left) in
-    let room = s .pre (p .2) (p .0 .size .1) in
-    ((p .0 .size .1, p .1 .0, p .1 .1, room .0, room .1), ((room .2, room .3, room .4), (p .0 .listed, p .0 .disjoint)))
+    let passed = c .before .before .before .before .before in
+    let checked = passed .before .before in
+    let start = checked .before .before .before .before .before .before .before .before .before in
+    let a = start .args in
+    let p =
+    method-passed (a .n) (a .k) (a .w) (rowsOf (now (a .masks)) (now (a .values)) (now (a .words))) (a .short)
+    (zero-too (checked .method-checked .ensures) (passed .if1 .left)) in
+    let size = p .list .range .size .1 in
+    let lent = start .pre (p .room) size in
+    let listed = listed-rows givenRows (now (a .masks)) (now (a .values)) (now (a .words)) (p .list .range .count) in
+    ((size, p .weight .0, p .weight .1, lent .0, lent .1), ((lent .2, lent .3, lent .4), (listed, p .list .disjoint)))
 
 same-length : tie.Need-same-length
 same-length c = search needs
@@ -43,8 +51,13 @@ same-length-5 c = search needs
 
 returns-2 : tie.Need-returns-2
 returns-2 c =
-    let a = c .before .before .before .before .before .before .before .before .before .before .before .before .before .before .before .before .before .before .before .before .before .before .before .before .before .before .before .before .before .args in
-    method-passed (a .n) (a .k) (a .w) (rowsOf (now (a .masks)) (now (a .values)) (now (a .words))) (a .short) (now (a .basis)) (now (a .sigma)) (now (a .out-masks)) (now (a .out-values)) (now (a .out-words)) _ (c .before .before .before .before .before .before .before .before .before .before .before .before .before .before .before .before .before .before .before .before .method-checked .ensures) (c .before .before .before .before .before .before .before .before .before .before .before .before .before .before .before .before .before .before .if1 .left) _ _ _ _ _ _ (c .before .before .before .before .before .before .before .before .before .before .before .before .work-rows .ensures) (c .if2 .taken)
+    let worked = c .before .before .before .before .before .before .before .before .before .before .before .before in
+    let passed = worked .before .before .before .before .before .before in
+    let checked = passed .before .before in
+    let a = checked .before .before .before .before .before .before .before .before .before .args in
+    method-stopped (a .n) (a .k) (a .w) (rowsOf (now (a .masks)) (now (a .values)) (now (a .words))) (a .short) (now (a .basis)) (now (a .sigma))
+    (now (a .out-masks)) (now (a .out-values)) (now (a .out-words)) _ (checked .method-checked .ensures) (passed .if1 .left) _ _ _ _ _ _
+    (worked .work-rows .ensures) (c .if2 .taken)
 
 same-length-6 : tie.Need-same-length-6
 same-length-6 c = search needs
@@ -63,8 +76,13 @@ same-length-10 c = search needs
 
 returns-3 : tie.Need-returns-3
 returns-3 c =
-    let a = c .before .before .before .before .before .before .before .before .before .before .before .before .before .before .before .before .before .before .before .before .before .before .before .before .before .before .before .before .before .args in
-    method-made (a .n) (a .k) (a .w) (rowsOf (now (a .masks)) (now (a .values)) (now (a .words))) (a .short) (now (a .basis)) (now (a .sigma)) (now (a .out-masks)) (now (a .out-values)) (now (a .out-words)) _ (c .before .before .before .before .before .before .before .before .before .before .before .before .before .before .before .before .before .before .before .before .method-checked .ensures) (c .before .before .before .before .before .before .before .before .before .before .before .before .before .before .before .before .before .before .if1 .left) _ _ _ _ _ _ (c .before .before .before .before .before .before .before .before .before .before .before .before .work-rows .ensures) (c .if2 .left)
+    let worked = c .before .before .before .before .before .before .before .before .before .before .before .before in
+    let passed = worked .before .before .before .before .before .before in
+    let checked = passed .before .before in
+    let a = checked .before .before .before .before .before .before .before .before .before .args in
+    method-made (a .n) (a .k) (a .w) (rowsOf (now (a .masks)) (now (a .values)) (now (a .words))) (a .short) (now (a .basis)) (now (a .sigma))
+    (now (a .out-masks)) (now (a .out-values)) (now (a .out-words)) _ (checked .method-checked .ensures) (passed .if1 .left) _ _ _ _ _ _
+    (worked .work-rows .ensures) (c .if2 .left)
 
 pub method-rows-spec : {M : Type 1} → statement M
 method-rows-spec =

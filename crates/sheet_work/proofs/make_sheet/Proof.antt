@@ -29,37 +29,46 @@ method-rows-requires c κs = search needs
 
 returns : tie.Need-returns
 returns c =
-    let a = c .before .before .before .before .before .before .before .before .before .before .before .before .before .before .before .before .before .args in
+    let made = c .before .before .before .before .before .before .before in
+    let a = made .before .before .before .before .before .before .before .before .before .before .args in
     sheet-refused (a .n) (a .k) (a .w) (rowsOf (now (a .masks)) (now (a .values)) (now (a .words))) (now (a .out)) _ _ _ _ _ _ _ _ _ _ _
-    (c .before .before .before .before .before .before .before .method-rows .ensures) (c .if1 .taken)
+    (made .method-rows .ensures) (c .if1 .taken)
 
 array-share-prefix-basis : tie.Need-array-share-prefix-basis
 array-share-prefix-basis c =
-    let a = c .before .before .before .before .before .before .before .before .before .before .before .before .before .before .before .before .before .before .args in
+    let left = c .before in
+    let made = left .before .before .before .before .before .before .before in
+    let a = made .before .before .before .before .before .before .before .before .before .before .args in
     let h = sheet-ready (a .n) (a .k) (a .w) (rowsOf (now (a .masks)) (now (a .values)) (now (a .words))) (now (a .out)) _ _ _ _ _ _ _ _ _ _ _
-    (c .before .before .before .before .before .before .before .before .method-rows .ensures) (c .before .if1 .left) in
-    omega (arith, h .inputs .1)
+    (made .method-rows .ensures) (left .if1 .left) .passed in
+    omega (arith, h .list .range .size .1)
 
 slice-aggregate-put-sheet : tie.Need-slice-aggregate-put-sheet
 slice-aggregate-put-sheet c =
-    let a = c .before .before .before .before .before .before .before .before .before .before .before .before .before .before .before .before .before .before .before .args in
+    let left = c .before .before in
+    let made = left .before .before .before .before .before .before .before in
+    let a = made .before .before .before .before .before .before .before .before .before .before .args in
     let h = sheet-ready (a .n) (a .k) (a .w) (rowsOf (now (a .masks)) (now (a .values)) (now (a .words))) (now (a .out)) _ _ _ _ _ _ _ _ _ _ _
-    (c .before .before .before .before .before .before .before .before .before .method-rows .ensures) (c .before .before .if1 .left) in
-    simp length-take (omega (arith, h .inputs .1))
+    (made .method-rows .ensures) (left .if1 .left) .passed in
+    simp length-take (omega (arith, h .list .range .size .1))
 
 array-share-prefix-sigma : tie.Need-array-share-prefix-sigma
 array-share-prefix-sigma c =
-    let a = c .before .before .before .before .before .before .before .before .before .before .before .before .before .before .before .before .before .before .before .args in
+    let left = c .before .before in
+    let made = left .before .before .before .before .before .before .before in
+    let a = made .before .before .before .before .before .before .before .before .before .before .args in
     let h = sheet-ready (a .n) (a .k) (a .w) (rowsOf (now (a .masks)) (now (a .values)) (now (a .words))) (now (a .out)) _ _ _ _ _ _ _ _ _ _ _
-    (c .before .before .before .before .before .before .before .before .before .method-rows .ensures) (c .before .before .if1 .left) in
-    omega (arith, h .inputs .1)
+    (made .method-rows .ensures) (left .if1 .left) .passed in
+    omega (arith, h .list .range .size .1)
 
 slice-aggregate-put-sheet-2 : tie.Need-slice-aggregate-put-sheet-2
 slice-aggregate-put-sheet-2 c =
-    let a = c .before .before .before .before .before .before .before .before .before .before .before .before .before .before .before .before .before .before .before .before .args in
+    let left = c .before .before .before in
+    let made = left .before .before .before .before .before .before .before in
+    let a = made .before .before .before .before .before .before .before .before .before .before .args in
     let h = sheet-ready (a .n) (a .k) (a .w) (rowsOf (now (a .masks)) (now (a .values)) (now (a .words))) (now (a .out)) _ _ _ _ _ _ _ _ _ _ _
-    (c .before .before .before .before .before .before .before .before .before .before .method-rows .ensures) (c .before .before .before .if1 .left) in
-    simp length-take (omega (arith, h .inputs .1))
+    (made .method-rows .ensures) (left .if1 .left) .passed in
+    simp length-take (omega (arith, h .list .range .size .1))
 
 slice-aggregate-put-sheet-3 : tie.Need-slice-aggregate-put-sheet-3
 slice-aggregate-put-sheet-3 c = search needs
@@ -84,9 +93,12 @@ same-length c = search needs
 
 returns-2 : tie.Need-returns-2
 returns-2 c =
-    let a = c .before .before .before .before .before .before .before .before .before .before .before .before .before .before .before .before .before .before .before .before .before .before .before .before .before .before .args in
+    let put = c .before .before in
+    let left = put .before .before .before .before .before .before .before in
+    let made = left .before .before .before .before .before .before .before in
+    let a = made .before .before .before .before .before .before .before .before .before .before .args in
     sheet-answered (a .n) (a .k) (a .w) (rowsOf (now (a .masks)) (now (a .values)) (now (a .words))) (now (a .out)) _ _ _ _ _ _ _ _ _ _ _
-    (c .before .before .before .before .before .before .before .before .before .before .before .before .before .before .before .before .method-rows .ensures) (c .before .before .before .before .before .before .before .before .before .if1 .left) _ _ (c .before .before .put-sheet .ensures)
+    (made .method-rows .ensures) (left .if1 .left) _ _ (put .put-sheet .ensures)
 
 pub make-sheet-spec : {M : Type 1} → statement M
 make-sheet-spec =

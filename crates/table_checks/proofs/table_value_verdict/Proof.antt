@@ -1,8 +1,6 @@
--- `table_checks::table_value_verdict` meets its contract: its checks in three parts. Assumes nothing.
-use mathlib.Core.Path.{_≡_, refl, sym, ap, _∙_}
-use Rattle.block.specs.Tables.{tableValueVerdict}
-use Rattle.checks.specs.Sizes.{sized}
-use Rattle.verdicts.specs.Verdicts.{part-refuses, part-passes}
+-- `table_checks::table_value_verdict` meets its contract: its checks step by step. Assumes nothing.
+use denote.Ref.{now}
+use Rattle.table_checks.specs.Steps.{value-outputs, value-verdict}
 use borrow.Author.Needs.{needs}
 use Rattle.table_checks.proofs.table_value_verdict.Statement.{statement}
 use Rattle.table_checks.proofs.table_value_verdict.Tie as tie
@@ -10,29 +8,41 @@ use Rattle.table_checks.proofs.table_value_verdict.Tie as tie
 sizes-requires : tie.Need-sizes-requires
 sizes-requires c κs = search needs
 
+size-of-requires : tie.Need-size-of-requires
+size-of-requires c κs = search needs
+
+then-where-requires : tie.Need-then-where-requires
+then-where-requires c κs = search needs
+
+then-where-requires-2 : tie.Need-then-where-requires-2
+then-where-requires-2 c κs = search needs
+
+then-entries-requires : tie.Need-then-entries-requires
+then-entries-requires c κs =
+    let point = c .before in
+    let size = point .before in
+    let sizes = size .before in
+    let a = sizes .before .before .args in
+    value-outputs (a .n) (a .k) _ (now (a .table)) (size .size-of .ensures) (a .t) _ _ _ (sizes .sizes .ensures) (point .then-where .ensures)
+    (c .then-where2 .ensures)
+
 returns : tie.Need-returns
-unfolding tableValueVerdict
-returns c = part-refuses _ _ _ (c .before .before .sizes .ensures) (c .if1 .taken)
-
-value-lengths-requires : tie.Need-value-lengths-requires
-value-lengths-requires c κs = sized 12 (c .before .before .before .before .args .n) (c .before .before .before .before .args .k) _ (c .before .before .sizes .ensures) (c .if1 .left) .0 .1
-
-returns-2 : tie.Need-returns-2
-unfolding tableValueVerdict
-returns-2 c =
-    part-refuses _ _ _ (c .before .before .value-lengths .ensures) (c .if2 .taken)
-    ∙ part-passes _ _ _ (c .before .before .before .before .before .sizes .ensures) (refl, (refl, tt)) (c .before .before .before .if1 .left)
-
-entries-requires : tie.Need-entries-requires
-entries-requires c κs = sized 12 (c .before .before .before .before .before .before .before .args .n) (c .before .before .before .before .before .before .before .args .k) _ (c .before .before .before .before .before .sizes .ensures) (c .before .before .before .if1 .left) .1 .1
-
-returns-3 : tie.Need-returns-3
-unfolding tableValueVerdict
-returns-3 c =
-    c .entries .ensures ∙ part-passes _ _ _ (c .before .before .before .value-lengths .ensures) (refl, (refl, tt)) (c .before .if2 .left)
-    ∙ part-passes _ _ _ (c .before .before .before .before .before .before .sizes .ensures) (refl, (refl, tt)) (c .before .before .before .before .if1 .left)
+returns c =
+    let whole = c .before in
+    let point = whole .before in
+    let size = point .before in
+    let sizes = size .before in
+    let a = sizes .before .before .args in
+    value-verdict (a .n) (a .k) _ (now (a .table)) (size .size-of .ensures) (a .t) _ _ _ (sizes .sizes .ensures) (point .then-where .ensures)
+    (whole .then-where2 .ensures) _ (c .then-entries .ensures)
 
 pub table-value-verdict-spec : {M : Type 1} → statement M
 table-value-verdict-spec =
     tie.close
-    (tie.spec sizes-requires returns value-lengths-requires returns-2 entries-requires returns-3)
+    (tie.spec
+    sizes-requires
+    size-of-requires
+    then-where-requires
+    then-where-requires-2
+    then-entries-requires
+    returns)

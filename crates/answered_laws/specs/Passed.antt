@@ -1,0 +1,193 @@
+-- What an answer of 0 says of a list of rows, by named fields; how it follows from each operation's checks, and that a list with those
+-- facts is answered: here alone a proof knows in which order they are asked. Not here: tables (crate table_checks), and what 0 says of slices that hold the rows (crate
+-- listing). Assumes nothing.
+use mathlib.Core.Path.{_≡_, refl, _∙_}
+use mathlib.Core.Bool.{Bool, true, false, not}
+use mathlib.Core.List.{List, [], _∷_, _++_}
+use Prim.Native.Nat.{ℕ, suc, _-_, _^_, _≤_, _<_}
+use native.Mathlib.Omega.{arith}
+use borrow.Author.Tests.{le-ltb, ltb-true, ltb-false, not-false}
+use lib.Dec.{ltb}
+use lib.ListN.{length}
+use Rattle.slices.specs.Least.{first-below}
+use Rattle.block.specs.Limits.{listInputs, tableInputs, outputs, givenRows, smallerRows}
+use Rattle.block.specs.Refusals.{Check, check, answer, verdict, outside, sizeChecks, badRow, rowAt, sharing}
+use Rattle.block.specs.Lists.{countCheck, badRowCheck, rowChecks, rowValueVerdict, rowsAfter, passing, passingCheck, methodChecked, methodChecks, smallerList, fillVerdict}
+use Rattle.block.specs.declared.Row.{Row}
+use Rattle.verdicts.specs.Verdicts.{verdict-miss, verdict-none, none-passes, passes, Numbered}
+use Rattle.checks.specs.Sizes.{inside, within, sizes-pass}
+use Rattle.pairs.specs.Cube.{Sound}
+use Rattle.pairs.specs.Theorem.{Every, Disjoint}
+use Rattle.pairs.specs.Share.{good-sound, apart-sharing, every-good, checked-disjoint}
+
+-- ---- what is said
+
+-- 1, 2 and 4 pass: n, k and the number of rows are in range
+pub record InRange (inputs most n k : ℕ) (rs : List Row) : Type 0 where
+  pub size : (1 ≤ n) × (n ≤ inputs)
+  pub columns : (1 ≤ k) × (k ≤ outputs)
+  pub count : (1 ≤ length rs) × (length rs ≤ most)
+
+-- and the rows pass: none is malformed, and no two share a point
+pub record Passed (inputs most n k : ℕ) (rs : List Row) : Type 0 where
+  pub range : InRange inputs most n k rs
+  pub good : Every (λ r. badRow n k r ≡ false) rs
+  pub disjoint : Disjoint n rs
+
+-- the row method, but for 9
+pub record MethodPassed (n k w : ℕ) (rs : List Row) (short : Bool) : Type 0 where
+  pub list : Passed listInputs givenRows n k rs
+  pub weight : (1 ≤ w) × (w ≤ n)
+  pub room : short ≡ false
+
+-- and 9: at most 512 smaller rows
+pub record MethodAnswered (n k w : ℕ) (rs : List Row) (short : Bool) : Type 0 where
+  pub passed : MethodPassed n k w rs short
+  pub few : length (smallerList n w rs) ≤ smallerRows
+
+-- greater limits hold too
+pub in-range-more : {inputs most n k : ℕ} {rs : List Row} (wider more : ℕ) → inputs ≤ wider → most ≤ more → InRange inputs most n k rs
+    → InRange wider more n k rs
+in-range-more wider more h l p =
+    record {
+      size = (p .size .0, omega (arith, p .size .1));
+      columns = p .columns;
+      count = (p .count .0, omega (arith, p .count .1));
+    }
+
+-- ---- the rows: the checks that every operation asks of them, before `rest`
+
+-- each has a number of its own
+pub rows-numbered : (n k : ℕ) (rs : List Row) → Numbered (rowChecks n k rs)
+rows-numbered n k rs = (refl, (refl, tt))
+
+-- 6 passes: each row is sound
+pub formed-sound : (n k : ℕ) (rs : List Row) → verdict (badRowCheck n k rs ∷ []) .number ≡ 0 → Every (Sound n) rs
+formed-sound n k rs h i l = good-sound n k _ (every-good n k rs (passes _ _ refl h .0) i l)
+
+pub rows-pass : (inputs most n k : ℕ) (rs : List Row) (rest : List Check) → InRange inputs most n k rs
+    → verdict (rowChecks n k rs ++ rest) .number ≡ 0 → Passed inputs most n k rs × (verdict rest .number ≡ 0)
+rows-pass inputs most n k rs rest p h =
+    let formed = passes _ _ refl h in
+    let apart = passes _ _ refl (formed .1) in (
+      record {
+        range = p;
+        good = every-good n k rs (formed .0);
+        disjoint = checked-disjoint n k rs (p .columns .1) (formed .0) (apart .0);
+      },
+      apart .1,
+    )
+
+-- a list whose rows pass is asked what comes next
+pub rows-answer : {inputs most : ℕ} (n k : ℕ) (rs : List Row) (rest : List Check) → Passed inputs most n k rs
+    → verdict (rowChecks n k rs ++ rest) ≡ verdict rest
+rows-answer n k rs rest p =
+    verdict-miss _ _ (none-passes (length rs) (λ i. badRow n k (rowAt rs i)) (p .good)) ∙ verdict-miss _ _ (no-share (ltb (sharing n rs) (length rs)) refl)
+  where
+    no-share : (b : Bool) → ltb (sharing n rs) (length rs) ≡ b → ltb (sharing n rs) (length rs) ≡ false
+    no-share true e = absurd (apart-sharing n rs (p .disjoint .apart) (ltb-true (sharing n rs) (length rs) e))
+    no-share false e = e
+
+-- ---- a single shift value
+
+module _ (n k t : ℕ) (rs : List Row) where
+  pub value-ranges : (rest : List Check)
+      → verdict (sizeChecks listInputs n k (check (not (ltb t (2 ^ n))) 3 0 0 ∷ countCheck givenRows rs ∷ rest)) .number ≡ 0
+      → InRange listInputs givenRows n k rs × (t < 2 ^ n) × (verdict rest .number ≡ 0)
+  value-ranges rest h =
+      let sizes = sizes-pass listInputs n k _ h in
+      let point = passes _ _ refl (sizes .1) in
+      let count = passes _ _ refl (point .1) in (
+        record { size = sizes .0 .0; columns = sizes .0 .1; count = inside 1 givenRows (length rs) (count .0) },
+        ltb-true t (2 ^ n) (not-false _ (point .0)),
+        count .1,
+      )
+
+  pub value-passed : rowValueVerdict n k t rs .number ≡ 0 → Passed listInputs givenRows n k rs × (t < 2 ^ n)
+  unfolding rowValueVerdict
+  value-passed h =
+      let r = value-ranges (rowChecks n k rs) h in
+      (rows-pass listInputs givenRows n k rs [] (r .0) (r .2) .0, r .1)
+
+-- ---- filling
+
+module _ (n k : ℕ) (rs : List Row) (room : ℕ) where
+  pub fill-ranges : (rest : List Check)
+      → verdict (sizeChecks tableInputs n k (countCheck smallerRows rs ∷ check (ltb room (2 ^ n)) 5 0 0 ∷ rest)) .number ≡ 0
+      → InRange tableInputs smallerRows n k rs × (2 ^ n ≤ room) × (verdict rest .number ≡ 0)
+  fill-ranges rest h =
+      let sizes = sizes-pass tableInputs n k _ h in
+      let count = passes _ _ refl (sizes .1) in
+      let lent = passes _ _ refl (count .1) in (
+        record { size = sizes .0 .0; columns = sizes .0 .1; count = inside 1 smallerRows (length rs) (count .0) },
+        ltb-false room (2 ^ n) (lent .0),
+        lent .1,
+      )
+
+  pub fill-passed : fillVerdict n k rs room .number ≡ 0 → Passed tableInputs smallerRows n k rs × (2 ^ n ≤ room)
+  unfolding fillVerdict
+  fill-passed h =
+      let r = fill-ranges (rowChecks n k rs) h in
+      (rows-pass tableInputs smallerRows n k rs [] (r .0) (r .2) .0, r .1)
+
+  -- filling answers a list that passes, where there is room
+  pub fill-answers : Passed tableInputs smallerRows n k rs → 2 ^ n ≤ room → fillVerdict n k rs room ≡ answer 0 0 0
+  unfolding fillVerdict
+  fill-answers p h =
+      let r = p .range in
+      verdict-miss _ _ (within 1 tableInputs n (r .size .0) (r .size .1))
+      ∙ verdict-miss _ _ (within 1 outputs k (r .columns .0) (r .columns .1))
+      ∙ verdict-miss _ _ (within 1 smallerRows (length rs) (r .count .0) (r .count .1))
+      ∙ verdict-miss _ _ (le-ltb room (2 ^ n) h)
+      ∙ rows-answer n k rs [] p
+      ∙ verdict-none
+
+-- ---- the row method, and the sheet; `short` says that the lent room is too short
+
+module _ (n k w : ℕ) (rs : List Row) (short : Bool) where
+  pub method-ranges : (rest : List Check)
+      → verdict (sizeChecks listInputs n k (check (outside 1 n w) 3 0 0 ∷ countCheck givenRows rs ∷ check short 5 0 0 ∷ rest)) .number ≡ 0
+      → InRange listInputs givenRows n k rs × ((1 ≤ w) × (w ≤ n)) × (short ≡ false) × (verdict rest .number ≡ 0)
+  method-ranges rest h =
+      let sizes = sizes-pass listInputs n k _ h in
+      let weight = passes _ _ refl (sizes .1) in
+      let count = passes _ _ refl (weight .1) in
+      let lent = passes _ _ refl (count .1) in (
+        record { size = sizes .0 .0; columns = sizes .0 .1; count = inside 1 givenRows (length rs) (count .0) },
+        inside 1 n w (weight .0),
+        lent .0,
+        lent .1,
+      )
+
+  pub method-numbered : Numbered (methodChecked n k w rs short)
+  method-numbered = (refl, (refl, (refl, (refl, (refl, rows-numbered n k rs)))))
+
+  checked-pass : (rest : List Check) → verdict (methodChecked n k w rs short ++ rest) .number ≡ 0
+      → MethodPassed n k w rs short × (verdict rest .number ≡ 0)
+  checked-pass rest h =
+      let r = method-ranges (rowChecks n k rs ++ rest) h in
+      let p = rows-pass listInputs givenRows n k rs rest (r .0) (r .3) in
+      (record { list = p .0; weight = r .1; room = r .2 }, p .1)
+
+  -- before 9
+  pub method-passed : verdict (methodChecked n k w rs short) .number ≡ 0 → MethodPassed n k w rs short
+  method-passed h = checked-pass [] h .0
+
+  -- where no step passes 512 rows, the smaller rows, which are those after step n, do not
+  few-rows : 1 ≤ n → n ≤ passing n w rs → length (smallerList n w rs) ≤ smallerRows
+  unfolding smallerList passing
+  few-rows one h =
+      let e : suc (n - 1) ≡ n = omega arith in
+      let b = first-below n (λ i. ltb smallerRows (length (rowsAfter n w (suc i) rs))) (n - 1) (omega arith) in
+      ltb-false smallerRows (length (rowsAfter n w n rs)) (rw e at b)
+
+  -- with 9
+  pub method-answered : verdict (methodChecks n k w rs short) .number ≡ 0 → MethodAnswered n k w rs short
+  unfolding methodChecks
+  method-answered h =
+      let p = checked-pass (passingCheck n w rs ∷ []) h in
+      let last = passes _ _ refl (p .1) in
+      record {
+        passed = p .0;
+        few = few-rows (p .0 .list .range .size .0) (ltb-false (passing n w rs) n (last .0));
+      }

@@ -1,0 +1,2 @@
+-- The first pair of rows that share a point, as the search finds it.
+pub mod Pairs
