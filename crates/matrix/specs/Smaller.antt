@@ -1,17 +1,16 @@
 -- The smaller block (01, The basis and the matrix): its R at z is R of the block at T z, its measure is the sum of R at the columns
 -- of T, and at sigma x it is the block at x. Not here: its rows. Assumes nothing.
 use mathlib.Core.Path.{_≡_, ap, _∙_}
-use Prim.Native.Nat.{ℕ, _^_, _<_}
+use Prim.Native.Nat.{ℕ, _^_}
 use native.Mathlib.Omega.{arith}
 use Rattle.sums.specs.Sums.{sum, one, count}
 use Rattle.sums.specs.Laws.{sum-cong, sum-moved, count-cong}
-use Rattle.slices.specs.Places.{at}
 use Rattle.block.specs.Measure.{same, shift, measure}
-use Rattle.block.specs.Basis.{columns, apply, inverse, smaller}
+use Rattle.block.specs.Basis.{columns, smaller}
 use Rattle.block.specs.Rows.{reached}
 use Rattle.matrix.specs.Linear.{columns-lt, columns-xor, columns-unit}
 use Rattle.matrix.specs.Reached.{Independent, reaches}
-use Rattle.matrix.specs.Inverse.{reached-columns, columns-reached, columns-sigma}
+use Rattle.matrix.specs.Inverse.{reached-columns, columns-reached}
 
 -- at z and x the smaller block is the same where the block is at T z and T x
 same-smaller : (f c : ℕ → ℕ) (n z x : ℕ) → same (smaller f c n) z x ≡ same f (columns c n z) (columns c n x)

@@ -4,7 +4,7 @@
 use mathlib.Core.Path.{_≡_, refl, _∙_}
 use mathlib.Core.Bool.{false}
 use mathlib.Core.List.{List}
-use Prim.Native.Nat.{ℕ, zero, suc, _*_, _^_, _≤_, _<_}
+use Prim.Native.Nat.{ℕ, zero, suc, _^_, _≤_, _<_}
 use native.Mathlib.Decide.{ℕ-discrete}
 use native.Mathlib.Omega.{arith}
 use lib.Arith.{lt-one}
@@ -17,7 +17,7 @@ use Rattle.pairs.specs.Cube.{Sound}
 use Rattle.pairs.specs.Theorem.{Every, Apart, Disjoint}
 use Rattle.matrix.specs.Steps.{partner-bit, rest-lt, rest-own}
 use Rattle.matrix.specs.Reached.{Independent, independent-fewer, reaches, reached-next, reached-cong}
-use Rattle.moves.specs.Step.{Ready, stepRows, stepPoint, step-lt, step-word, step-sound, step-words, step-good, step-apart, step-disjoint, step-length}
+use Rattle.moves.specs.Step.{Ready, stepRows, step-lt, step-word, step-sound, step-words, step-good, step-apart, step-disjoint, step-length}
 
 -- ---- the step of one chosen number
 

@@ -1,7 +1,7 @@
 // Small steps on numbers that the inner loops share: powers of two, parities, single bits, and an XOR that a digit switches.
 // Every function here is inner: callers meet what it requires.
 ghost use mathlib.Core.Path.{_≡_};
-ghost use Prim.Native.Nat.{_≤_, _<_, _^_, _*_};
+ghost use Prim.Native.Nat.{_<_, _^_, _*_};
 ghost use lib.Bits.{bitXor};
 ghost use Rattle.bits.specs.Digits.{bit, parity};
 

@@ -2,7 +2,7 @@
 -- it is the number of points x under the first row with x XOR t under the second. Not here: its closed form (`Closed`), and the sum
 -- over all pairs (`Theorem`). Assumes nothing.
 use mathlib.Core.Path.{_≡_, sym, ap, _∙_, subst₂}
-use mathlib.Core.Bool.{Bool, true, false, _&&_}
+use mathlib.Core.Bool.{Bool, _&&_}
 use Prim.Native.Nat.{ℕ, zero, suc, _+_, _*_, _/_, _%_, _^_, _<_, min}
 use native.Mathlib.Decide.{ℕ-discrete}
 use native.Mathlib.Nat.{pow-suc, mul-add}

@@ -14,7 +14,6 @@ use borrow.Author.Tests.{eq-eqb, ne-eqb, le-leb, lt-leb, leb-true}
 use lib.Bits.{bitAnd}
 use lib.Dec.{eqb, leb}
 use lib.ListN.{length, getD, length-append}
-use lib.Pow.{pow-mono}
 use Rattle.bits.specs.Xor.{eqb-turn}
 use Rattle.slices.specs.Places.{at, over}
 use Rattle.slices.specs.Filled.{over-map-at}

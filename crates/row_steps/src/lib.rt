@@ -2,7 +2,6 @@
 // Every function here is inner.
 use block::LIST_INPUTS;
 use block::SMALLER_ROWS;
-ghost use mathlib.Core.Path.{_≡_};
 ghost use Prim.Native.Nat.{_≤_};
 ghost use lib.ListN.{length};
 ghost use Rattle.slices.specs.Places.{at};

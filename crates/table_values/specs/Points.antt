@@ -1,14 +1,11 @@
 -- What one point of a full table adds to R(t), by what its entries hold. Assumes nothing.
-use mathlib.Core.Path.{_≡_, refl, sym, ap, _∙_}
-use mathlib.Core.Bool.{Bool, true, false, not, _&&_, and-false}
+use mathlib.Core.Path.{_≡_, refl, sym}
+use mathlib.Core.Bool.{and-false}
 use mathlib.Core.List.{List}
 use Prim.Native.Nat.{ℕ, _<_}
-use native.Mathlib.Omega.{arith}
 use borrow.Author.Tests.{eq-eqb, ne-eqb}
 use lib.Bits.{bitXor}
-use lib.Dec.{eqb}
-use lib.ListN.{length, getD}
-use lib.Pow.{pow-mono}
+use lib.ListN.{length}
 use Rattle.slices.specs.Places.{at}
 use Rattle.slices.specs.Filled.{getD-any}
 use Rattle.sums.specs.Sums.{one}

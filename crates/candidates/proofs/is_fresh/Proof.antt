@@ -5,7 +5,6 @@ use mathlib.Core.Path.{_≡_, sym, _∙_}
 use native.Mathlib.Omega.{arith}
 use denote.Ref.{now}
 use lib.Bits.{bitAnd}
-use lib.ListN.{length}
 use Rattle.bits.specs.Parity.{parity-lt}
 use Rattle.slices.specs.Places.{at}
 use Rattle.block.specs.Basis.{apply}

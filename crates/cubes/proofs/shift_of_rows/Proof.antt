@@ -4,7 +4,6 @@ use mathlib.Core.Path.{_≡_, sym, ap, _∙_}
 use mathlib.Core.Logic.{⊎-elim}
 use Prim.Native.Nat.{_≤_, _<_, _-_}
 use native.Mathlib.Omega.{arith}
-use denote.Ref.{now}
 use Rattle.block.specs.Limits.{listInputs}
 use Rattle.block.specs.Words.{rowsOf}
 use Rattle.pairs.specs.Symmetric.{added, added-none, cubesTo, cubes-none}

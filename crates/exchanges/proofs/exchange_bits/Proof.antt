@@ -1,9 +1,8 @@
 -- `exchanges::exchange_bits` meets its contract. Assumes nothing.
-use mathlib.Core.Path.{_≡_, ap₂, _∙_}
-use Prim.Native.Nat.{ℕ, _+_, _*_, _%_, _^_}
+use mathlib.Core.Path.{ap₂, _∙_}
+use Prim.Native.Nat.{ℕ, _+_, _*_, _%_}
 use native.Mathlib.Omega.{arith}
 use lib.Bits.{bitXor}
-use Rattle.bits.specs.Digits.{bit}
 use Rattle.bits.specs.Bit.{bit-lt}
 use Rattle.block.specs.Rows.{exchange}
 use borrow.Author.Needs.{needs}

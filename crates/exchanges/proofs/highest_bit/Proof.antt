@@ -1,11 +1,9 @@
 -- `exchanges::highest_bit` meets its contract. The loop's invariant: no position from m on has a one, so the highest below n is the highest
 -- below m. The measure is m. Assumes nothing.
 use mathlib.Core.Path.{_≡_, refl, sym, ap, _∙_}
-use mathlib.Core.Bool.{cond}
 use Prim.Native.Nat.{ℕ, suc, _≤_, _<_, _-_}
 use native.Mathlib.Omega.{arith}
 use borrow.Author.Tests.{eq-eqb, ne-eqb}
-use lib.Dec.{eqb}
 use Rattle.bits.specs.Digits.{bit}
 use Rattle.block.specs.Rows.{highest}
 use borrow.Author.Needs.{needs}

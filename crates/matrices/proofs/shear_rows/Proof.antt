@@ -1,11 +1,11 @@
 -- `matrices::shear_rows` meets its contract. The loop's invariant: the first j rows are done, the rest is as it was. The measure is
 -- what is left. Assumes nothing.
-use mathlib.Core.Path.{_≡_, sym, ap, ap₂, _∙_}
+use mathlib.Core.Path.{_≡_, ap, ap₂, _∙_}
 use mathlib.Core.List.{List}
-use Prim.Native.Nat.{ℕ, _≤_, _<_, _-_, _+_, _*_}
+use Prim.Native.Nat.{ℕ, _≤_, _-_, _*_}
 use native.Mathlib.Omega.{arith}
 use lib.Bits.{bitXor}
-use lib.ListN.{length, getD}
+use lib.ListN.{length}
 use Rattle.bits.specs.Digits.{bit}
 use Rattle.bits.specs.Bit.{bit-lt}
 use Rattle.slices.specs.Places.{at, tab, over}

@@ -1,13 +1,11 @@
 -- `matrix_steps::advance` meets its contract: an exchange and then a shear are a step. Assumes nothing.
-use mathlib.Core.Path.{_≡_, sym, ap, ap₂, _∙_}
-use Prim.Native.Nat.{ℕ, _≤_, _<_, _^_}
+use mathlib.Core.Path.{_≡_, ap, _∙_}
+use Prim.Native.Nat.{ℕ, _<_, _^_}
 use native.Mathlib.Omega.{arith}
 use lib.Bits.{bitXor}
 use denote.Ref.{now}
-use Rattle.slices.specs.Places.{at}
-use Rattle.block.specs.Basis.{apply}
 use Rattle.block.specs.Rows.{partner, exchange, rest}
-use Rattle.matrix_steps.specs.Steps.{Advanced, partner-lt, step-made}
+use Rattle.matrix_steps.specs.Steps.{partner-lt, step-made}
 use borrow.Author.Needs.{needs}
 use Rattle.matrix_steps.proofs.advance.Statement.{statement}
 use Rattle.matrix_steps.proofs.advance.Tie as tie
