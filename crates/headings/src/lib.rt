@@ -15,9 +15,9 @@ ghost use Rattle.block.specs.Text.{headDigits};
 ghost use Rattle.lines.specs.ByPlace.{farthest, widthOf, leadOf, headAt, refusal, rangedOf, openWithin, openingOf};
 
 // A line whose first three bytes are a, b and c, before a number.
-pub fn lead(a: usize, b: usize, c: usize, letter: usize, v: Number) -> Number
-    requires { ⌜ widthOf v ≤ headDigits + 1 ⌝ }
-    ensures { λ r. ⌜ r ≡ leadOf a b c letter v ⌝ }
+pub fn lead(a: usize, b: usize, c: usize, letter: usize, number: Number) -> Number
+    requires { ⌜ widthOf number ≤ headDigits + 1 ⌝ }
+    ensures { λ r. ⌜ r ≡ leadOf a b c letter number ⌝ }
     ensures { λ r. ⌜ widthOf r ≤ headDigits + 4 ⌝ }
 {
     if a != 46 {
@@ -29,8 +29,8 @@ pub fn lead(a: usize, b: usize, c: usize, letter: usize, v: Number) -> Number
     if c != 32 {
         return Number::Formless;
     }
-    match v {
-        Number::Value(x, w) => Number::Value(x, w + 3),
+    match number {
+        Number::Value(v, size) => Number::Value(v, size + 3),
         Number::Formless => Number::Formless,
     }
 }
@@ -44,8 +44,8 @@ pub fn head_at(s: &[u8], from: usize, letter: usize) -> Number
     let a = read_bytes::byte(s, from);
     let b = read_bytes::byte(s, from + 1);
     let c = read_bytes::byte(s, from + 2);
-    let v = read_bytes::number_at(s, from + 3, HEAD_DIGITS);
-    lead(a, b, c, letter, v)
+    let number = read_bytes::number_at(s, from + 3, HEAD_DIGITS);
+    lead(a, b, c, letter, number)
 }
 
 // A refusal before any row.
@@ -80,14 +80,14 @@ pub fn read_headings(s: &[u8], room: usize) -> Opening
     ensures { λ r. ⌜ r ≡ openingOf (now (s .entry)) room ⌝ }
     ensures { λ r. ⌜ openWithin r room ⌝ }
 {
-    let Number::Value(n, u) = head_at(s, 0, 105) else {
+    let Number::Value(n, first) = head_at(s, 0, 105) else {
         return stop(Kind::Form, 1);
     };
-    let Number::Value(k, v) = head_at(s, u, 111) else {
+    let Number::Value(k, second) = head_at(s, first, 111) else {
         return stop(Kind::Form, 2);
     };
-    let Number::Value(p, w) = head_at(s, u + v, 112) else {
+    let Number::Value(p, third) = head_at(s, first + second, 112) else {
         return stop(Kind::Form, 3);
     };
-    ranged(n, k, p, u + v + w, room)
+    ranged(n, k, p, first + second + third, room)
 }

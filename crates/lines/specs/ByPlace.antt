@@ -40,36 +40,36 @@ longest = 9
 unfoldable pub digitsAt : List ℕ → ℕ → ℕ → ℕ
 digitsAt s from most = first most (λ i. not (isDigit (at s (from + i))))
 
--- the w bytes from a place on
+-- so many bytes from a place on
 abbrev pub bytesAt : List ℕ → ℕ → ℕ → List ℕ
-bytesAt s from w = tab w (λ i. at s (from + i))
+bytesAt s from count = tab count (λ i. at s (from + i))
 
--- w digits that spell v, of which the first is `lead`, before the byte `last`: a number, and its bytes with its LF
+-- `count` digits that spell v, of which the first is `lead`, before the byte `last`: a number, and its bytes with its LF
 unfoldable pub endedOf : ℕ → ℕ → ℕ → ℕ → Number
-endedOf w v lead last =
+endedOf count v lead last =
     cond (eqb last 10)
-    (cond (eqb w 0) Formless
-    (cond (eqb w 1) (Value v 2)
-    (cond (eqb lead 48) Formless (Value v (w + 1)))))
+    (cond (eqb count 0) Formless
+    (cond (eqb count 1) (Value v 2)
+    (cond (eqb lead 48) Formless (Value v (count + 1)))))
     Formless
 
 -- the number of 1 to `most` digits from a place on, ended by LF
 unfoldable pub numberAt : List ℕ → ℕ → ℕ → Number
 numberAt s from most =
-    let w : ℕ = digitsAt s from most in
-    endedOf w (valueOf (bytesAt s from w)) (at s from) (at s (from + w))
+    let count : ℕ = digitsAt s from most in
+    endedOf count (valueOf (bytesAt s from count)) (at s from) (at s (from + count))
 
 -- the bytes that a number takes
 abbrev pub widthOf : Number → ℕ
 widthOf Formless = 0
-widthOf (Value v w) = w
+widthOf (Value v size) = size
 
 -- ---- headings
 
 -- three bytes more before the number
 abbrev pub widened : Number → Number
 widened Formless = Formless
-widened (Value v w) = Value v (w + 3)
+widened (Value v size) = Value v (size + 3)
 
 -- a line that begins with the bytes a, b and c, before a number
 unfoldable pub leadOf : ℕ → ℕ → ℕ → ℕ → Number → Number

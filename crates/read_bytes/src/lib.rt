@@ -24,26 +24,26 @@ pub fn is_digit(b: usize) -> bool
     b <= 57
 }
 
-// A number of w digits that spell v, of which the first is `lead`, before the byte `last`: no number without a digit or LF, and none of
-// two digits or more with a leading zero.
-pub fn ended(w: usize, v: usize, lead: usize, last: usize) -> Number
-    requires { ⌜ w < farthest ⌝ }
-    ensures { λ r. ⌜ r ≡ endedOf w v lead last ⌝ }
-    ensures { λ r. ⌜ widthOf r ≤ w + 1 ⌝ }
+// A number of `count` digits that spell v, of which the first is `lead`, before the byte `last`. None is without a digit or without LF,
+// and none of two digits or more has a leading zero.
+pub fn ended(count: usize, v: usize, lead: usize, last: usize) -> Number
+    requires { ⌜ count < farthest ⌝ }
+    ensures { λ r. ⌜ r ≡ endedOf count v lead last ⌝ }
+    ensures { λ r. ⌜ widthOf r ≤ count + 1 ⌝ }
 {
     if last != 10 {
         return Number::Formless;
     }
-    if w == 0 {
+    if count == 0 {
         return Number::Formless;
     }
-    if w == 1 {
+    if count == 1 {
         return Number::Value(v, 2);
     }
     if lead == 48 {
         return Number::Formless;
     }
-    Number::Value(v, w + 1)
+    Number::Value(v, count + 1)
 }
 
 // The number of 1 to `most` digits from a place on, ended by LF.
@@ -54,14 +54,14 @@ pub fn number_at(s: &[u8], from: usize, most: usize) -> Number
 {
     let lead = byte(s, from);
     let mut v = 0;
-    let mut w = 0;
-    while w < most {
-        let b = byte(s, from + w);
+    let mut count = 0;
+    while count < most {
+        let b = byte(s, from + count);
         if !is_digit(b) {
-            return ended(w, v, lead, b);
+            return ended(count, v, lead, b);
         }
         v = v * 10 + (b - 48);
-        w += 1;
+        count += 1;
     }
-    ended(w, v, lead, byte(s, from + w))
+    ended(count, v, lead, byte(s, from + count))
 }

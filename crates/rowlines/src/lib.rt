@@ -13,14 +13,14 @@ pub fn first_broken(s: &[u8], n: usize, k: usize, p: usize) -> usize
     requires { ⌜ (n ≤ listInputs) × (k ≤ outputs) × (p ≤ smallerRows) ⌝ }
     ensures { λ r. ⌜ r ≡ first p (brokenLine (now (s .entry)) n k) ⌝ }
 {
-    let w = n + k + 2;
+    let bytes = n + k + 2;
     let mut from = 0;
     let mut i = 0;
     while i < p {
         if spellings::is_broken(spellings::read_row(s, from, n, k)) {
             return i;
         }
-        from += w;
+        from += bytes;
         i += 1;
     }
     i
@@ -42,7 +42,7 @@ pub fn fill(
     ensures { λ _. ⌜ now (values .exit) ≡ over (tab p (fieldOf valuesPart (now (s .entry)) n k)) (now (values .entry)) ⌝ }
     ensures { λ _. ⌜ now (words .exit) ≡ over (tab p (fieldOf wordPart (now (s .entry)) n k)) (now (words .entry)) ⌝ }
 {
-    let w = n + k + 2;
+    let bytes = n + k + 2;
     let mut from = 0;
     let mut i = 0;
     while i < p {
@@ -50,7 +50,7 @@ pub fn fill(
         masks[i] = r.mask;
         values[i] = r.values;
         words[i] = r.word;
-        from += w;
+        from += bytes;
         i += 1;
     }
 }

@@ -58,10 +58,10 @@ pub fn joined(inputs: Spelling, gap: usize, outputs: Spelling, end: usize) -> Li
         Spelling::Bad => Line::Broken,
         Spelling::Good(m, v) => match outputs {
             Spelling::Bad => Line::Broken,
-            Spelling::Good(_, w) => Line::Sound(Row {
+            Spelling::Good(_, word) => Line::Sound(Row {
                 mask: m,
                 values: v,
-                word: w,
+                word,
             }),
         },
     }

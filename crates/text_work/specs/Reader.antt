@@ -31,7 +31,7 @@ use Rattle.listing.specs.Listing.{rowsFrom, rows-of}
 use Rattle.lines.specs.Front.{rows-count}
 use Rattle.sheet_work.specs.Work.{withSheet, sheetWork}
 use Rattle.sheet_work.specs.declared.SheetWork.{SheetWork}
-use Rattle.text_work.specs.Work.{textVerdict, sheetIn, textWork}
+use Rattle.text_work.specs.Work.{firstRows, textVerdict, sheetIn, textWork}
 
 -- every refusal has a number of its own
 kind-some : (k : Kind) → kindNumber k ≡ 0 → ⊥
@@ -142,13 +142,13 @@ module _ (input text : List ℕ) (reading : Reading) (cut : text ≡ take readBy
     pub reader-accepted : (m v d m′ v′ d′ : List ℕ) → m′ ≡ stored u (map maskPart (rowsIn text)) m
         → v′ ≡ stored u (map valuesPart (rowsIn text)) v → d′ ≡ stored u (map wordPart (rowsIn text)) d
         → (l l′ : List ℕ) (r : SheetWork) → sheetRoom ≤ length l
-        → r ≡ sheetWork (h .n) (h .k) (min 3 (h .n)) (rowsOf (take (h .count) m′) (take (h .count) v′) (take (h .count) d′)) (length l)
-        → l′ ≡ stored (sheetVerdict (h .n) (h .k) (min 3 (h .n)) (rowsOf (take (h .count) m′) (take (h .count) v′) (take (h .count) d′)) (length l))
-        (sheetText (h .n) (h .k) (min 3 (h .n)) (rowsOf (take (h .count) m′) (take (h .count) v′) (take (h .count) d′))) l
+        → r ≡ sheetWork (h .n) (h .k) (min 3 (h .n)) (firstRows (h .count) m′ v′ d′) (length l)
+        → l′ ≡ stored (sheetVerdict (h .n) (h .k) (min 3 (h .n)) (firstRows (h .count) m′ v′ d′) (length l))
+        (sheetText (h .n) (h .k) (min 3 (h .n)) (firstRows (h .count) m′ v′ d′)) l
         → (r ≡ textWork input) × (l′ ≡ stored (textVerdict input) (sheetIn input) l)
     unfolding sheetWork textWork textVerdict sheetIn
     reader-accepted m v d m′ v′ d′ a b c l l′ r long e q =
-        let rows : rowsOf (take (h .count) m′) (take (h .count) v′) (take (h .count) d′) ≡ rowsIn text =
+        let rows : firstRows (h .count) m′ v′ d′ ≡ rowsIn text =
         rw (
           front maskPart m m′ a,
           front valuesPart v v′ b,

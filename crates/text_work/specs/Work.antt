@@ -5,7 +5,7 @@ use mathlib.Core.List.{List}
 use Prim.Native.Nat.{ℕ, min}
 use lib.ListN.{length, take}
 use Rattle.block.specs.Limits.{sheetRoom, givenRows, readBytes}
-use Rattle.block.specs.Words.{ofRows}
+use Rattle.block.specs.Words.{ofRows, rowsOf}
 use Rattle.block.specs.Measure.{measure}
 use Rattle.block.specs.Basis.{smallerOf}
 use Rattle.block.specs.Refusals.{answered}
@@ -16,6 +16,10 @@ use Rattle.block.specs.declared.Row.{Row}
 use Rattle.block.specs.declared.Answer.{Answer}
 use Rattle.sheet_work.specs.Work.{withSheet}
 use Rattle.sheet_work.specs.declared.SheetWork.{SheetWork}
+
+-- the list of the first rows in storage
+abbrev pub firstRows : ℕ → List ℕ → List ℕ → List ℕ → List Row
+firstRows count masks values words = rowsOf (take count masks) (take count values) (take count words)
 
 -- the reader's refusal, or else the sheet's verdict
 unfoldable pub textVerdict : List ℕ → Answer

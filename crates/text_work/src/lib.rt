@@ -12,7 +12,7 @@ ghost use Rattle.block.specs.Words.{rowsOf};
 ghost use Rattle.block.specs.Refusals.{stored};
 ghost use Rattle.block.specs.Sheet.{sheetText, sheetVerdict};
 ghost use Rattle.sheet_work.specs.Work.{sheetWork};
-ghost use Rattle.text_work.specs.Work.{textVerdict, sheetIn, textWork};
+ghost use Rattle.text_work.specs.Work.{firstRows, textVerdict, sheetIn, textWork};
 
 // The first bytes of a text, at most so many.
 pub fn first_bytes(text: &[u8], most: usize) -> &[u8]
@@ -48,6 +48,30 @@ pub fn work_list(
     sheet_work::make_sheet(n, k, w, masks, values, words, out)
 }
 
+// Writes the sheet of the list of the first `count` rows in storage to the front of out, or refuses.
+pub fn work_rows(
+    n: usize,
+    k: usize,
+    count: usize,
+    masks: &[u32],
+    values: &[u32],
+    words: &[u32],
+    out: &mut [u8],
+) -> SheetWork
+    requires { ⌜ (count ≤ length (now masks)) × (count ≤ length (now values)) × (count ≤ length (now words)) ⌝ }
+    ensures { λ r. ⌜ r ≡ sheetWork n k (min 3 n) (firstRows count (now (masks .entry)) (now (values .entry)) (now (words .entry))) (length (now (out .entry))) ⌝ }
+    ensures { λ r. ⌜ now (out .exit) ≡ stored (sheetVerdict n k (min 3 n) (firstRows count (now (masks .entry)) (now (values .entry)) (now (words .entry))) (length (now (out .entry)))) (sheetText n k (min 3 n) (firstRows count (now (masks .entry)) (now (values .entry)) (now (words .entry)))) (now (out .entry)) ⌝ }
+{
+    work_list(
+        n,
+        k,
+        &masks[..count],
+        &values[..count],
+        &words[..count],
+        out,
+    )
+}
+
 // Writes the sheet of a text to the front of out, or refuses.
 pub fn work_text(input: &[u8], out: &mut [u8]) -> SheetWork
     requires { ⌜ sheetRoom ≤ length (now out) ⌝ }
@@ -72,13 +96,6 @@ pub fn work_text(input: &[u8], out: &mut [u8]) -> SheetWork
                 count: 0,
             }
         }
-        Reading::Accepted(h) => work_list(
-            h.n,
-            h.k,
-            &masks[..h.count],
-            &values[..h.count],
-            &words[..h.count],
-            out,
-        ),
+        Reading::Accepted(h) => work_rows(h.n, h.k, h.count, &masks, &values, &words, out),
     }
 }

@@ -21,18 +21,18 @@ returns-3 : tie.Need-returns-3
 unfolding leadOf
 returns-3 c = (search tests, search needs)
 
-enum-known-v : tie.Need-enum-known-v
-enum-known-v c = search needs
+enum-known-number : tie.Need-enum-known-number
+enum-known-number c = search needs
 
 add-t10 : tie.Need-add-t10
-add-t10 c = omega (arith, ap widthOf (c .before .v .given .1))
+add-t10 c = omega (arith, ap widthOf (c .before .number .given .1))
 
 enum-told : tie.Need-enum-told
 enum-told c = search needs
 
 returns-4 : tie.Need-returns-4
 unfolding leadOf
-returns-4 c = (search (tests, c .before .v .given .1), omega (arith, ap widthOf (c .before .v .given .1)))
+returns-4 c = (search (tests, c .before .number .given .1), omega (arith, ap widthOf (c .before .number .given .1)))
 
 returns-5 : tie.Need-returns-5
 unfolding leadOf
@@ -41,4 +41,4 @@ returns-5 c = (search (tests, c .enum-told .given .1), search needs)
 pub lead-spec : {M : Type 1} → statement M
 lead-spec =
     tie.close
-    (tie.spec returns returns-2 returns-3 enum-known-v add-t10 enum-told returns-4 returns-5)
+    (tie.spec returns returns-2 returns-3 enum-known-number add-t10 enum-told returns-4 returns-5)

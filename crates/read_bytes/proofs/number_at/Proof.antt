@@ -1,4 +1,4 @@
--- `read_bytes::number_at` meets its contract. The loop's invariant: the first w bytes are digits, and v is what they spell. The measure is
+-- `read_bytes::number_at` meets its contract. The loop's invariant: the first `count` bytes are digits, and v is what they spell. The measure is
 -- the number of digits left. Assumes nothing.
 use Prim.Native.Nat.{_-_, _≤_}
 use mathlib.Core.Path.{_≡_, sym, _∙_}
@@ -15,10 +15,10 @@ use Rattle.read_bytes.proofs.number_at.Statement.{statement}
 use Rattle.read_bytes.proofs.number_at.Tie as tie
 
 abbrev Inv-loop : tie.InvT-loop
-Inv-loop s from most lead v₀ w₀ v w = (w ≤ most) × (AllDigits s from w) × (v ≡ valueOf (bytesAt s from w))
+Inv-loop s from most lead v₀ count₀ v count = (count ≤ most) × (AllDigits s from count) × (v ≡ valueOf (bytesAt s from count))
 
 abbrev μ-loop : tie.MeasureT-loop
-μ-loop s from most lead v₀ w₀ v w = most - w
+μ-loop s from most lead v₀ count₀ v count = most - count
 
 byte-requires : tie.Need-byte-requires Inv-loop μ-loop
 byte-requires c κs = search needs
@@ -45,7 +45,7 @@ returns c =
     let here = c .before .before .before .byte2 .ensures .0 in (
       c .ended .ensures .0
           ∙ rw (turn .loop .inv .2, turn .before .byte .ensures .0, here)
-          (number-ends (now (a .s)) (a .from) (a .most) (turn .loop .w) (omega arith) (turn .loop .inv .1)
+          (number-ends (now (a .s)) (a .from) (a .most) (turn .loop .count) (omega arith) (turn .loop .inv .1)
           (λ _. rw (← here) (sym (c .before .before .is-digit .ensures) ∙ not-true _ (c .before .if1 .taken)))),
       omega (arith, c .ended .ensures .1),
     )
@@ -54,7 +54,7 @@ mul-v : tie.Need-mul-v Inv-loop μ-loop
 mul-v c =
     let turn = c .before .before .before .before in
     let a = turn .before .before .before .args in
-    omega (arith, turn .loop .inv .2, value-below (now (a .s)) (a .from) longest (turn .loop .w) (omega arith) (turn .loop .inv .1))
+    omega (arith, turn .loop .inv .2, value-below (now (a .s)) (a .from) longest (turn .loop .count) (omega arith) (turn .loop .inv .1))
 
 sub-v : tie.Need-sub-v Inv-loop μ-loop
 sub-v c = let d = digit-range (c .before .before .byte2 .result) (sym (c .before .is-digit .ensures) ∙ not-false _ (c .if1 .left)) in omega arith
@@ -63,10 +63,10 @@ add-v : tie.Need-add-v Inv-loop μ-loop
 add-v c =
     let turn = c .before .before .before .before in
     let a = turn .before .before .before .args in
-    omega (arith, turn .loop .inv .2, c .before .before .byte2 .ensures .1, value-below (now (a .s)) (a .from) longest (turn .loop .w) (omega arith) (turn .loop .inv .1))
+    omega (arith, turn .loop .inv .2, c .before .before .byte2 .ensures .1, value-below (now (a .s)) (a .from) longest (turn .loop .count) (omega arith) (turn .loop .inv .1))
 
-add-w : tie.Need-add-w Inv-loop μ-loop
-add-w c = omega arith
+add-count : tie.Need-add-count Inv-loop μ-loop
+add-count c = omega arith
 
 loop-less : tie.Need-loop-less Inv-loop μ-loop
 loop-less c = omega arith
@@ -78,7 +78,7 @@ loop-again c =
     let here = c .before .before .byte2 .ensures .0 in (
       omega arith,
       below-more _ _ (turn .loop .inv .1) (rw (← here) (sym (c .before .is-digit .ensures) ∙ not-false _ (c .if1 .left))),
-      rw (turn .loop .inv .2, here) (value-more (now (a .s)) (a .from) (turn .loop .w)),
+      rw (turn .loop .inv .2, here) (value-more (now (a .s)) (a .from) (turn .loop .count)),
     )
 
 add-byte-2 : tie.Need-add-byte-2 Inv-loop μ-loop
@@ -96,7 +96,7 @@ returns-2 c =
     let a = turn .before .before .before .args in (
       c .ended2 .ensures .0
           ∙ rw (turn .loop .inv .2, turn .before .byte .ensures .0, c .before .byte3 .ensures .0)
-          (number-ends (now (a .s)) (a .from) (a .most) (turn .loop .w) (omega arith) (turn .loop .inv .1) (λ l. absurd (omega arith))),
+          (number-ends (now (a .s)) (a .from) (a .most) (turn .loop .count) (omega arith) (turn .loop .inv .1) (λ l. absurd (omega arith))),
       omega (arith, c .ended2 .ensures .1),
     )
 
@@ -116,7 +116,7 @@ number-at-spec =
     mul-v
     sub-v
     add-v
-    add-w
+    add-count
     loop-less
     loop-again
     add-byte-2

@@ -15,7 +15,7 @@ use Rattle.rowlines.proofs.fill.Statement.{statement}
 use Rattle.rowlines.proofs.fill.Tie as tie
 
 abbrev Inv-loop : tie.InvT-loop
-Inv-loop s n k p masks₀ values₀ words₀ w from₀ i₀ masks values words from i =
+Inv-loop s n k p masks₀ values₀ words₀ bytes from₀ i₀ masks values words from i =
     (i ≤ p) × (from ≡ i * (n + k + 2))
     × (masks ≡ over (tab i (fieldOf maskPart s n k)) masks₀)
     × (values ≡ over (tab i (fieldOf valuesPart s n k)) values₀)
@@ -23,13 +23,13 @@ Inv-loop s n k p masks₀ values₀ words₀ w from₀ i₀ masks values words f
     × (length masks ≡ length masks₀) × (length values ≡ length values₀) × (length words ≡ length words₀)
 
 abbrev μ-loop : tie.MeasureT-loop
-μ-loop s n k p masks₀ values₀ words₀ w from₀ i₀ masks values words from i = p - i
+μ-loop s n k p masks₀ values₀ words₀ bytes from₀ i₀ masks values words from i = p - i
 
-add-w : tie.Need-add-w Inv-loop μ-loop
-add-w c = omega arith
+add-bytes : tie.Need-add-bytes Inv-loop μ-loop
+add-bytes c = omega arith
 
-add-w-2 : tie.Need-add-w-2 Inv-loop μ-loop
-add-w-2 c = omega arith
+add-bytes-2 : tie.Need-add-bytes-2 Inv-loop μ-loop
+add-bytes-2 c = omega arith
 
 loop-holds : tie.Need-loop-holds Inv-loop μ-loop
 loop-holds c = (search needs, omega arith, over-none _ _, over-none _ _, over-none _ _, refl, refl, refl)
@@ -112,8 +112,8 @@ fill-spec =
     (tie.spec
     Inv-loop
     μ-loop
-    add-w
-    add-w-2
+    add-bytes
+    add-bytes-2
     loop-holds
     read-row-requires
     row-or-requires

@@ -14,17 +14,17 @@ use Rattle.rowlines.proofs.first_broken.Tie as tie
 use Rattle.rowlines.proofs.first_broken.Statement.{statement}
 
 abbrev Inv-loop : tie.InvT-loop
-Inv-loop s n k p w from₀ i₀ from i =
+Inv-loop s n k p bytes from₀ i₀ from i =
     (i ≤ p) × (from ≡ i * (n + k + 2)) × ((j : ℕ) → j < i → brokenLine s n k j ≡ false)
 
 abbrev μ-loop : tie.MeasureT-loop
-μ-loop s n k p w from₀ i₀ from i = p - i
+μ-loop s n k p bytes from₀ i₀ from i = p - i
 
-add-w : tie.Need-add-w Inv-loop μ-loop
-add-w c = omega arith
+add-bytes : tie.Need-add-bytes Inv-loop μ-loop
+add-bytes c = omega arith
 
-add-w-2 : tie.Need-add-w-2 Inv-loop μ-loop
-add-w-2 c = omega arith
+add-bytes-2 : tie.Need-add-bytes-2 Inv-loop μ-loop
+add-bytes-2 c = omega arith
 
 loop-holds : tie.Need-loop-holds Inv-loop μ-loop
 loop-holds c = (search needs, omega arith, λ j h. absurd (omega arith))
@@ -80,8 +80,8 @@ first-broken-spec =
     (tie.spec
     Inv-loop
     μ-loop
-    add-w
-    add-w-2
+    add-bytes
+    add-bytes-2
     loop-holds
     read-row-requires
     is-broken-requires

@@ -1,9 +1,8 @@
 -- `text_work::work_text` meets its contract: by the reader's answer, the refusal or the work of the rows in storage. Assumes nothing.
 use native.Mathlib.Omega.{arith}
-use denote.Ref.{now}
-use lib.ListN.{length-take}
-use Rattle.text_work.specs.Reader.{reader-refused, reader-count, reader-accepted}
 use borrow.Author.Needs.{needs}
+use denote.Ref.{now}
+use Rattle.text_work.specs.Reader.{reader-refused, reader-count, reader-accepted}
 use Rattle.text_work.proofs.work_text.Statement.{statement}
 use Rattle.text_work.proofs.work_text.Tie as tie
 
@@ -31,56 +30,23 @@ kind-number-requires c κs = search needs
 enum-known-reading-2 : tie.Need-enum-known-reading-2
 enum-known-reading-2 c = search needs
 
-array-share-prefix-masks : tie.Need-array-share-prefix-masks
-array-share-prefix-masks c =
-    let told = c .before in
+slice-aggregate-work-rows : tie.Need-slice-aggregate-work-rows
+slice-aggregate-work-rows c = search needs
+
+slice-aggregate-work-rows-2 : tie.Need-slice-aggregate-work-rows-2
+slice-aggregate-work-rows-2 c = search needs
+
+slice-aggregate-work-rows-3 : tie.Need-slice-aggregate-work-rows-3
+slice-aggregate-work-rows-3 c = search needs
+
+work-rows-requires : tie.Need-work-rows-requires
+work-rows-requires c κs =
+    let told = c .before .before .before .before .before in
     let read = told .before .before .before .before .before in
     let cut = read .before .before .before .before in
-    let h = reader-count (now (cut .before .before .before .args .input)) _ _ (cut .first-bytes .ensures) (read .read-text .ensures .answer) _ (told .reading2 .given .1) in
+    let a = cut .before .before .before .args in
+    let h = reader-count (now (a .input)) _ _ (cut .first-bytes .ensures) (read .read-text .ensures .answer) _ (told .reading2 .given .1) in
     omega arith
-
-slice-aggregate-work-list : tie.Need-slice-aggregate-work-list
-slice-aggregate-work-list c =
-    let told = c .before .before in
-    let read = told .before .before .before .before .before in
-    let cut = read .before .before .before .before in
-    let h = reader-count (now (cut .before .before .before .args .input)) _ _ (cut .first-bytes .ensures) (read .read-text .ensures .answer) _ (told .reading2 .given .1) in
-    simp length-take (omega arith)
-
-array-share-prefix-values : tie.Need-array-share-prefix-values
-array-share-prefix-values c =
-    let told = c .before .before in
-    let read = told .before .before .before .before .before in
-    let cut = read .before .before .before .before in
-    let h = reader-count (now (cut .before .before .before .args .input)) _ _ (cut .first-bytes .ensures) (read .read-text .ensures .answer) _ (told .reading2 .given .1) in
-    omega arith
-
-slice-aggregate-work-list-2 : tie.Need-slice-aggregate-work-list-2
-slice-aggregate-work-list-2 c =
-    let told = c .before .before .before in
-    let read = told .before .before .before .before .before in
-    let cut = read .before .before .before .before in
-    let h = reader-count (now (cut .before .before .before .args .input)) _ _ (cut .first-bytes .ensures) (read .read-text .ensures .answer) _ (told .reading2 .given .1) in
-    simp length-take (omega arith)
-
-array-share-prefix-words : tie.Need-array-share-prefix-words
-array-share-prefix-words c =
-    let told = c .before .before .before in
-    let read = told .before .before .before .before .before in
-    let cut = read .before .before .before .before in
-    let h = reader-count (now (cut .before .before .before .args .input)) _ _ (cut .first-bytes .ensures) (read .read-text .ensures .answer) _ (told .reading2 .given .1) in
-    omega arith
-
-slice-aggregate-work-list-3 : tie.Need-slice-aggregate-work-list-3
-slice-aggregate-work-list-3 c =
-    let told = c .before .before .before .before in
-    let read = told .before .before .before .before .before in
-    let cut = read .before .before .before .before in
-    let h = reader-count (now (cut .before .before .before .args .input)) _ _ (cut .first-bytes .ensures) (read .read-text .ensures .answer) _ (told .reading2 .given .1) in
-    simp length-take (omega arith)
-
-work-list-requires : tie.Need-work-list-requires
-work-list-requires c κs = search needs
 
 returns : tie.Need-returns
 returns c =
@@ -101,7 +67,7 @@ returns-2 c =
     let cut = read .before .before .before .before in
     let start = cut .before .before .before in
     let r = read .read-text .ensures in
-    let e = c .before .before .work-list .ensures in
+    let e = c .before .before .work-rows .ensures in
     reader-accepted (now (start .args .input)) _ _ (cut .first-bytes .ensures) (r .answer) _ (told .reading2 .given .1) _ _ _ _ _ _ (r .rows .masks) (r .rows .values) (r .rows .words)
     (now (start .args .out)) _ _ (start .pre) (e .0) (e .1)
 
@@ -117,13 +83,10 @@ work-text-spec =
     enum-known-reading
     kind-number-requires
     enum-known-reading-2
-    array-share-prefix-masks
-    slice-aggregate-work-list
-    array-share-prefix-values
-    slice-aggregate-work-list-2
-    array-share-prefix-words
-    slice-aggregate-work-list-3
-    work-list-requires
+    slice-aggregate-work-rows
+    slice-aggregate-work-rows-2
+    slice-aggregate-work-rows-3
+    work-rows-requires
     returns
     same-length
     returns-2)
