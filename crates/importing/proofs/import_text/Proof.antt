@@ -20,10 +20,12 @@ put-line-requires c κs =
 
 returns : tie.Need-returns
 returns c =
-    let a = c .before .before .before .before .before .before .before .args in
-    let e = c .before .before .before .work-text .ensures in
+    let named = c .before in
+    let worked = named .before .before in
+    let a = worked .before .before .before .before .args in
+    let e = worked .work-text .ensures in
     let p = c .put-line .ensures in
-    let f = c .before .first-bytes .ensures in
+    let f = named .first-bytes .ensures in
     let m = line-made (now (a .name)) (now (a .text)) _ (now (a .line)) _ _ _ f (e .0) (p .0) (omega (arith, p .1, simp length-take at (ap length f))) in
     record { answer = m .0; sheet = e .1; line = m .1 }
 
