@@ -1,12 +1,11 @@
--- Reading row text: the room counts only up to 128 places, for no more rows are read; on 0 there is room for the rows; and what
+-- Reading row text: the room counts only up to as many places as a list has rows, for no more are read; on 0 there is room for the rows; and what
 -- `read_into` promises, from the promise of the operation on flat slices. Assumes nothing.
 use mathlib.Core.Path.{_≡_, refl, sym, ap, subst, _∙_}
 use mathlib.Core.Bool.{Bool, true, false}
 use mathlib.Core.List.{List, [], _∷_, _++_}
-use Prim.Native.Nat.{ℕ, _≤_, _<_, min}
-use native.Mathlib.Decide.{decLt}
+use Prim.Native.Nat.{ℕ, _≤_, min}
 use native.Mathlib.Omega.{arith}
-use borrow.Author.Tests.{lt-ltb, le-ltb, ltb-false}
+use borrow.Author.Tests.{ltb-false}
 use lib.Dec.{ltb}
 use lib.ListN.{length, take}
 use Rattle.block.specs.Limits.{listInputs, givenRows}
@@ -22,16 +21,9 @@ use Rattle.promises.specs.Texts.{ReadPromise}
 use Rattle.lines.specs.Front.{rows-count}
 use Rattle.record_copies.specs.declared.FlatRows.{FlatRows}
 use Rattle.record_copies.specs.Flat.{heldRows, Sized}
-use Rattle.record_copies.specs.Yielded.{lentArrays, stores, lent-room, yields, yielded-wider}
+use Rattle.record_copies.specs.Yielded.{lentArrays, stores, lent-room, yields, yielded-wider, short-alike}
 
--- ---- the room counts only up to 128 places
-
-fits-alike : (room p : ℕ) → p ≤ 128 → ltb (min room heldRows) p ≡ ltb room p
-fits-alike room p h = go (decLt room p)
-  where
-    go : Dec (room < p) → ltb (min room heldRows) p ≡ ltb room p
-    go (yes l) = lt-ltb (min room heldRows) p (omega arith) ∙ sym (lt-ltb room p l)
-    go (no l) = le-ltb (min room heldRows) p (omega arith) ∙ sym (le-ltb room p (omega arith))
+-- ---- the room counts only up to as many places as a list has rows
 
 read-cut : (text : List ℕ) (room : ℕ) → readVerdict text (min room heldRows) ≡ readVerdict text room
 unfolding readVerdict
@@ -55,7 +47,7 @@ read-cut text room = go (answered (verdict pre)) refl
     go : (b : Bool) → answered (verdict pre) ≡ b → verdict (pre ++ rest (ltb (min room heldRows) p)) ≡ verdict (pre ++ rest (ltb room p))
     go true e =
         ap (λ (short : Bool). verdict (pre ++ rest short))
-        (fits-alike room p (inside 1 givenRows p (answered-clear pre (refl, (refl, (refl, (refl, tt)))) e 3 (omega arith)) .1))
+        (short-alike room p (omega (arith, inside 1 givenRows p (answered-clear pre (refl, (refl, (refl, (refl, tt)))) e 3 (omega arith)) .1)))
     go false e = verdict-stop pre (rest (ltb (min room heldRows) p)) e ∙ sym (verdict-stop pre (rest (ltb room p)) e)
 
 -- ---- on 0 there is room for the rows

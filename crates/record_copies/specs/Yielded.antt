@@ -4,8 +4,11 @@
 use mathlib.Core.Path.{_≡_, refl, sym, ap, _∙_}
 use mathlib.Core.Bool.{Bool, true, false, cond}
 use mathlib.Core.List.{List, _++_, map}
-use Prim.Native.Nat.{ℕ, _≤_, _<_}
+use Prim.Native.Nat.{ℕ, _≤_, _<_, min}
+use native.Mathlib.Decide.{decLt}
 use native.Mathlib.Omega.{arith}
+use borrow.Author.Tests.{lt-ltb, le-ltb}
+use lib.Dec.{ltb}
 use lib.ListN.{length, getD, take, drop, List·getD-append}
 use lib.Seq.{ext-getD, length-take-le}
 use Rattle.slices.specs.Places.{at, tab, over}
@@ -39,6 +42,14 @@ yielded-wider {s = s} {count = count} e h y =
       within = y .within;
       rows = y .rows;
     }
+
+-- room is looked at up to as many places as are held: for so many rows or fewer it is too short where the whole room is
+pub short-alike : (room rows : ℕ) → rows ≤ heldRows → ltb (min room heldRows) rows ≡ ltb room rows
+short-alike room rows h = go (decLt room rows)
+  where
+    go : Dec (room < rows) → ltb (min room heldRows) rows ≡ ltb room rows
+    go (yes l) = lt-ltb (min room heldRows) rows (omega arith) ∙ sym (lt-ltb room rows l)
+    go (no l) = le-ltb (min room heldRows) rows (omega arith) ∙ sym (le-ltb room rows (omega arith))
 
 -- ---- the records are what the operation says
 

@@ -1,12 +1,11 @@
--- The row method's room for smaller rows: it counts only up to 512 places, and on 0 there is room for them. So what `method_into`
+-- The row method's room for smaller rows: it counts only up to as many places as a smaller block has rows, and on 0 there is room for them. So what `method_into`
 -- promises follows from the promise of the operation on flat slices, and what `method_of` promises from that. Assumes nothing.
 use mathlib.Core.Path.{_≡_, refl, sym, ap, subst, _∙_}
 use mathlib.Core.Bool.{Bool, true, false, _||_, false≢true}
 use mathlib.Core.List.{List, [], _∷_}
-use Prim.Native.Nat.{ℕ, suc, _-_, _≤_, _<_, min}
-use native.Mathlib.Decide.{decLt}
+use Prim.Native.Nat.{ℕ, suc, _-_, _≤_, min}
 use native.Mathlib.Omega.{arith}
-use borrow.Author.Tests.{lt-ltb, le-ltb, ltb-false}
+use borrow.Author.Tests.{ltb-false}
 use lib.Dec.{ltb}
 use lib.ListN.{length, take}
 use Rattle.slices.specs.Places.{first}
@@ -26,21 +25,14 @@ use Rattle.promises.specs.Lent.{Lent, lentFlat}
 use Rattle.promises.specs.Lists.{RowMethodPromise}
 use Rattle.record_copies.specs.declared.FlatRows.{FlatRows}
 use Rattle.record_copies.specs.Flat.{heldRows, Sized}
-use Rattle.record_copies.specs.Yielded.{lentArrays, stores, lent-room, yields, yielded-wider}
+use Rattle.record_copies.specs.Yielded.{lentArrays, stores, lent-room, yields, yielded-wider, short-alike}
 
--- ---- the room counts only up to 512 places
-
-short-alike : (room : ℕ) → ltb (min room heldRows) smallerRows ≡ ltb room smallerRows
-short-alike room = go (decLt room 512)
-  where
-    go : Dec (room < 512) → ltb (min room heldRows) 512 ≡ ltb room 512
-    go (yes l) = lt-ltb (min room heldRows) 512 (omega arith) ∙ sym (lt-ltb room 512 l)
-    go (no l) = le-ltb (min room heldRows) 512 (omega arith) ∙ sym (le-ltb room 512 (omega arith))
+-- ---- the room counts only up to as many places as a smaller block has rows
 
 module _ (n k w : ℕ) (rs : List Row) (a b room : ℕ) where
   verdict-room : rowMethodVerdict n k w rs a b (min room heldRows) ≡ rowMethodVerdict n k w rs a b room
   unfolding rowMethodVerdict
-  verdict-room = ap (λ (s : Bool). verdict (methodChecks n k w rs (ltb a n || (ltb b n || s)))) (short-alike room)
+  verdict-room = ap (λ (s : Bool). verdict (methodChecks n k w rs (ltb a n || (ltb b n || s)))) (short-alike room smallerRows (omega arith))
 
   -- ---- on 0 there is room for the smaller rows
 
@@ -67,9 +59,9 @@ module _ (n k w : ℕ) (rs : List Row) (a b room : ℕ) where
       let some : 1 ≤ n = inside 1 listInputs n (clear 0 (omega arith)) .0 in
       let none : n ≤ first n p = ltb-false (first n p) n (clear 7 (omega arith)) in
       let same : suc (n - 1) ≡ n = omega arith in
-      let enough : 512 ≤ room = ltb-false room 512 (last-false (ltb a n) (ltb b n) (ltb room 512) (clear 4 (omega arith))) in
-      let few : length (rowsAfter n w (suc (n - 1)) rs) ≤ 512 = ltb-false 512 (length (rowsAfter n w (suc (n - 1)) rs)) (first-below n p (n - 1) (omega arith)) in
-      let all : length (rowsAfter n w n rs) ≤ 512 = subst (λ (i : ℕ). length (rowsAfter n w i rs) ≤ 512) same few in
+      let enough : smallerRows ≤ room = ltb-false room smallerRows (last-false (ltb a n) (ltb b n) (ltb room smallerRows) (clear 4 (omega arith))) in
+      let few : length (rowsAfter n w (suc (n - 1)) rs) ≤ smallerRows = ltb-false smallerRows (length (rowsAfter n w (suc (n - 1)) rs)) (first-below n p (n - 1) (omega arith)) in
+      let all : length (rowsAfter n w n rs) ≤ smallerRows = subst (λ (i : ℕ). length (rowsAfter n w i rs) ≤ smallerRows) same few in
       omega arith
 
 -- ---- the promise, from one lent room to another

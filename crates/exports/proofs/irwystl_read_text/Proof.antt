@@ -21,8 +21,8 @@ same-length-3 c = search needs
 
 returns : tie.Need-returns
 returns c =
-    let e = c .before .before .before .before .before .before .before .read-text .ensures in
-    record { answer = c .in-numbers .ensures ∙ e .answer; rows = e .rows }
+    let read = c .before .before .before .before .before .before .before .read-text .ensures in
+    record { answer = c .in-numbers .ensures ∙ read .answer; rows = read .rows }
 
 pub irwystl-read-text-spec : {M : Type 1} → statement M
 irwystl-read-text-spec =

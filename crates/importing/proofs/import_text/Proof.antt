@@ -22,12 +22,14 @@ put-line-requires c κs =
 
 returns : tie.Need-returns
 returns c =
-    let a = c .before .before .before .before .before .before .before .args in
-    let e = c .before .before .before .work-text .ensures in
+    let named = c .before in
+    let worked = named .before .before in
+    let a = worked .before .before .before .before .args in
+    let e = worked .work-text .ensures in
     let p = c .put-line .ensures in
-    let part = c .before .first-bytes in
+    let part = named .first-bytes in
     let m = line-made (now (a .name)) (now (a .text)) _ (now (a .line)) _ _ _ (part .ensures) (e .0) p
-    (omega (arith, p .place, line-le (now (part .result)) (c .before .before .before .work-text .result), simp length-take at (ap length (part .ensures)))) in
+    (omega (arith, p .place, line-le (now (part .result)) (worked .work-text .result), simp length-take at (ap length (part .ensures)))) in
     record { answer = m .0; sheet = e .1; line = m .1 }
 
 pub import-text-spec : {M : Type 1} → statement M

@@ -22,11 +22,11 @@ print-text-requires : tie.Need-print-text-requires
 print-text-requires c κs = search needs
 
 array-share-prefix-out : tie.Need-array-share-prefix-out
-array-share-prefix-out c = omega (arith, c .print-text .ensures .1, simp length-append at (ap length (c .print-text .ensures .0)))
+array-share-prefix-out c = omega (arith, c .print-text .ensures .bytes, simp length-append at (ap length (c .print-text .ensures .text)))
 
 slice-aggregate-write-all : tie.Need-slice-aggregate-write-all
 slice-aggregate-write-all c =
-    simp length-take (omega (arith, c .before .print-text .ensures .1, simp length-append at (ap length (c .before .print-text .ensures .0))))
+    simp length-take (omega (arith, c .before .print-text .ensures .bytes, simp length-append at (ap length (c .before .print-text .ensures .text))))
 
 write-all-requires : tie.Need-write-all-requires
 write-all-requires c κs = search needs

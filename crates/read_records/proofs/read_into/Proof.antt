@@ -35,9 +35,10 @@ rows-read-requires c κs = search needs
 
 returns : tie.Need-returns
 returns c =
-    let start = c .before .before .before .before .before .before .before .before .before .before .before .before in
+    let called = c .before .before .before .before in
+    let start = called .before .before .before .before .before .before .before .before in
     let arg = start .args in
-    let read = c .before .before .before .before .read-text in
+    let read = called .read-text in
     read-yields (now (arg .text)) (numbers (read .result)) (arg .m) (arg .flat) _ _ _ (c .rows-read .result) (start .pre .0) (start .pre .1)
     (c .rows-read .ensures) (read .ensures)
 

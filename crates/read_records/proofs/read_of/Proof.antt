@@ -17,10 +17,11 @@ read-into-requires c κs = search needs
 
 returns : tie.Need-returns
 returns c =
-    let start = c .before .before .before .before in
+    let roomed = c .before .before in
+    let arg = roomed .before .before .args in
     let read = c .read-into in
-    read-whole (now (start .args .text)) (numbers (read .result .answer)) (start .args .room) (c .before .before .fits2 .result) (read .result .flat)
-    (read .result .count) (c .before .before .fits2 .ensures) (read .ensures)
+    read-whole (now (arg .text)) (numbers (read .result .answer)) (arg .room) (roomed .fits2 .result) (read .result .flat)
+    (read .result .count) (roomed .fits2 .ensures) (read .ensures)
 
 pub read-of-spec : {M : Type 1} → statement M
 read-of-spec = tie.close (tie.spec fits-requires blank-requires read-into-requires returns)

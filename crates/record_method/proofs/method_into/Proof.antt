@@ -56,9 +56,10 @@ same-length-2 c = search needs
 
 returns : tie.Need-returns
 returns c =
-    let start = c .before .before .before .before .before .before .before .before .before .before .before .before .before .before .before .before .before .before .before .before .before .before .before .before in
+    let called = c .before .before .before .before .before .before .before in
+    let start = called .before .before .before .before .before .before .before .before .before .before .before .before .before .before .before .before .before in
     let arg = start .args in
-    let done = c .before .before .before .before .before .before .before .row-method in
+    let done = called .row-method in
     method-yields (arg .n) (arg .k) (arg .w) (listed (arg .flat) (arg .m)) (now (arg .basis)) (now (arg .sigma)) (done .result) _ _ (arg .room)
     (arg .smaller) _ _ _ (start .pre .2) (start .pre .3) (done .ensures)
 

@@ -23,9 +23,11 @@ same-length-2 c = search needs
 
 returns : tie.Need-returns
 returns c =
-    let arg = c .before .before .before .before .before .before .before .before .before .before .before .args in
-    let done = c .before .before .before .before .method-into in
-    let places = c .before .before .before .before .before .before .before .before .fits2 in
+    let worked = c .before .before .before .before in
+    let roomed = worked .before .before .before .before in
+    let arg = roomed .before .before .before .args in
+    let done = worked .method-into in
+    let places = roomed .fits2 in
     method-whole (arg .n) (arg .k) (arg .w) (listed (arg .flat) (arg .m)) (now (arg .basis)) (now (arg .sigma)) (done .result .answer) _ _ (arg .room)
     (places .result) (done .result .flat) (done .result .count) (places .ensures) (done .ensures)
 

@@ -22,11 +22,11 @@ say-requires : tie.Need-say-requires
 say-requires c κs = search needs
 
 array-share-prefix-out : tie.Need-array-share-prefix-out
-array-share-prefix-out c = omega (arith, c .before .before .before .print-text .ensures .1, simp length-append at (ap length (c .before .before .before .print-text .ensures .0)))
+array-share-prefix-out c = omega (arith, c .before .before .before .print-text .ensures .bytes, simp length-append at (ap length (c .before .before .before .print-text .ensures .text)))
 
 slice-aggregate-say-2 : tie.Need-slice-aggregate-say-2
 slice-aggregate-say-2 c =
-    simp length-take (omega (arith, c .before .before .before .before .print-text .ensures .1, simp length-append at (ap length (c .before .before .before .before .print-text .ensures .0))))
+    simp length-take (omega (arith, c .before .before .before .before .print-text .ensures .bytes, simp length-append at (ap length (c .before .before .before .before .print-text .ensures .text))))
 
 say-requires-2 : tie.Need-say-requires-2
 say-requires-2 c κs = search needs
