@@ -12,13 +12,6 @@ pub fn say_number(x: u64) {
     io::print_decimal(STDOUT_FILENO, x);
 }
 
-// Number, A and B of an answer.
-pub fn say_answer(number: u32, a: usize, b: usize) {
-    say_number(number as u64);
-    say_number(a as u64);
-    say_number(b as u64);
-}
-
 // Whether two texts are the same bytes.
 pub fn is_same(a: &[u8], b: &[u8]) -> bool
     ensures { λ r. ⌜ (r ≡ true → now (a .entry) ≡ now (b .entry)) ⌝ }
@@ -34,14 +27,6 @@ pub fn is_same(a: &[u8], b: &[u8]) -> bool
         i += 1;
     }
     true
-}
-
-pub fn wide16(x: u16) -> u64 {
-    x as u64
-}
-
-pub fn wide32(x: u32) -> u64 {
-    x as u64
 }
 
 // The first n entries, or all of them.
