@@ -23,8 +23,7 @@ use saying::part32;
 use saying::room16;
 use saying::room32;
 use saying::say;
-ghost use mathlib.Core.Path.{_≡_};
-ghost use Prim.Native.Nat.{_+_, _≤_, _<_};
+ghost use Prim.Native.Nat.{_≤_, _<_};
 ghost use lib.ListN.{length};
 ghost use Rattle.case_lines.specs.Room.{numbersMost};
 
@@ -335,18 +334,11 @@ fn compare_all(text: &[u8]) -> usize
 
 // The cases of the file that argument i names.
 fn run_file(i: usize) {
-    let mut path = io::buffer();
-    let length = os::arg(i, &mut path);
-    let fd = os::open_read(&path[..length]);
-    if fd < 0 {
-        os::fail(&path[..length]);
-    }
     let mut text = io::large_buffer();
-    let count = io::read_full(fd, &mut text);
-    libc::close(fd);
+    let count = saying::read_argument(i, &mut text);
     io::print_decimal(STDOUT_FILENO, compare_all(&text[..count]) as u64);
     say(b" cases of ");
-    say(&path[..length]);
+    saying::say_argument(i);
     say(b" have the answers due\n");
 }
 
