@@ -15,7 +15,7 @@ use saying::say;
 ghost use Prim.Native.Nat.{_≤_};
 ghost use lib.ListN.{length};
 ghost use Rattle.io.specs.Counts.{Counts};
-ghost use Rattle.import_paths.specs.Path.{nameMost};
+ghost use Rattle.import_paths.specs.Room.{nameMost};
 
 // Ends a line with what became of an older sheet, which must not look current.
 pub fn end_line(name: &[u8])

@@ -7,7 +7,7 @@ ghost use Prim.Native.Nat.{_≤_};
 ghost use lib.ListN.{length};
 ghost use Rattle.io.specs.Counts.{Counts};
 ghost use Rattle.libc.specs.Io.{Ended};
-ghost use Rattle.import_paths.specs.Path.{nameMost};
+ghost use Rattle.import_paths.specs.Room.{nameMost};
 
 // How many names are tried for one file.
 pub const NAMES_TRIED: usize = 1000;

@@ -1,11 +1,9 @@
--- The line of one list in a bulk import, without its end: every byte, and how many at most. Assumes nothing.
-use mathlib.Core.Bool.{Bool, true, false, cond, _||_}
+-- The line of one list in a bulk import, without its end: every byte. Assumes nothing.
+use mathlib.Core.Bool.{cond, _||_}
 use mathlib.Core.List.{List, [], _∷_, _++_, map}
-use Prim.Native.Nat.{ℕ, _+_, _≤_}
-use native.Mathlib.Omega.{arith}
+use Prim.Native.Nat.{ℕ}
 use lib.Dec.{eqb, ltb}
-use lib.ListN.{length, length-append, length-map}
-use Rattle.printlines.specs.Words.{three, threeRoom, three-le}
+use Rattle.printlines.specs.Words.{three}
 use Rattle.sheet_work.specs.declared.SheetWork.{SheetWork}
 
 -- a byte of a name as it is shown: a control byte as a question mark
@@ -27,23 +25,3 @@ lineWords r =
 -- the line: the name, a space, and that
 unfoldable pub importLine : List ℕ → SheetWork → List ℕ
 importLine name r = map shownByte name ++ (32 ∷ lineWords r)
-
--- room for the longest words: the longer of the two, and three numbers
-abbrev wordsRoom : ℕ
-wordsRoom = 8 + threeRoom
-
-words-le : (r : SheetWork) → length (lineWords r) ≤ wordsRoom
-unfolding lineWords
-words-le r =
-    go (eqb (r .number) 0) (three sheetWord (r .rows) (r .before) (r .after)) (three refusedWord (r .number) (r .a) (r .b))
-    (omega (arith, three-le sheetWord (r .rows) (r .before) (r .after)))
-    (three-le refusedWord (r .number) (r .a) (r .b))
-  where
-    go : (b : Bool) (s t : List ℕ) → length s ≤ wordsRoom → length t ≤ wordsRoom → length (cond b s t) ≤ wordsRoom
-    go true s t h k = h
-    go false s t h k = k
-
--- and for the line
-pub line-le : (name : List ℕ) (r : SheetWork) → length (importLine name r) ≤ length name + (1 + wordsRoom)
-unfolding importLine
-line-le name r = simp (length-append, length-map) (omega (arith, words-le r))

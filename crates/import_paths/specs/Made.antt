@@ -8,7 +8,7 @@ use lib.ListN.{length, set, take, drop, length-set}
 use lib.Seq.{take-at, take-set-le, getD-set-same, length-sets}
 use Rattle.io.specs.Counts.{Counts}
 use Rattle.libc.specs.Io.{Ended}
-use Rattle.import_paths.specs.Path.{pathRoom}
+use Rattle.import_paths.specs.Room.{pathRoom}
 use Rattle.puts.specs.Puts.{Put, put-over}
 
 pub path-made : (l l′ t : List ℕ) (e : ℕ) → Put l 0 t l′ e → pathRoom ≡ length l → e < pathRoom

@@ -6,7 +6,8 @@ ghost use lib.ListN.{length, take};
 ghost use Rattle.io.specs.Counts.{Counts};
 ghost use Rattle.libc.specs.Io.{Ended};
 ghost use Rattle.puts.specs.Puts.{Put};
-ghost use Rattle.import_paths.specs.Path.{pathRoom, countRoom, counted, pathOf};
+ghost use Rattle.import_paths.specs.Path.{counted, pathOf};
+ghost use Rattle.import_paths.specs.Room.{pathRoom, countRoom};
 
 // The bytes of a path, with the 0 after it; and the longest name of a list, with whose endings it is still a path.
 pub const PATH_ROOM: usize = 4096;

@@ -4,7 +4,7 @@ use import_paths::PATH_ROOM;
 use saying::say;
 ghost use Prim.Native.Nat.{_≤_};
 ghost use lib.ListN.{length};
-ghost use Rattle.import_paths.specs.Path.{nameMost};
+ghost use Rattle.import_paths.specs.Room.{nameMost};
 
 // Says a name, as it is shown; of a longer one the first 4,096 bytes.
 pub fn say_name(name: &[u8]) {

@@ -14,7 +14,7 @@ use Rattle.block.specs.declared.Answer.{Answer}
 use Rattle.verdicts.specs.Verdicts.{carried-yes, stored-yes, stored-no}
 use Rattle.puts.specs.Puts.{Put, put-over}
 use Rattle.sheet_work.specs.declared.SheetWork.{SheetWork}
-use Rattle.printlines.specs.Words.{refusalRoom, refusal-le}
+use Rattle.printlines.specs.Length.{refusalRoom, refusal-le}
 use Rattle.text_work.specs.Work.{textVerdict, sheetIn, textWork}
 
 -- a text or the line of a second refusal, or the line of a first, is by the verdict of both

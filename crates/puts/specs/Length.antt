@@ -36,9 +36,9 @@ rows-from : (n k p : ℕ) (masks values words : List ℕ) → length (rowLines n
 rows-from n k p masks values words =
     length-rows n k (rowsFrom p masks values words) ∙ ap (λ (j : ℕ). j * rowBytes n k) (length-tab p _)
 
--- piece i of p, each w bytes long, ends within the room for all
-pub within : (i p w : ℕ) → i < p → i * w + w ≤ p * w
-within i p w h = omega (arith, mul-le-mul-right w h)
+-- piece i of p equally long ones ends within the room for all
+pub within : (i p long : ℕ) → i < p → i * long + long ≤ p * long
+within i p long h = omega (arith, mul-le-mul-right long h)
 
 -- the line of row i ends within the room for the lines of p rows
 pub row-within : (n k i p : ℕ) (masks values words : List ℕ) → i < p

@@ -4,9 +4,10 @@
 use block::READ_BYTES;
 use block::SHEET_ROOM;
 use libc::STDOUT_FILENO;
+use saying::read_argument;
 use saying::say;
+use saying::say_argument;
 ghost use Prim.Native.Nat.{_≤_};
-ghost use Rattle.io.specs.Counts.{Counts};
 
 // What is printed for the first bytes of a text.
 fn say_cut(text: &[u8], length: usize) {
@@ -23,26 +24,9 @@ fn say_cuts(text: &[u8]) {
     }
 }
 
-// The file that argument i names, as much of it as fits; a file that cannot be read is told on standard error.
-fn read_file(i: usize, buf: &mut [u8]) -> usize
-    ensures { λ r. ⌜ Counts r (now (buf .exit)) ⌝ }
-{
-    let mut path = io::buffer();
-    let length = os::arg(i, &mut path);
-    let fd = os::open_read(&path[..length]);
-    if fd < 0 {
-        os::fail(&path[..length]);
-    }
-    let count = io::read_full(fd, buf);
-    libc::close(fd);
-    count
-}
-
 // Says which text is printed otherwise than its sheet has it.
 fn say_differs(i: usize) {
-    let mut path = io::buffer();
-    let length = os::arg(i, &mut path);
-    say(&path[..length]);
+    say_argument(i);
     say(b" is printed otherwise\n");
 }
 
@@ -51,9 +35,9 @@ fn compare(i: usize, j: usize) -> usize
     ensures { λ r. ⌜ r ≤ 1 ⌝ }
 {
     let mut text = [0u8; 2 * READ_BYTES];
-    let length = read_file(i, &mut text);
+    let length = read_argument(i, &mut text);
     let mut due = [0u8; SHEET_ROOM + 1];
-    let size = read_file(j, &mut due);
+    let size = read_argument(j, &mut due);
     let mut out = [0u8; SHEET_ROOM];
     let count = printing::print_text(&text[..length], &mut out);
     if saying::is_same(&out[..count], &due[..size]) {

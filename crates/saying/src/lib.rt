@@ -1,7 +1,8 @@
-// What the programs share: lines on standard output, texts compared, and parts of slices. Every function here is inner.
+// What the programs share: lines on standard output, the files that arguments name, texts compared, and parts of slices. Every function here is inner.
 use libc::STDOUT_FILENO;
 ghost use mathlib.Core.Path.{_≡_};
 ghost use mathlib.Core.Bool.{true};
+ghost use Rattle.io.specs.Counts.{Counts};
 
 pub fn say(text: &[u8]) {
     io::write_all(STDOUT_FILENO, text);
@@ -12,11 +13,26 @@ pub fn say_number(x: u64) {
     io::print_decimal(STDOUT_FILENO, x);
 }
 
-// Number, A and B of an answer.
-pub fn say_answer(number: u32, a: usize, b: usize) {
-    say_number(number as u64);
-    say_number(a as u64);
-    say_number(b as u64);
+// Says the program's argument i.
+pub fn say_argument(i: usize) {
+    let mut name = io::buffer();
+    let length = os::arg(i, &mut name);
+    say(&name[..length]);
+}
+
+// The file that argument i names, as much of it as fits; a file that cannot be read is told on standard error.
+pub fn read_argument(i: usize, buf: &mut [u8]) -> usize
+    ensures { λ r. ⌜ Counts r (now (buf .exit)) ⌝ }
+{
+    let mut path = io::buffer();
+    let length = os::arg(i, &mut path);
+    let fd = os::open_read(&path[..length]);
+    if fd < 0 {
+        os::fail(&path[..length]);
+    }
+    let count = io::read_full(fd, buf);
+    libc::close(fd);
+    count
 }
 
 // Whether two texts are the same bytes.
@@ -34,14 +50,6 @@ pub fn is_same(a: &[u8], b: &[u8]) -> bool
         i += 1;
     }
     true
-}
-
-pub fn wide16(x: u16) -> u64 {
-    x as u64
-}
-
-pub fn wide32(x: u32) -> u64 {
-    x as u64
 }
 
 // The first n entries, or all of them.

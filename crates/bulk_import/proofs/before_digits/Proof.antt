@@ -5,7 +5,6 @@ use native.Mathlib.Omega.{arith}
 use denote.Ref.{now}
 use lib.ListN.{length}
 use lib.Seq.{length-take-le}
-use borrow.Author.Needs.{needs}
 use Rattle.bulk_import.proofs.before_digits.Statement.{statement}
 use Rattle.bulk_import.proofs.before_digits.Tie as tie
 

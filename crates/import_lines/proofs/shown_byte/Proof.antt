@@ -1,6 +1,5 @@
 -- `import_lines::shown_byte` meets its contract, by the two tests. Assumes nothing.
 use borrow.Author.Tests.{lt-ltb, le-ltb, eq-eqb, ne-eqb}
-use native.Mathlib.Omega.{arith}
 use Rattle.import_lines.proofs.shown_byte.Statement.{statement}
 use Rattle.import_lines.proofs.shown_byte.Tie as tie
 

@@ -2,7 +2,8 @@
 use native.Mathlib.Omega.{arith}
 use denote.Ref.{now}
 use Rattle.puts.specs.Puts.{then}
-use Rattle.import_paths.specs.Path.{pathOf, counted-le}
+use Rattle.import_paths.specs.Path.{pathOf}
+use Rattle.import_paths.specs.Room.{counted-le}
 use Rattle.import_paths.specs.Made.{path-made}
 use borrow.Author.Needs.{needs}
 use Rattle.import_paths.proofs.put_path.Statement.{statement}

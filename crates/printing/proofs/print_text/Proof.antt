@@ -2,7 +2,7 @@
 use native.Mathlib.Omega.{arith}
 use denote.Ref.{now}
 use Rattle.block.specs.Refusals.{answer}
-use Rattle.printlines.specs.Words.{refusal-le}
+use Rattle.printlines.specs.Length.{refusal-le}
 use Rattle.printlines.specs.Printed.{text-refused, text-printed}
 use borrow.Author.Needs.{needs}
 use Rattle.printing.proofs.print_text.Statement.{statement}

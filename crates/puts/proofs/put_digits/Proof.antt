@@ -4,8 +4,6 @@ use Prim.Native.Nat.{_+_, _≤_}
 use mathlib.Core.Path.{_≡_, refl, sym, _∙_}
 use native.Mathlib.Nat.{mod-lt}
 use native.Mathlib.Omega.{arith}
-use borrow.Author.Needs.{needs}
-use denote.Ref.{now}
 use lib.ListN.{length, length-set}
 use lib.Seq.{sets}
 use Rattle.puts.specs.Digits.{lastDigits, length-last, last-down}

@@ -6,17 +6,17 @@ use borrow.Author.Needs.{needs}
 use Rattle.run_texts.proofs.compare.Statement.{statement}
 use Rattle.run_texts.proofs.compare.Tie as tie
 
-slice-aggregate-read-file : tie.Need-slice-aggregate-read-file
-slice-aggregate-read-file c = search needs
+slice-aggregate-read-argument : tie.Need-slice-aggregate-read-argument
+slice-aggregate-read-argument c = search needs
 
-read-file-requires : tie.Need-read-file-requires
-read-file-requires c κs = search needs
+read-argument-requires : tie.Need-read-argument-requires
+read-argument-requires c κs = search needs
 
-slice-aggregate-read-file-2 : tie.Need-slice-aggregate-read-file-2
-slice-aggregate-read-file-2 c = search needs
+slice-aggregate-read-argument-2 : tie.Need-slice-aggregate-read-argument-2
+slice-aggregate-read-argument-2 c = search needs
 
-read-file-requires-2 : tie.Need-read-file-requires-2
-read-file-requires-2 c κs = search needs
+read-argument-requires-2 : tie.Need-read-argument-requires-2
+read-argument-requires-2 c κs = search needs
 
 array-share-prefix-text : tie.Need-array-share-prefix-text
 array-share-prefix-text c = search needs
@@ -56,10 +56,10 @@ pub compare-spec : {M : Type 1} → statement M
 compare-spec =
     tie.close
     (tie.spec
-    slice-aggregate-read-file
-    read-file-requires
-    slice-aggregate-read-file-2
-    read-file-requires-2
+    slice-aggregate-read-argument
+    read-argument-requires
+    slice-aggregate-read-argument-2
+    read-argument-requires-2
     array-share-prefix-text
     slice-aggregate-print-text
     print-text-requires

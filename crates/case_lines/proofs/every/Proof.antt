@@ -1,0 +1,69 @@
+-- `case_lines::every` is safe and ends: i goes up to the number of rows, and the place grows by at most three a turn. Assumes nothing.
+use Rattle.case_lines.specs.Room.{rowsMost}
+use lib.ListN.{length}
+use borrow.Author.Needs.{needs}
+use Prim.Native.Nat.{_+_, _*_, _-_, _≤_}
+use mathlib.Core.Path.{_≡_}
+use Rattle.case_lines.proofs.every.Statement.{statement}
+use Rattle.case_lines.proofs.every.Tie as tie
+
+abbrev Inv-loop : tie.InvT-loop
+Inv-loop numbers count from step out₀ at₀ i₀ out at i = (i ≤ rowsMost) × (at ≤ 3 + 3 * i) × (rowsMost ≡ length out)
+
+abbrev μ-loop : tie.MeasureT-loop
+μ-loop numbers count from step out₀ at₀ i₀ out at i = rowsMost - i
+
+loop-holds : tie.Need-loop-holds Inv-loop μ-loop
+loop-holds c = search needs
+
+mul-out : tie.Need-mul-out Inv-loop μ-loop
+mul-out c = search needs
+
+element-copy-out-out : tie.Need-element-copy-out-out Inv-loop μ-loop
+element-copy-out-out c = search needs
+
+cast-out : tie.Need-cast-out Inv-loop μ-loop
+cast-out c = search needs
+
+mul-out-2 : tie.Need-mul-out-2 Inv-loop μ-loop
+mul-out-2 c = search needs
+
+array-write-out : tie.Need-array-write-out Inv-loop μ-loop
+array-write-out c = search needs
+
+add-at : tie.Need-add-at Inv-loop μ-loop
+add-at c = search needs
+
+add-i : tie.Need-add-i Inv-loop μ-loop
+add-i c = search needs
+
+loop-less : tie.Need-loop-less Inv-loop μ-loop
+loop-less c = search needs
+
+loop-again : tie.Need-loop-again Inv-loop μ-loop
+loop-again c = search needs
+
+returns : tie.Need-returns Inv-loop μ-loop
+returns c = search needs
+
+returns-2 : tie.Need-returns-2 Inv-loop μ-loop
+returns-2 c = search needs
+
+pub every-spec : {M : Type 1} → statement M
+every-spec =
+    tie.close
+    (tie.spec
+    Inv-loop
+    μ-loop
+    loop-holds
+    mul-out
+    element-copy-out-out
+    cast-out
+    mul-out-2
+    array-write-out
+    add-at
+    add-i
+    loop-less
+    loop-again
+    returns
+    returns-2)

@@ -1,0 +1,2 @@
+-- The room for the numbers of a case.
+pub mod Room

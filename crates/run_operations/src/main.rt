@@ -1,0 +1,349 @@
+// Cases of the operations on tables and lists, run: the arguments are files of data/, one case to a line with the answer due (crate
+// case_lines has the form). A case that is answered otherwise is said with what was answered; at the end stands how many were as due.
+// operations.txt comes from a program of another hand, ranges.txt has 01's blocks to try by hand and the ends of each range.
+use case_lines::HELD;
+use case_lines::HELD_ENTRY;
+use case_lines::NUMBERS;
+use case_lines::Part;
+use case_lines::ROWS;
+use case_lines::Three;
+use case_lines::entries;
+use case_lines::every;
+use case_lines::put;
+use case_lines::put_answer;
+use case_lines::put_list;
+use case_lines::put_rows;
+use case_lines::put_table;
+use case_lines::read_numbers;
+use case_lines::read_three;
+use libc::STDOUT_FILENO;
+use saying::is_same;
+use saying::part16;
+use saying::part32;
+use saying::room16;
+use saying::room32;
+use saying::say;
+ghost use Prim.Native.Nat.{_≤_, _<_};
+ghost use lib.ListN.{length};
+ghost use Rattle.case_lines.specs.Room.{numbersMost};
+
+// How many numbers a result has: none with a refusal.
+fn result_size(number: u32, size: usize) -> usize {
+    if number != 0 {
+        return 0;
+    }
+    size
+}
+
+// 2^n, for the n of a table.
+fn points(n: usize) -> usize {
+    if 13 < n {
+        return 0;
+    }
+    1 << n
+}
+
+// table_value n k t TABLE => N A B value
+fn table_value(h: Three, numbers: &[u64; NUMBERS], count: usize, got: &mut [u64; NUMBERS]) -> usize
+    requires { ⌜ count ≤ numbersMost ⌝ }
+    ensures { λ r. ⌜ r ≤ numbersMost ⌝ }
+{
+    let table = entries(numbers, count);
+    let r = tables::table_value(h.first, h.second, h.third, part16(&table, count));
+    let a = put_answer(got, r.number, r.a, r.b);
+    put(got, a, r.value)
+}
+
+// row_value n k t ROWS => N A B value
+fn row_value(h: Three, numbers: &[u64; NUMBERS], count: usize, got: &mut [u64; NUMBERS]) -> usize
+    requires { ⌜ count ≤ numbersMost ⌝ }
+    ensures { λ r. ⌜ r ≤ numbersMost ⌝ }
+{
+    let masks = every(numbers, count, 0, 3);
+    let values = every(numbers, count, 1, 3);
+    let words = every(numbers, count, 2, 3);
+    let r = lists::row_value(
+        h.first,
+        h.second,
+        h.third,
+        part32(&masks, count / 3),
+        part32(&values, count / 3),
+        part32(&words, count / 3),
+    );
+    let a = put_answer(got, r.number, r.a, r.b);
+    put(got, a, r.value)
+}
+
+// fill n k ROOM ROWS => N A B TABLE
+fn fill(h: Three, numbers: &[u64; NUMBERS], count: usize, got: &mut [u64; NUMBERS]) -> usize
+    requires { ⌜ count ≤ numbersMost ⌝ }
+    ensures { λ r. ⌜ r ≤ numbersMost ⌝ }
+{
+    let masks = every(numbers, count, 0, 3);
+    let values = every(numbers, count, 1, 3);
+    let words = every(numbers, count, 2, 3);
+    let mut table = [HELD_ENTRY; NUMBERS];
+    let r = lists::fill_table(
+        h.first,
+        h.second,
+        part32(&masks, count / 3),
+        part32(&values, count / 3),
+        part32(&words, count / 3),
+        room16(&mut table, h.third),
+    );
+    let a = put_answer(got, r.number, r.a, r.b);
+    put_table(got, a, &table, result_size(r.number, points(h.first)))
+}
+
+// table_method n k w ROOM_TABLE ROOM_T ROOM_SIGMA TABLE => N A B before after T SIGMA SMALLER_TABLE
+fn table_method(
+    h: Three,
+    rooms: Three,
+    numbers: &[u64; NUMBERS],
+    count: usize,
+    got: &mut [u64; NUMBERS],
+) -> usize
+    requires { ⌜ count ≤ numbersMost ⌝ }
+    ensures { λ r. ⌜ r ≤ numbersMost ⌝ }
+{
+    let table = entries(numbers, count);
+    let mut basis = [HELD; ROWS];
+    let mut sigma = [HELD; ROWS];
+    let mut smaller = [HELD_ENTRY; NUMBERS];
+    let r = tables::table_method(
+        h.first,
+        h.second,
+        h.third,
+        part16(&table, count),
+        room32(&mut basis, rooms.second),
+        room32(&mut sigma, rooms.third),
+        room16(&mut smaller, rooms.first),
+    );
+    let a = put_answer(got, r.number, r.a, r.b);
+    let b = put(got, a, r.before);
+    let c = put(got, b, r.after);
+    let d = put_list(got, c, &basis, result_size(r.number, h.first));
+    let e = put_list(got, d, &sigma, result_size(r.number, h.first));
+    put_table(got, e, &smaller, result_size(r.number, points(h.first)))
+}
+
+// row_method n k w ROOM_ROWS ROOM_T ROOM_SIGMA ROWS => N A B before after count T SIGMA SMALLER_ROWS
+fn row_method(
+    h: Three,
+    rooms: Three,
+    numbers: &[u64; NUMBERS],
+    count: usize,
+    got: &mut [u64; NUMBERS],
+) -> usize
+    requires { ⌜ count ≤ numbersMost ⌝ }
+    ensures { λ r. ⌜ r ≤ numbersMost ⌝ }
+{
+    let masks = every(numbers, count, 0, 3);
+    let values = every(numbers, count, 1, 3);
+    let words = every(numbers, count, 2, 3);
+    let mut basis = [HELD; ROWS];
+    let mut sigma = [HELD; ROWS];
+    let mut new_masks = [HELD; ROWS];
+    let mut new_values = [HELD; ROWS];
+    let mut new_words = [HELD; ROWS];
+    let r = lists::row_method(
+        h.first,
+        h.second,
+        h.third,
+        part32(&masks, count / 3),
+        part32(&values, count / 3),
+        part32(&words, count / 3),
+        room32(&mut basis, rooms.second),
+        room32(&mut sigma, rooms.third),
+        room32(&mut new_masks, rooms.first),
+        room32(&mut new_values, rooms.first),
+        room32(&mut new_words, rooms.first),
+    );
+    let a = put_answer(got, r.number, r.a, r.b);
+    let b = put(got, a, r.before);
+    let c = put(got, b, r.after);
+    let d = put(got, c, r.count as u64);
+    let e = put_list(got, d, &basis, result_size(r.number, h.first));
+    let f = put_list(got, e, &sigma, result_size(r.number, h.first));
+    put_rows(got, f, &new_masks, &new_values, &new_words, r.count)
+}
+
+// restore n k ROOM SIGMA SMALLER_TABLE => N A B TABLE
+fn restore(
+    h: Three,
+    sigma: &[u32; ROWS],
+    rows: usize,
+    numbers: &[u64; NUMBERS],
+    count: usize,
+    got: &mut [u64; NUMBERS],
+) -> usize
+    requires { ⌜ count ≤ numbersMost ⌝ }
+    ensures { λ r. ⌜ r ≤ numbersMost ⌝ }
+{
+    let smaller = entries(numbers, count);
+    let mut table = [HELD_ENTRY; NUMBERS];
+    let r = tables::restore_table(
+        h.first,
+        h.second,
+        part32(sigma, rows),
+        part16(&smaller, count),
+        room16(&mut table, h.third),
+    );
+    let a = put_answer(got, r.number, r.a, r.b);
+    put_table(got, a, &table, result_size(r.number, points(h.first)))
+}
+
+// Runs the operation of a name on one list: nothing for a name that is none.
+fn run_list(
+    name: &[u8],
+    h: Three,
+    numbers: &[u64; NUMBERS],
+    count: usize,
+    got: &mut [u64; NUMBERS],
+) -> usize
+    requires { ⌜ count ≤ numbersMost ⌝ }
+    ensures { λ r. ⌜ r ≤ numbersMost ⌝ }
+{
+    if is_same(name, b"table_value") {
+        return table_value(h, numbers, count, got);
+    }
+    if is_same(name, b"row_value") {
+        return row_value(h, numbers, count, got);
+    }
+    if is_same(name, b"fill") {
+        return fill(h, numbers, count, got);
+    }
+    0
+}
+
+// Reads the rooms and the list of a method, and runs it.
+fn run_method(name: &[u8], h: Three, text: &[u8], got: &mut [u64; NUMBERS]) -> Part
+    requires { ⌜ h .next ≤ length (now text) ⌝ }
+    ensures { λ r. ⌜ (r .next ≤ length (now (text .entry))) × (r .count ≤ numbersMost) ⌝ }
+{
+    let rooms = read_three(text, h.next);
+    let mut numbers = [0u64; NUMBERS];
+    let list = read_numbers(text, rooms.next, b' ', &mut numbers);
+    let next = list.next;
+    if is_same(name, b"row_method") {
+        let count = row_method(h, rooms, &numbers, list.count, got);
+        return Part { count, next };
+    }
+    let count = table_method(h, rooms, &numbers, list.count, got);
+    Part { count, next }
+}
+
+// Reads the matrix and the table of a restoring, and runs it.
+fn run_restore(h: Three, text: &[u8], got: &mut [u64; NUMBERS]) -> Part
+    requires { ⌜ h .next ≤ length (now text) ⌝ }
+    ensures { λ r. ⌜ (r .next ≤ length (now (text .entry))) × (r .count ≤ numbersMost) ⌝ }
+{
+    let mut numbers = [0u64; NUMBERS];
+    let matrix = read_numbers(text, h.next, b' ', &mut numbers);
+    let sigma = every(&numbers, matrix.count, 0, 1);
+    let list = read_numbers(text, matrix.next, b' ', &mut numbers);
+    let next = list.next;
+    let count = restore(h, &sigma, matrix.count, &numbers, list.count, got);
+    Part { count, next }
+}
+
+// Runs the operation of a name on the arguments from a place on, and gathers what it answers.
+fn run(name: &[u8], text: &[u8], at: usize, got: &mut [u64; NUMBERS]) -> Part
+    requires { ⌜ at ≤ length (now text) ⌝ }
+    ensures { λ r. ⌜ (r .next ≤ length (now (text .entry))) × (r .count ≤ numbersMost) ⌝ }
+{
+    let h = read_three(text, at);
+    if is_same(name, b"row_method") || is_same(name, b"table_method") {
+        return run_method(name, h, text, got);
+    }
+    if is_same(name, b"restore") {
+        return run_restore(h, text, got);
+    }
+    let mut numbers = [0u64; NUMBERS];
+    let list = read_numbers(text, h.next, b' ', &mut numbers);
+    let next = list.next;
+    let count = run_list(name, h, &numbers, list.count, got);
+    Part { count, next }
+}
+
+// The place after the name of a line's operation.
+fn after_name(line: &[u8], stop: usize) -> usize
+    requires { ⌜ stop ≤ length (now line) ⌝ }
+    ensures { λ r. ⌜ r ≤ length (now (line .entry)) ⌝ }
+{
+    if stop < line.len() {
+        return stop + 1;
+    }
+    stop
+}
+
+// Says what a case was answered.
+fn say_otherwise(line: &[u8], got: &[u64; NUMBERS], count: usize)
+    requires { ⌜ count ≤ numbersMost ⌝ }
+{
+    say(line);
+    say(b"  is answered");
+    case_lines::say_numbers(got, count);
+    say(b"\n");
+}
+
+// Whether the case of a line has the answer due: 1 or 0.
+fn compare(line: &[u8]) -> usize
+    ensures { λ r. ⌜ r ≤ 1 ⌝ }
+{
+    let stop = case_lines::word_end(line, 0);
+    let mut got = [0u64; NUMBERS];
+    let answered = run(&line[..stop], line, after_name(line, stop), &mut got);
+    let mut due = [0u64; NUMBERS];
+    let expected = read_numbers(line, answered.next, b'\n', &mut due);
+    if case_lines::is_equal(&got, answered.count, &due, expected.count) {
+        return 1;
+    }
+    say_otherwise(line, &got, answered.count);
+    0
+}
+
+// The place after the line that begins at a place.
+fn line_end(text: &[u8], from: usize) -> usize
+    requires { ⌜ from < length (now text) ⌝ }
+    ensures { λ r. ⌜ (from < r) × (r ≤ length (now (text .entry))) ⌝ }
+{
+    let mut at = from;
+    while at + 1 < text.len() {
+        if text[at] == b'\n' {
+            break;
+        }
+        at += 1;
+    }
+    at + 1
+}
+
+// How many cases of a text have the answer due.
+fn compare_all(text: &[u8]) -> usize
+    ensures { λ r. ⌜ r ≤ length (now (text .entry)) ⌝ }
+{
+    let mut at = 0;
+    let mut equal = 0;
+    while at < text.len() {
+        let next = line_end(text, at);
+        equal += compare(&text[at..next]);
+        at = next;
+    }
+    equal
+}
+
+// The cases of the file that argument i names.
+fn run_file(i: usize) {
+    let mut text = io::large_buffer();
+    let count = saying::read_argument(i, &mut text);
+    io::print_decimal(STDOUT_FILENO, compare_all(&text[..count]) as u64);
+    say(b" cases of ");
+    saying::say_argument(i);
+    say(b" have the answers due\n");
+}
+
+fn main() {
+    for i in 1..os::arg_count() {
+        run_file(i);
+    }
+}
