@@ -1,11 +1,11 @@
 -- `table_checks::first_bad_entry` meets its contract. The loop's invariant: no entry before i is malformed. The measure is what is left.
 -- Assumes nothing.
-use mathlib.Core.Path.{_≡_, refl, sym, _∙_}
-use mathlib.Core.Bool.{false, true}
+use mathlib.Core.Path.{_≡_, sym, _∙_}
+use mathlib.Core.Bool.{false}
 use Prim.Native.Nat.{ℕ, _≤_, _<_, _-_}
 use native.Mathlib.Omega.{arith}
 use borrow.Author.Count.{below-more}
-use lib.ListN.{length, getD}
+use lib.ListN.{length}
 use Rattle.slices.specs.Places.{at}
 use Rattle.slices.specs.Least.{first-is}
 use Rattle.block.specs.Refusals.{badEntry}
