@@ -1,9 +1,9 @@
 -- The operations on lists of rows (01, Numbers that come back): for each its checks in their order, its answer and its results.
 -- Assumes nothing.
-use mathlib.Core.Bool.{Bool, not, cond, _||_}
+use mathlib.Core.Bool.{Bool, not, _||_}
 use mathlib.Core.List.{List, [], _∷_, _++_}
 use Prim.Native.Nat.{ℕ, suc, _+_, _^_}
-use lib.Dec.{eqb, ltb}
+use lib.Dec.{ltb}
 use lib.ListN.{length}
 use Rattle.slices.specs.Places.{at, tab, first}
 use Rattle.block.specs.Limits.{listInputs, tableInputs, givenRows, smallerRows}

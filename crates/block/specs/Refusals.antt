@@ -1,7 +1,7 @@
 -- Numbers that come back (01, the section of that name): a refusal is the first check that holds, in the order of the numbers; the
 -- conditions that several operations share; what lent storage holds at the end. Each operation's list of checks stands with its
 -- answer, in `Tables`, `Lists`, `Text` and `Sheet`. Assumes nothing.
-use mathlib.Core.Bool.{Bool, true, false, not, cond, _&&_, _||_}
+use mathlib.Core.Bool.{Bool, not, cond, _&&_, _||_}
 use mathlib.Core.List.{List, [], _∷_}
 use Prim.Native.Nat.{ℕ, _^_}
 use lib.Bits.{bitAnd}

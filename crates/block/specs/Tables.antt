@@ -1,6 +1,6 @@
 -- The operations on tables (01, Numbers that come back): for each its checks in their order, its answer and its results.
 -- Assumes nothing.
-use mathlib.Core.Bool.{Bool, not, cond, _||_}
+use mathlib.Core.Bool.{not, _||_}
 use mathlib.Core.List.{List, [], _∷_}
 use Prim.Native.Nat.{ℕ, _^_}
 use lib.Dec.{eqb, ltb}

@@ -4,9 +4,8 @@
 use mathlib.Core.Path.{_≡_, refl, sym, ap, _∙_}
 use mathlib.Core.Bool.{Bool, true, false, cond, _&&_, _||_, or-true, and-false, false≢true}
 use mathlib.Core.Logic.{_⊎_, inl, inr, ⊎-elim}
-use Prim.Native.Nat.{ℕ, zero, suc, _+_, _≤_, _<_}
+use Prim.Native.Nat.{ℕ, zero, suc, _≤_, _<_}
 use native.Mathlib.Decide.{ℕ-discrete}
-use native.Mathlib.Numerals.{add-one}
 use native.Mathlib.Omega.{arith}
 use borrow.Author.Tests.{eq-eqb, ne-eqb, eqb-false}
 use lib.Dec.{eqb}
@@ -44,11 +43,6 @@ module _ (order : ℕ → ℕ → Bool) (ok : ℕ → Bool) where
   better-keep b t n e = rw (ne-eqb b 0 n, e, and-false)
 
   -- ---- the search
-
-  -- one number more
-  pub best-more : (m : ℕ) → best order ok (m + 1) ≡ better order ok (best order ok m) m
-  unfolding best
-  best-more m = rw add-one
 
   better-of : (b t : ℕ) (x : Bool) → (cond x t b ≡ t) ⊎ (cond x t b ≡ b)
   better-of b t true = inl refl

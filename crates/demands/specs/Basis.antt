@@ -1,10 +1,9 @@
 -- Demand 2, the chosen basis: each number taken is a candidate, has the greatest R, is the smallest such, and no other number is; so
 -- the rule leaves one basis. Every step has a candidate. For any block f with n inputs, and any weight limit w from 1 on.
 -- Assumes nothing.
-use mathlib.Core.Path.{_≡_, sym, ap, _∙_}
+use mathlib.Core.Path.{_≡_, sym, _∙_}
 use mathlib.Core.Bool.{true}
 use Prim.Native.Nat.{ℕ, zero, suc, _^_, _≤_, _<_}
-use native.Mathlib.Nat.{le-antisymm}
 use native.Mathlib.Omega.{arith}
 use Rattle.slices.specs.Places.{at}
 use Rattle.sums.specs.Laws.{below-suc}

@@ -1,12 +1,12 @@
 -- Demand 2, the blocks: the original block at any input equals the smaller table at the transformed input; the smaller table at z is
 -- the block at T z; R and the measure of the smaller block. For any block f with n inputs, and any weight limit w from 1 on.
 -- Assumes nothing.
-use mathlib.Core.Path.{_≡_, sym, ap, ap₂, _∙_}
+use mathlib.Core.Path.{_≡_, sym, ap, _∙_}
 use Prim.Native.Nat.{ℕ, _^_, _≤_, _<_}
 use lib.Bits.{bitXor, xor-lt}
 use lib.ListN.{length}
 use lib.Pow.{pow-lt}
-use Rattle.slices.specs.Places.{at, tab}
+use Rattle.slices.specs.Places.{at}
 use Rattle.slices.specs.Filled.{tab-at, length-tab}
 use Rattle.sums.specs.Sums.{sum}
 use Rattle.sums.specs.Laws.{sum-cong, count-cong}

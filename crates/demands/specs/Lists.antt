@@ -10,7 +10,7 @@ use native.Mathlib.Omega.{arith}
 use borrow.Author.Tests.{lt-ltb, le-ltb, eq-eqb}
 use lib.Dec.{ltb}
 use lib.ListN.{length}
-use Rattle.slices.specs.Places.{at, tab}
+use Rattle.slices.specs.Places.{at}
 use Rattle.slices.specs.Filled.{tab-at, tab-cong, length-tab}
 use Rattle.block.specs.Limits.{tableInputs, outputs, smallerRows}
 use Rattle.block.specs.Words.{none, ofTable, under, wordAt, ofRows}

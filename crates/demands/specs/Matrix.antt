@@ -2,11 +2,10 @@
 -- with n inputs, and any weight limit w from 1 on. Assumes nothing.
 use mathlib.Core.Path.{_≡_, refl, sym, ap, _∙_}
 use mathlib.Core.Bool.{Bool, true, false, false≢true, _||_}
-use Prim.Native.Nat.{ℕ, zero, suc, _+_, _%_, _^_, _≤_, _<_}
+use Prim.Native.Nat.{ℕ, zero, suc, _^_, _≤_, _<_}
 use native.Mathlib.Omega.{arith}
 use borrow.Author.Tests.{eqb-true}
 use lib.Bits.{bitAnd, bitXor}
-use lib.Dec.{eqb}
 use lib.ListN.{length}
 use lib.Pow.{pow-lt}
 use Rattle.bits.specs.Digits.{bit, parity}

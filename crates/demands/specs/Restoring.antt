@@ -1,23 +1,22 @@
 -- Demand 2, the way back: where the table method answers, restoring with its sigma and its smaller table answers 0 and returns the
 -- original table, entry by entry. Assumes nothing.
 use mathlib.Core.Path.{_≡_, refl, sym, ap, _∙_}
-use mathlib.Core.Bool.{Bool, true, false, not, _||_}
-use mathlib.Core.List.{List, [], _∷_}
+use mathlib.Core.Bool.{false, not}
+use mathlib.Core.List.{List}
 use Prim.Native.Nat.{ℕ, _^_, _≤_, _<_}
 use native.Mathlib.Omega.{arith}
 use borrow.Author.Tests.{lt-ltb, le-ltb, eq-eqb}
-use lib.Dec.{eqb, ltb}
-use lib.ListN.{length, getD}
+use lib.ListN.{length}
 use lib.Seq.{ext-getD}
-use Rattle.slices.specs.Places.{at, tab}
+use Rattle.slices.specs.Places.{at}
 use Rattle.slices.specs.Filled.{tab-at, length-tab, getD-any}
 use Rattle.block.specs.Words.{none, ofTable}
-use Rattle.block.specs.Basis.{columns, apply, basisOf, sigmaOf}
-use Rattle.block.specs.Refusals.{Check, check, verdict, answer, badEntry, badNumber, malformed}
+use Rattle.block.specs.Basis.{columns, basisOf, sigmaOf}
+use Rattle.block.specs.Refusals.{answer, badEntry, badNumber}
 use Rattle.block.specs.Tables.{tableMethodVerdict, smallerTable, restoreVerdict, restored}
 use Rattle.matrix.specs.Linear.{columns-lt}
 use Rattle.matrix.specs.Candidate.{basis-independent}
-use Rattle.table_checks.specs.Passed.{MethodPassed, method-passed, method-sizes, method-entries}
+use Rattle.table_checks.specs.Passed.{method-passed, method-sizes, method-entries}
 use Rattle.verdicts.specs.Verdicts.{verdict-miss, verdict-none, none-passes}
 use Rattle.demands.specs.Matrix.{sigma-length, sigma-lt, sigma-independent}
 use Rattle.demands.specs.Blocks.{smaller-at, smaller-length, block-at}

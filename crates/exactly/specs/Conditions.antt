@@ -21,9 +21,9 @@ use Rattle.bits.specs.Bit.{bit-lt, bit-and, bit-none, bit-ext}
 use Rattle.slices.specs.Places.{at, first}
 use Rattle.slices.specs.Least.{first-is, first-below, first-passes, first-found}
 use Rattle.block.specs.Limits.{outputs, smallerRows}
-use Rattle.block.specs.Words.{none, under}
+use Rattle.block.specs.Words.{under}
 use Rattle.block.specs.Basis.{span, columns}
-use Rattle.block.specs.Refusals.{Check, check, outside, sizeChecks, some, badEntry, badNumber, badRow, malformed, rowAt, share, second, sharing, dependent}
+use Rattle.block.specs.Refusals.{Check, check, outside, sizeChecks, badEntry, badNumber, badRow, malformed, rowAt, share, second, sharing, dependent}
 use Rattle.block.specs.Lists.{badRowCheck, shareCheck, rowsAfter, passing, passingCheck}
 use Rattle.block.specs.declared.Row.{Row}
 use Rattle.matrix.specs.Linear.{columns-none, columns-more, columns-xor, columns-unit}

@@ -7,7 +7,7 @@ use mathlib.Core.List.{List, [], _∷_}
 use mathlib.Core.Logic.{_↔_}
 use Prim.Native.Nat.{ℕ, zero, suc, _<_}
 use native.Mathlib.Omega.{arith}
-use Rattle.block.specs.Refusals.{Check, check, answer, verdict}
+use Rattle.block.specs.Refusals.{Check, answer, verdict}
 use Rattle.block.specs.declared.Answer.{Answer}
 use Rattle.verdicts.specs.Verdicts.{verdict-hit, verdict-miss, verdict-none}
 

@@ -86,9 +86,3 @@ listed-rows most masks values words h =
     let e = equal-lengths masks values words (omega arith) in
     let c = rows-count masks values words (e .0) (e .1) in
     record { values-too = e .0; words-too = e .1; some = omega arith; few = omega arith }
-
--- a greater bound holds too
-pub listed-more : (most more : ℕ) (masks values words : List ℕ) → most ≤ more → Listed most masks values words
-    → Listed more masks values words
-listed-more most more masks values words h l =
-    record { values-too = l .values-too; words-too = l .words-too; some = l .some; few = omega arith }

@@ -4,7 +4,7 @@
 use mathlib.Core.Path.{_≡_, refl, sym, ap, _∙_}
 use mathlib.Core.Bool.{Bool, true, false, not, cond, _||_}
 use mathlib.Core.List.{List, [], _∷_, _++_}
-use Prim.Native.Nat.{ℕ, _^_, _≤_, _<_}
+use Prim.Native.Nat.{ℕ, suc, _^_, _≤_, _<_}
 use native.Mathlib.Decide.{decLe}
 use native.Mathlib.Omega.{arith}
 use borrow.Author.Tests.{lt-ltb, le-ltb}
@@ -23,6 +23,10 @@ use Rattle.block.specs.Sheet.{sheet, sheetVerdict, sheetText}
 use Rattle.block.specs.declared.Row.{Row}
 use Rattle.block.specs.declared.Answer.{Answer}
 use Rattle.verdicts.specs.Verdicts.{verdict-hit, verdict-miss, Numbered, verdict-parts}
+
+-- the rows that are looked at: one more than any operation takes
+abbrev cutRows : ℕ
+cutRows = suc smallerRows
 
 -- what stands after a check that holds does not count
 pub past : (pre : List Check) (c : Check) (ds es : List Check) → c .holds ≡ true → verdict (pre ++ (c ∷ ds)) ≡ verdict (pre ++ (c ∷ es))
@@ -56,20 +60,20 @@ module _ (pre : List Check) (most : ℕ) (rest : List Row → List Check) (numbe
   many rs h = ap (λ (c : Check). verdict (pre ++ (c ∷ rest rs))) (too-many most rs h) ∙ past pre (check true 4 0 0) (rest rs) [] refl
 
   pub cut-same : {X : Type 0} (F : Answer → List Row → X) → ((v : Answer) (l m : List Row) → answered v ≡ false → F v l ≡ F v m)
-      → (rs : List Row) → F (verdictOf (take 513 rs)) (take 513 rs) ≡ F (verdictOf rs) rs
-  cut-same F alike rs = go (decLe (length rs) 513)
+      → (rs : List Row) → F (verdictOf (take cutRows rs)) (take cutRows rs) ≡ F (verdictOf rs) rs
+  cut-same F alike rs = go (decLe (length rs) cutRows)
     where
-      go : Dec (length rs ≤ 513) → F (verdictOf (take 513 rs)) (take 513 rs) ≡ F (verdictOf rs) rs
-      go (yes h) = ap (λ (l : List Row). F (verdictOf l) l) (take-all 513 rs h)
+      go : Dec (length rs ≤ cutRows) → F (verdictOf (take cutRows rs)) (take cutRows rs) ≡ F (verdictOf rs) rs
+      go (yes h) = ap (λ (l : List Row). F (verdictOf l) l) (take-all cutRows rs h)
       go (no h) =
           let v : Answer = verdict (pre ++ (check true 4 0 0 ∷ [])) in
-          ap (λ (u : Answer). F u (take 513 rs)) (many (take 513 rs) (omega (arith, length-take 513 rs)))
-          ∙ alike v (take 513 rs) rs (refused pre (check true 4 0 0) [] numbered refl refl)
+          ap (λ (u : Answer). F u (take cutRows rs)) (many (take cutRows rs) (omega (arith, length-take cutRows rs)))
+          ∙ alike v (take cutRows rs) rs (refused pre (check true 4 0 0) [] numbered refl refl)
           ∙ sym (ap (λ (u : Answer). F u rs) (many rs (omega arith)))
 
 -- ---- a single shift value
 
-pub value-cut : (n k t : ℕ) (rs : List Row) → rowValue n k t (take 513 rs) ≡ rowValue n k t rs
+pub value-cut : (n k t : ℕ) (rs : List Row) → rowValue n k t (take cutRows rs) ≡ rowValue n k t rs
 unfolding rowValue rowValueVerdict
 value-cut n k t =
     cut-same (sizeChecks listInputs n k (check (not (ltb t (2 ^ n))) 3 0 0 ∷ [])) givenRows (rowChecks n k)
@@ -79,42 +83,42 @@ value-cut n k t =
 
 module _ (n k room : ℕ) where
   fill-alike : {X : Type 0} (F : Answer → List Row → X) → ((v : Answer) (l m : List Row) → answered v ≡ false → F v l ≡ F v m)
-      → (rs : List Row) → F (fillVerdict n k (take 513 rs) room) (take 513 rs) ≡ F (fillVerdict n k rs room) rs
+      → (rs : List Row) → F (fillVerdict n k (take cutRows rs) room) (take cutRows rs) ≡ F (fillVerdict n k rs room) rs
   unfolding fillVerdict
   fill-alike =
       cut-same (sizeChecks tableInputs n k []) smallerRows (λ l. check (ltb room (2 ^ n)) 5 0 0 ∷ rowChecks n k l)
       (refl, (refl, tt)) (omega arith)
 
-  pub fill-cut : (rs : List Row) → fillVerdict n k (take 513 rs) room ≡ fillVerdict n k rs room
+  pub fill-cut : (rs : List Row) → fillVerdict n k (take cutRows rs) room ≡ fillVerdict n k rs room
   fill-cut = fill-alike (λ v l. v) (λ v l m h. refl)
 
   pub filled-cut : (table : List ℕ) (rs : List Row)
-      → stored (fillVerdict n k (take 513 rs) room) (filled n (take 513 rs)) table ≡ stored (fillVerdict n k rs room) (filled n rs) table
+      → stored (fillVerdict n k (take cutRows rs) room) (filled n (take cutRows rs)) table ≡ stored (fillVerdict n k rs room) (filled n rs) table
   filled-cut table = fill-alike (λ v l. stored v (filled n l) table) (λ v l m h. rw h)
 
 -- ---- writing row text
 
 module _ (n k room : ℕ) where
   write-alike : {X : Type 0} (F : Answer → List Row → X) → ((v : Answer) (l m : List Row) → answered v ≡ false → F v l ≡ F v m)
-      → (rs : List Row) → F (writeVerdict n k (take 513 rs) room) (take 513 rs) ≡ F (writeVerdict n k rs room) rs
+      → (rs : List Row) → F (writeVerdict n k (take cutRows rs) room) (take cutRows rs) ≡ F (writeVerdict n k rs room) rs
   unfolding writeVerdict
   write-alike =
       cut-same (sizeChecks listInputs n k []) givenRows (λ l. check (ltb room textRoom) 5 0 0 ∷ badRowCheck n k l ∷ []) (refl, (refl, tt))
       (omega arith)
 
-  pub write-cut : (rs : List Row) → writeText n k (take 513 rs) room ≡ writeText n k rs room
+  pub write-cut : (rs : List Row) → writeText n k (take cutRows rs) room ≡ writeText n k rs room
   unfolding writeText
   write-cut = write-alike (λ v l. withBytes v (textOf n k l)) (λ v l m h. rw h)
 
   pub written-cut : (out : List ℕ) (rs : List Row)
-      → stored (writeVerdict n k (take 513 rs) room) (textOf n k (take 513 rs)) out ≡ stored (writeVerdict n k rs room) (textOf n k rs) out
+      → stored (writeVerdict n k (take cutRows rs) room) (textOf n k (take cutRows rs)) out ≡ stored (writeVerdict n k rs room) (textOf n k rs) out
   written-cut out = write-alike (λ v l. stored v (textOf n k l) out) (λ v l m h. rw h)
 
 -- ---- the row method, and the sheet; `short` says that the lent room is too short
 
 module _ (n k w : ℕ) (short : Bool) where
   method-alike : {X : Type 0} (F : Answer → List Row → X) → ((v : Answer) (l m : List Row) → answered v ≡ false → F v l ≡ F v m)
-      → (rs : List Row) → F (verdict (methodChecks n k w (take 513 rs) short)) (take 513 rs) ≡ F (verdict (methodChecks n k w rs short)) rs
+      → (rs : List Row) → F (verdict (methodChecks n k w (take cutRows rs) short)) (take cutRows rs) ≡ F (verdict (methodChecks n k w rs short)) rs
   unfolding methodChecks
   method-alike =
       cut-same (sizeChecks listInputs n k (check (outside 1 n w) 3 0 0 ∷ [])) givenRows
@@ -122,7 +126,7 @@ module _ (n k w : ℕ) (short : Bool) where
       (refl, (refl, (refl, tt))) (omega arith)
 
 module _ (n k w a b c : ℕ) where
-  pub method-cut : (rs : List Row) → rowMethod n k w (take 513 rs) a b c ≡ rowMethod n k w rs a b c
+  pub method-cut : (rs : List Row) → rowMethod n k w (take cutRows rs) a b c ≡ rowMethod n k w rs a b c
   unfolding rowMethod rowMethodVerdict
   method-cut =
       method-alike n k w (ltb a n || (ltb b n || ltb c smallerRows)) (λ v l.
@@ -137,18 +141,18 @@ module _ (n k w a b c : ℕ) where
 
   -- S is a result of the method, by the rows
   pub method-stored-cut : {X : Type 0} (S : List Row → List X) (before : List X) (rs : List Row)
-      → stored (rowMethodVerdict n k w (take 513 rs) a b c) (S (take 513 rs)) before ≡ stored (rowMethodVerdict n k w rs a b c) (S rs) before
+      → stored (rowMethodVerdict n k w (take cutRows rs) a b c) (S (take cutRows rs)) before ≡ stored (rowMethodVerdict n k w rs a b c) (S rs) before
   unfolding rowMethodVerdict
   method-stored-cut S before =
       method-alike n k w (ltb a n || (ltb b n || ltb c smallerRows)) (λ v l. stored v (S l) before) (λ v l m h. rw h)
 
 module _ (n k w room : ℕ) where
-  pub sheet-cut : (rs : List Row) → sheet n k w (take 513 rs) room ≡ sheet n k w rs room
+  pub sheet-cut : (rs : List Row) → sheet n k w (take cutRows rs) room ≡ sheet n k w rs room
   unfolding sheet sheetVerdict
   sheet-cut = method-alike n k w (ltb room sheetRoom) (λ v l. withBytes v (sheetText n k w l)) (λ v l m h. rw h)
 
   pub sheet-stored-cut : (out : List ℕ) (rs : List Row)
-      → stored (sheetVerdict n k w (take 513 rs) room) (sheetText n k w (take 513 rs)) out
+      → stored (sheetVerdict n k w (take cutRows rs) room) (sheetText n k w (take cutRows rs)) out
       ≡ stored (sheetVerdict n k w rs room) (sheetText n k w rs) out
   unfolding sheetVerdict
   sheet-stored-cut out = method-alike n k w (ltb room sheetRoom) (λ v l. stored v (sheetText n k w l) out) (λ v l m h. rw h)

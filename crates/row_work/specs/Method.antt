@@ -3,7 +3,7 @@
 use mathlib.Core.Path.{_≡_, refl, sym, ap, _∙_, subst}
 use mathlib.Core.Bool.{Bool, true, false, cond, _||_}
 use mathlib.Core.List.{List, [], _∷_, map}
-use Prim.Native.Nat.{ℕ, suc, _≤_, _<_}
+use Prim.Native.Nat.{ℕ, suc, _≤_}
 use native.Mathlib.Omega.{arith}
 use lib.Dec.{ltb}
 use lib.ListN.{length}
@@ -19,7 +19,7 @@ use Rattle.block.specs.declared.RowMethodAnswer.{RowMethodAnswer}
 use Rattle.checks.specs.Sizes.{long-enough}
 use Rattle.answered_laws.specs.Passed.{method-numbered}
 use Rattle.verdicts.specs.Verdicts.{verdict-hit, verdict-miss, verdict-none, part-refuses, part-passes, rows-refused, kept, given}
-use Rattle.smaller_rows.specs.Work.{Kept, Made, RowsWorked}
+use Rattle.smaller_rows.specs.Work.{Kept, RowsWorked}
 use Rattle.smaller_rows.specs.declared.RowWork.{RowWork}
 
 -- the answer, and T, sigma and the smaller rows in lent storage, by the verdict

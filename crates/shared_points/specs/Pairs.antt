@@ -10,7 +10,7 @@ use lib.Bits.{bitAnd, bitXor}
 use lib.Dec.{ltb}
 use lib.ListN.{length}
 use Rattle.slices.specs.Places.{at}
-use Rattle.block.specs.Words.{row, rowsOf}
+use Rattle.block.specs.Words.{rowsOf}
 use Rattle.block.specs.Refusals.{answer, verdict, andThen, rowAt, second, sharing}
 use Rattle.block.specs.Lists.{shareCheck}
 use Rattle.block.specs.declared.Row.{Row}

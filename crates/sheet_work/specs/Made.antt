@@ -1,6 +1,6 @@
 -- The sheet by what the row method leaves in working storage: where it answers 0, the text put from that storage is 01's sheet; where it
 -- refuses, so does the sheet. Assumes nothing.
-use mathlib.Core.Path.{_≡_, refl, sym, ap, _∙_}
+use mathlib.Core.Path.{_≡_, sym, ap, _∙_}
 use mathlib.Core.List.{List, map}
 use Prim.Native.Nat.{ℕ, _*_, _^_, _≤_}
 use native.Mathlib.Nat.{mul-le-mul, zero-add}
@@ -27,7 +27,7 @@ use Rattle.pairs.specs.Theorem.{shift-le}
 use Rattle.matrix.specs.Inverse.{length-basis, length-sigma}
 use Rattle.listing.specs.Listing.{rowsFrom}
 use Rattle.puts.specs.Puts.{Put, put-over}
-use Rattle.smaller_rows.specs.Put.{rows-put}
+use Rattle.moved_rows.specs.Put.{rows-put}
 use Rattle.row_work.specs.Method.{MethodDone}
 use Rattle.sheetlines.specs.Length.{sheet-le}
 use Rattle.sheet_work.specs.Work.{sheetWork}

@@ -1,3 +1,2 @@
--- What the work of the row method leaves: `Put` has a list laid at the front of three slices, `Work` the results.
-pub mod Put
+-- What the work of the row method leaves, and how it follows from what its parts leave.
 pub mod Work

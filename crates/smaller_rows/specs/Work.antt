@@ -1,22 +1,22 @@
 -- What the work of the row method leaves, and how it follows from what its parts leave. Assumes nothing.
 use mathlib.Core.Path.{_≡_, refl, sym, ap, _∙_}
 use mathlib.Core.Bool.{cond}
-use mathlib.Core.List.{List, map}
+use mathlib.Core.List.{List}
 use Prim.Native.Nat.{ℕ, suc, _≤_, _<_}
 use native.Mathlib.Omega.{arith}
 use lib.Dec.{ltb}
 use lib.ListN.{length, drop, List·getD-append}
 use Rattle.slices.specs.Places.{at, tab, over}
-use Rattle.slices.specs.Filled.{length-tab, map-tab, tab-front}
+use Rattle.slices.specs.Filled.{length-tab, tab-front}
 use Rattle.slices.specs.Least.{first-cong}
 use Rattle.block.specs.Limits.{smallerRows}
-use Rattle.block.specs.Words.{row, ofRows, rowsOf}
+use Rattle.block.specs.Words.{row, ofRows}
 use Rattle.block.specs.Measure.{shift, measure}
 use Rattle.block.specs.Basis.{basisOf, sigmaOf, smallerOf}
 use Rattle.block.specs.Rows.{moved}
 use Rattle.block.specs.Lists.{rowsAfter, passing, smallerList}
 use Rattle.block.specs.declared.Row.{Row}
-use Rattle.listing.specs.Listing.{Listed, rowsFrom, rows-of}
+use Rattle.listing.specs.Listing.{rowsFrom}
 use Rattle.choice.specs.Chosen.{length-chosen}
 use Rattle.matrix.specs.Reached.{Independent, independent-cong}
 use Rattle.matrix.specs.Candidate.{basis-independent}
@@ -27,7 +27,7 @@ use Rattle.choosing.specs.declared.Measures.{Measures}
 use Rattle.row_adding.specs.Held.{rows-copied}
 use Rattle.row_steps.specs.Passed.{passingBy, Replayed}
 use Rattle.row_steps.specs.declared.Replay.{Replay}
-use Rattle.smaller_rows.specs.Put.{ListPut}
+use Rattle.moved_rows.specs.Put.{ListPut}
 use Rattle.smaller_rows.specs.declared.RowWork.{RowWork}
 
 -- where the list passes 512 rows, all that was lent holds what it held

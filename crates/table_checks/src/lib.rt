@@ -40,15 +40,23 @@ pub fn first_bad_entry(k: usize, table: &[u16]) -> usize
     i
 }
 
-// The least matrix row that is not below 2^n, or the number of rows.
+// Whether a matrix row is not below 2^n.
+pub fn is_bad_number(n: usize, x: u32) -> bool
+    requires { ⌜ n ≤ tableInputs ⌝ }
+    ensures { λ r. ⌜ r ≡ badNumber n x ⌝ }
+{
+    let below = x < numbers::power(n);
+    !below
+}
+
+// The least matrix row that is malformed, or the number of rows.
 pub fn first_bad_number(n: usize, rows: &[u32]) -> usize
     requires { ⌜ n ≤ tableInputs ⌝ }
     ensures { λ r. ⌜ r ≡ first (length (now (rows .entry))) (λ i. badNumber n (at (now (rows .entry)) i)) ⌝ }
 {
-    let most = numbers::power(n);
     let mut i: usize = 0;
     while i < rows.len() {
-        if most <= rows[i] {
+        if is_bad_number(n, rows[i]) {
             return i;
         }
         i += 1;

@@ -1,6 +1,5 @@
--- The verdict of a list of checks is the first that holds: the answer of check i exactly where i is the least that holds, and 0
--- exactly where none does; what 0 says, check by check; a list in two parts, and lists asked one after the other; what goes with an
--- answer and with a refusal. Assumes nothing.
+-- The verdict of a list of checks is the first that holds: one check; what an answer of 0 says, of all and check by check; a list in two
+-- parts, and lists asked one after the other; what goes with an answer and with a refusal. Assumes nothing.
 use mathlib.Core.Path.{_≡_, refl, sym, ap, _∙_}
 use mathlib.Core.Bool.{Bool, true, false, cond, false≢true}
 use mathlib.Core.List.{List, [], _∷_, _++_}
@@ -30,14 +29,14 @@ pub verdict-none : verdict [] ≡ answer 0 0 0
 unfolding verdict
 verdict-none = refl
 
--- a check that looks for some number: it holds nowhere exactly where none passes
+-- a check that looks for some number does not hold exactly where none passes
 pub none-passes : (m : ℕ) (p : ℕ → Bool) → ((i : ℕ) → i < m → p i ≡ false) → some m p ≡ false
 none-passes m p h = le-ltb _ m (rw (first-is m p m (omega arith) h (λ b. absurd (omega arith))) (omega arith))
 
 pub passes-none : (m : ℕ) (p : ℕ → Bool) → some m p ≡ false → (i : ℕ) → i < m → p i ≡ false
 passes-none m p h i l = first-below m p i (omega (arith, ltb-false (first m p) m h))
 
--- ---- "given exactly when"
+-- ---- what an answer of 0 says
 
 -- a check that never holds, past the end of a list
 abbrev never : Check
@@ -46,25 +45,6 @@ never = check false 0 0 0
 -- check i of a list
 abbrev pub checkAt : List Check → ℕ → Check
 checkAt cs i = getD cs i never
-
--- check i holds and no earlier one does
-pub record First (cs : List Check) (i : ℕ) : Type 0 where
-  pub holds : checkAt cs i .holds ≡ true
-  pub earlier : (j : ℕ) → j < i → checkAt cs j .holds ≡ false
-
--- then its numbers are the verdict
-pub verdict-first : (cs : List Check) (i : ℕ) → First cs i
-    → verdict cs ≡ answer (checkAt cs i .number) (checkAt cs i .a) (checkAt cs i .b)
-verdict-first [] i f = absurd (false≢true (f .holds))
-verdict-first (c ∷ cs) zero f = verdict-hit c cs (f .holds)
-verdict-first (c ∷ cs) (suc i) f =
-    verdict-miss c cs (f .earlier 0 (omega arith))
-    ∙ verdict-first cs i (record { holds = f .holds; earlier = λ j h. f .earlier (suc j) (omega arith) })
-
--- where no check holds the verdict is 0
-pub verdict-clear : (cs : List Check) → ((j : ℕ) → j < length cs → checkAt cs j .holds ≡ false) → verdict cs ≡ answer 0 0 0
-verdict-clear [] h = verdict-none
-verdict-clear (c ∷ cs) h = verdict-miss c cs (h 0 (omega arith)) ∙ verdict-clear cs (λ j l. h (suc j) (omega arith))
 
 -- every check of a list has a number of its own, not 0
 abbrev pub Numbered : List Check → Type 0

@@ -1,41 +1,35 @@
--- `table_checks::first_bad_number` meets its contract. The loop's invariant: no row before i is malformed. The measure is what is left.
+-- `table_checks::first_bad_number` meets its contract. The loop's invariant: no matrix row before i is malformed. The measure is what is left.
 -- Assumes nothing.
-use mathlib.Core.Path.{_≡_, sym, ap, _∙_}
-use mathlib.Core.Bool.{false, not}
-use Prim.Native.Nat.{ℕ, _≤_, _<_, _-_, _^_}
-use native.Mathlib.Omega.{arith}
-use borrow.Author.Count.{below-more}
-use borrow.Author.Tests.{lt-ltb, le-ltb}
+use mathlib.Core.Path.{sym, _∙_}
+use Prim.Native.Nat.{_-_}
 use lib.ListN.{length}
-use Rattle.slices.specs.Places.{at}
-use Rattle.slices.specs.Least.{first-is}
+use native.Mathlib.Omega.{arith}
 use Rattle.block.specs.Refusals.{badNumber}
+use Rattle.table_checks.specs.Search.{Searched, search-starts, search-goes-on, search-finds, search-ends}
 use borrow.Author.Needs.{needs}
 use Rattle.table_checks.proofs.first_bad_number.Statement.{statement}
 use Rattle.table_checks.proofs.first_bad_number.Tie as tie
 
 abbrev Inv-loop : tie.InvT-loop
-Inv-loop n rows most i₀ i = (i ≤ length rows) × (most ≡ 2 ^ n) × ((j : ℕ) → j < i → badNumber n (at rows j) ≡ false)
+Inv-loop n rows i₀ i = Searched (badNumber n) rows i
 
 abbrev μ-loop : tie.MeasureT-loop
-μ-loop n rows most i₀ i = length rows - i
-
-power-requires : tie.Need-power-requires Inv-loop μ-loop
-power-requires c κs = search needs
+μ-loop n rows i₀ i = length rows - i
 
 loop-holds : tie.Need-loop-holds Inv-loop μ-loop
-loop-holds c = (search needs, search needs, λ j h. absurd (omega arith))
+loop-holds c = search-starts _ _
 
-mul-if1 : tie.Need-mul-if1 Inv-loop μ-loop
-mul-if1 c = search needs
+mul-is-bad-number : tie.Need-mul-is-bad-number Inv-loop μ-loop
+mul-is-bad-number c = search needs
 
-shared-slice-read-if1 : tie.Need-shared-slice-read-if1 Inv-loop μ-loop
-shared-slice-read-if1 c = search needs
+shared-slice-read-is-bad-number : tie.Need-shared-slice-read-is-bad-number Inv-loop μ-loop
+shared-slice-read-is-bad-number c = search needs
+
+is-bad-number-requires : tie.Need-is-bad-number-requires Inv-loop μ-loop
+is-bad-number-requires c κs = search needs
 
 returns : tie.Need-returns Inv-loop μ-loop
-returns c =
-    sym (first-is _ _ _ (omega arith) (c .before .before .before .loop .inv .2)
-    (λ h. ap not (le-ltb _ _ (rw (c .before .before .before .loop .inv .1) at (c .if1 .taken)))))
+returns c = search-finds _ _ _ (c .before .before .before .before .loop .inv) (sym (c .before .is-bad-number .ensures) ∙ c .if1 .taken)
 
 add-i : tie.Need-add-i Inv-loop μ-loop
 add-i c = search needs
@@ -44,15 +38,10 @@ loop-less : tie.Need-loop-less Inv-loop μ-loop
 loop-less c = search needs
 
 loop-again : tie.Need-loop-again Inv-loop μ-loop
-loop-again c = (
-  search needs,
-  search needs,
-  below-more _ _ (c .before .before .before .loop .inv .2)
-      (ap not (lt-ltb _ _ (rw (c .before .before .before .loop .inv .1) at (c .if1 .left)))),
-)
+loop-again c = search-goes-on _ _ _ (c .before .before .before .before .loop .inv) (omega arith) (sym (c .before .is-bad-number .ensures) ∙ c .if1 .left)
 
 returns-2 : tie.Need-returns-2 Inv-loop μ-loop
-returns-2 c = sym (first-is _ _ _ (omega arith) (c .before .loop .inv .2) (λ h. absurd (omega arith)))
+returns-2 c = search-ends _ _ _ (c .before .loop .inv) (omega arith)
 
 pub first-bad-number-spec : {M : Type 1} → statement M
 first-bad-number-spec =
@@ -60,10 +49,10 @@ first-bad-number-spec =
     (tie.spec
     Inv-loop
     μ-loop
-    power-requires
     loop-holds
-    mul-if1
-    shared-slice-read-if1
+    mul-is-bad-number
+    shared-slice-read-is-bad-number
+    is-bad-number-requires
     returns
     add-i
     loop-less

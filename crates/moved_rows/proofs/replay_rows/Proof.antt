@@ -1,11 +1,11 @@
--- `smaller_rows::replay_rows` meets its contract: what was laid at the front is the list. Assumes nothing.
+-- `moved_rows::replay_rows` meets its contract: what was laid at the front is the list. Assumes nothing.
 use native.Mathlib.Omega.{arith}
 use denote.Ref.{now}
 use Rattle.block.specs.Limits.{givenRows}
-use Rattle.smaller_rows.specs.Put.{rows-laid}
+use Rattle.moved_rows.specs.Put.{rows-laid}
 use borrow.Author.Needs.{needs}
-use Rattle.smaller_rows.proofs.replay_rows.Statement.{statement}
-use Rattle.smaller_rows.proofs.replay_rows.Tie as tie
+use Rattle.moved_rows.proofs.replay_rows.Statement.{statement}
+use Rattle.moved_rows.proofs.replay_rows.Tie as tie
 
 put-list-requires : tie.Need-put-list-requires
 put-list-requires c κs =

@@ -1,9 +1,9 @@
--- `smaller_rows::put_list` meets its contract: the parts of the rows are copied one by one. Assumes nothing.
+-- `moved_rows::put_list` meets its contract: the parts of the rows are copied one by one. Assumes nothing.
 use denote.Ref.{now}
-use Rattle.smaller_rows.specs.Put.{list-put}
+use Rattle.moved_rows.specs.Put.{list-put}
 use borrow.Author.Needs.{needs}
-use Rattle.smaller_rows.proofs.put_list.Statement.{statement}
-use Rattle.smaller_rows.proofs.put_list.Tie as tie
+use Rattle.moved_rows.proofs.put_list.Statement.{statement}
+use Rattle.moved_rows.proofs.put_list.Tie as tie
 
 copy-first-requires : tie.Need-copy-first-requires
 copy-first-requires c κs = search needs

@@ -1,0 +1,2 @@
+-- A list of rows laid at the front of three slices.
+pub mod Put
