@@ -1,4 +1,2 @@
--- No operation looks further than the records that were copied out (`Cut`), so that what is promised of the arrays is promised of the
--- records (`Records`).
+-- No operation looks further than the records that are copied out.
 pub mod Cut
-pub mod Records

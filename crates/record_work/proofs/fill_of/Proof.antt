@@ -30,7 +30,7 @@ same-length : tie.Need-same-length
 same-length c = search needs
 
 returns : tie.Need-returns
-returns c = search needs
+returns c = c .before .before .fill-table .ensures
 
 pub fill-of-spec : {M : Type 1} → statement M
 fill-of-spec =

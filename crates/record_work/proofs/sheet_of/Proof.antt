@@ -30,7 +30,7 @@ same-length : tie.Need-same-length
 same-length c = search needs
 
 returns : tie.Need-returns
-returns c = search needs
+returns c = c .before .before .sheet .ensures
 
 pub sheet-of-spec : {M : Type 1} → statement M
 sheet-of-spec =

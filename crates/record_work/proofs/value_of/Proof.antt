@@ -27,7 +27,7 @@ row-value-requires : tie.Need-row-value-requires
 row-value-requires c κs = search needs
 
 returns : tie.Need-returns
-returns c = search needs
+returns c = c .row-value .ensures
 
 pub value-of-spec : {M : Type 1} → statement M
 value-of-spec =

@@ -5,7 +5,7 @@ use native.Mathlib.Omega.{arith}
 use denote.Struct.Laws as LL
 use Rattle.promises.specs.Lists.{FillPromise}
 use Rattle.record_copies.specs.Flat.{listed, gathered-sized}
-use Rattle.record_work.specs.Records.{fill-records}
+use Rattle.records.specs.Records.{fill-records}
 use Rattle.block.proofs.Row as T
 use Rattle.block.proofs.Answer as An
 use Rattle.block.proofs.Answer.Laws as An′

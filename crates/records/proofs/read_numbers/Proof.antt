@@ -4,7 +4,7 @@ use Rattle.record_copies.proofs.Thin.{refl, List, [], _∷_, length, fullShare,
 use denote.Struct.Laws as LL
 use Rattle.promises.specs.Texts.{ReadPromise}
 use Rattle.record_copies.specs.Yielded.{lentArrays}
-use Rattle.record_work.specs.Records.{read-records}
+use Rattle.records.specs.Records.{read-records}
 use Rattle.block.proofs.Row as T
 use Rattle.block.proofs.ReadAnswer as An
 use Rattle.block.proofs.ReadAnswer.Laws as An′

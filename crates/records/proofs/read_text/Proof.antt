@@ -6,7 +6,7 @@ use denote.Enum.Laws as EL
 use Rattle.block.specs.Text.{numbers}
 use Rattle.promises.specs.Texts.{ReadPromise}
 use Rattle.record_copies.specs.Yielded.{lentArrays}
-use Rattle.record_work.specs.Records.{read-records}
+use Rattle.records.specs.Records.{read-records}
 use Rattle.block.proofs.Row as T
 use Rattle.block.proofs.Reading as An
 use Rattle.block.proofs.Reading.Laws as An′

@@ -6,7 +6,7 @@ use denote.Struct.Laws as LL
 use Rattle.promises.specs.Lists.{RowMethodPromise}
 use Rattle.record_copies.specs.Flat.{listed, gathered-sized}
 use Rattle.record_copies.specs.Yielded.{lentArrays}
-use Rattle.record_work.specs.Records.{method-records}
+use Rattle.records.specs.Records.{method-records}
 use Rattle.block.proofs.Row as T
 use Rattle.block.proofs.RowMethodAnswer as An
 use Rattle.block.proofs.RowMethodAnswer.Laws as An′

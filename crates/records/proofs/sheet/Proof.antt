@@ -5,7 +5,7 @@ use native.Mathlib.Omega.{arith}
 use denote.Struct.Laws as LL
 use Rattle.promises.specs.Sheets.{SheetPromise}
 use Rattle.record_copies.specs.Flat.{listed, gathered-sized}
-use Rattle.record_work.specs.Records.{sheet-records}
+use Rattle.records.specs.Records.{sheet-records}
 use Rattle.block.proofs.Row as T
 use Rattle.block.proofs.TextAnswer as An
 use Rattle.block.proofs.TextAnswer.Laws as An′
