@@ -1,6 +1,6 @@
 -- What an answer of 0 says of a list of rows, by named fields; how it follows from each operation's checks, and that a list with those
 -- facts is answered: here alone a proof knows in which order they are asked. Not here: tables (crate table_checks), and what 0 says of slices that hold the rows (crate
--- listing). Assumes nothing.
+-- flat_rows). Assumes nothing.
 use mathlib.Core.Path.{_≡_, refl, _∙_}
 use mathlib.Core.Bool.{Bool, true, false, not}
 use mathlib.Core.List.{List, [], _∷_, _++_}
@@ -14,11 +14,11 @@ use Rattle.block.specs.Limits.{listInputs, tableInputs, outputs, givenRows, sma
 use Rattle.block.specs.Refusals.{Check, check, answer, verdict, outside, sizeChecks, badRow, rowAt, sharing}
 use Rattle.block.specs.Lists.{countCheck, badRowCheck, rowChecks, rowValueVerdict, rowsAfter, passing, passingCheck, methodChecked, methodChecks, smallerList, fillVerdict}
 use Rattle.block.specs.declared.Row.{Row}
-use Rattle.verdicts.specs.Verdicts.{verdict-miss, verdict-none, none-passes, passes, Numbered}
-use Rattle.checks.specs.Sizes.{inside, within, sizes-pass}
-use Rattle.pairs.specs.Cube.{Sound}
-use Rattle.pairs.specs.Theorem.{Every, Disjoint}
-use Rattle.pairs.specs.Share.{good-sound, apart-sharing, every-good, checked-disjoint}
+use Rattle.refusal_laws.specs.Verdicts.{verdict-miss, verdict-none, none-passes, passes, Numbered}
+use Rattle.shared_checks.specs.Sizes.{inside, within, sizes-pass}
+use Rattle.pair_laws.specs.Cube.{Sound}
+use Rattle.pair_laws.specs.Theorem.{Every, Disjoint}
+use Rattle.pair_laws.specs.Share.{good-sound, apart-sharing, every-good, checked-disjoint}
 
 -- ---- what is said
 

@@ -4,12 +4,12 @@
 // 1 refused, 2 can't be read, 3 can't be written, 4 passed over.
 use block::READ_BYTES;
 use block::SHEET_ROOM;
-use import_lines::LINE_ROOM;
 use import_paths::NAME_MOST;
 use import_says::say_name;
 use import_says::say_why;
 use libc::STDERR_FILENO;
 use libc::STDOUT_FILENO;
+use put_import::LINE_ROOM;
 use saying::is_same;
 use saying::say;
 ghost use Prim.Native.Nat.{_≤_};

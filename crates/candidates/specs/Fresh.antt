@@ -11,7 +11,7 @@ use lib.Pow.{pow-mono}
 use Rattle.bits.specs.Digits.{parity}
 use Rattle.sums.specs.Laws.{sum-mono}
 use Rattle.block.specs.Basis.{apply}
-use Rattle.matrix.specs.Linear.{apply-more, apply-lt}
+use Rattle.matrix_laws.specs.Linear.{apply-more, apply-lt}
 
 module _ (s : ℕ → ℕ) (n k x : ℕ) where
   -- nothing so far at position k or above

@@ -43,7 +43,7 @@ pub fn is_fresh(s: &[u32], n: usize, k: usize, t: u32) -> bool
 {
     let mut j = k;
     while j < n {
-        if numbers::parity_of(s[j] & t) == 1 {
+        if bit_work::parity_of(s[j] & t) == 1 {
             return true;
         }
         j += 1;

@@ -11,11 +11,11 @@ use Rattle.slices.specs.Filled.{over-at}
 use Rattle.sums.specs.Laws.{sum-cong}
 use Rattle.block.specs.Measure.{shift, measure}
 use Rattle.block.specs.Basis.{basisOf, sigmaOf, smallerOf}
-use Rattle.choice.specs.Chosen.{Agree, pick, pick-lt, pick-cong, basis-tab, basis-at}
-use Rattle.matrix.specs.Reach.{reachRows}
-use Rattle.matrix.specs.Candidate.{pick-ones, basis-independent}
-use Rattle.matrix.specs.Inverse.{sigma-tab}
-use Rattle.matrix.specs.Smaller.{measure-smaller}
+use Rattle.choice_laws.specs.Chosen.{Agree, pick, pick-lt, pick-cong, basis-tab, basis-at}
+use Rattle.matrix_laws.specs.Reach.{reachRows}
+use Rattle.matrix_laws.specs.Candidate.{pick-ones, basis-independent}
+use Rattle.matrix_laws.specs.Inverse.{sigma-tab}
+use Rattle.matrix_laws.specs.Smaller.{measure-smaller}
 use Rattle.choosing.specs.Steps.{ChosenBasis}
 use Rattle.choosing.specs.declared.Measures.{Measures}
 

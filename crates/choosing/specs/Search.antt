@@ -12,7 +12,7 @@ use lib.Dec.{eqb, leb}
 use lib.ListN.{length, length-append, List·getD-append}
 use Rattle.slices.specs.Places.{at}
 use Rattle.block.specs.Basis.{before, better, best, apply}
-use Rattle.choice.specs.Choice.{better-no}
+use Rattle.choice_laws.specs.Choice.{better-no}
 use Rattle.candidates.specs.Light.{light}
 use Rattle.walks.specs.Walk.{walkTo, walk, Walked, push-last}
 use Rattle.choosing.specs.Steps.{candidateBy}

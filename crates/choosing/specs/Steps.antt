@@ -12,11 +12,11 @@ use Rattle.slices.specs.Filled.{over-at}
 use Rattle.sums.specs.Sums.{sum}
 use Rattle.sums.specs.Laws.{sum-cong}
 use Rattle.block.specs.Basis.{before, best, candidate, apply}
-use Rattle.choice.specs.Choice.{best-cong}
-use Rattle.choice.specs.Chosen.{pick, pick-best}
-use Rattle.matrix.specs.Linear.{apply-cong}
-use Rattle.matrix.specs.Reach.{reachRows, candidate-rows}
-use Rattle.matrix.specs.Candidate.{pick-independent}
+use Rattle.choice_laws.specs.Choice.{best-cong}
+use Rattle.choice_laws.specs.Chosen.{pick, pick-best}
+use Rattle.matrix_laws.specs.Linear.{apply-cong}
+use Rattle.matrix_laws.specs.Reach.{reachRows, candidate-rows}
+use Rattle.matrix_laws.specs.Candidate.{pick-independent}
 use Rattle.matrix_steps.specs.Steps.{held}
 use Rattle.choosing.specs.declared.Measures.{Measures}
 

@@ -6,8 +6,8 @@ ghost use lib.ListN.{length};
 ghost use Rattle.slices.specs.Places.{at, tab, over};
 ghost use Rattle.block.specs.Limits.{listInputs};
 ghost use Rattle.block.specs.Basis.{before, best};
-ghost use Rattle.choice.specs.Chosen.{pick};
-ghost use Rattle.matrix.specs.Reach.{reachRows};
+ghost use Rattle.choice_laws.specs.Chosen.{pick};
+ghost use Rattle.matrix_laws.specs.Reach.{reachRows};
 ghost use Rattle.walks.specs.Walk.{Walked, valueAt};
 ghost use Rattle.choosing.specs.Steps.{candidateBy, ChosenBasis};
 
@@ -55,7 +55,7 @@ pub fn choose_all(
     ensures { λ _. ⌜ now (basis .exit) ≡ over (tab n (pick (valueAt (now (walk .entry)) (now (values .entry)) count) n w)) (now (basis .entry)) ⌝ }
     ensures { λ _. ⌜ now (sigma .exit) ≡ over (tab n (reachRows n (pick (valueAt (now (walk .entry)) (now (values .entry)) count) n w) n)) (now (sigma .entry)) ⌝ }
 {
-    matrices::put_units(sigma, n);
+    matrix_work::put_units(sigma, n);
     let mut k: usize = 0;
     while k < n {
         let t = choose(walk, values, count, sigma, n, k, w);
@@ -85,7 +85,7 @@ pub fn choose_basis(
     requires { ⌜ Walked n w (now walk) count ⌝ }
     ensures { λ r. ⌜ ChosenBasis (valueAt (now (walk .entry)) (now (values .entry)) count) n w (now (basis .entry)) (now (sigma .entry)) (now (basis .exit)) (now (sigma .exit)) r ⌝ }
 {
-    matrices::put_units(sigma, n);
+    matrix_work::put_units(sigma, n);
     let before = walks::sum_of(walk, values, count, sigma, n);
     choose_all(walk, values, count, n, w, basis, sigma);
     let after = walks::sum_of(walk, values, count, basis, n);

@@ -9,10 +9,10 @@ use Rattle.slices.specs.Places.{at}
 use Rattle.sums.specs.Laws.{below-suc}
 use Rattle.block.specs.Measure.{shift}
 use Rattle.block.specs.Basis.{candidate, basisOf}
-use Rattle.choice.specs.Choice.{choice-greatest, choice-smallest}
-use Rattle.choice.specs.Chosen.{pick, basis-at, candidate-cong}
-use Rattle.matrix.specs.Candidate.{candidate-unit, pick-choice, basis-independent}
-use Rattle.matrix.specs.Reached.{independent-fewer}
+use Rattle.choice_laws.specs.Choice.{choice-greatest, choice-smallest}
+use Rattle.choice_laws.specs.Chosen.{pick, basis-at, candidate-cong}
+use Rattle.matrix_laws.specs.Candidate.{candidate-unit, pick-choice, basis-independent}
+use Rattle.matrix_laws.specs.Reached.{independent-fewer}
 
 -- b is the number that step k + 1 takes, after c 0 .. c (k - 1) (01, The basis and the matrix)
 pub record Taken (f : ℕ → ℕ) (n w : ℕ) (c : ℕ → ℕ) (k b : ℕ) : Type 0 where

@@ -14,9 +14,9 @@ use Rattle.block.specs.Words.{none, ofTable}
 use Rattle.block.specs.Measure.{same, shift, measure}
 use Rattle.block.specs.Basis.{columns, apply, basisOf, sigmaOf, smallerOf}
 use Rattle.block.specs.Tables.{smallerTable}
-use Rattle.matrix.specs.Linear.{apply-lt}
-use Rattle.matrix.specs.Candidate.{basis-independent}
-use Rattle.matrix.specs.Smaller.{shift-smaller, measure-smaller}
+use Rattle.matrix_laws.specs.Linear.{apply-lt}
+use Rattle.matrix_laws.specs.Candidate.{basis-independent}
+use Rattle.matrix_laws.specs.Smaller.{shift-smaller, measure-smaller}
 use Rattle.demands.specs.Matrix.{basis-after-sigma}
 
 -- R goes by the block's points alone

@@ -21,15 +21,15 @@ use Rattle.block.specs.Tables.{tableMethodVerdict, tableMethod, smallerTable, r
 use Rattle.block.specs.Lists.{rowMethodVerdict, rowMethod, smallerList, fillVerdict, filled}
 use Rattle.block.specs.declared.Row.{Row}
 use Rattle.block.specs.declared.Answer.{Answer}
-use Rattle.verdicts.specs.Verdicts.{verdict-miss, verdict-none, none-passes, carried-yes}
-use Rattle.checks.specs.Sizes.{within}
-use Rattle.choice.specs.Chosen.{basis-tab, pick-cong}
-use Rattle.matrix.specs.Linear.{columns-lt}
-use Rattle.matrix.specs.Candidate.{basis-independent}
-use Rattle.pairs.specs.Theorem.{Every, Apart}
-use Rattle.pairs.specs.Share.{good-word}
+use Rattle.refusal_laws.specs.Verdicts.{verdict-miss, verdict-none, none-passes, carried-yes}
+use Rattle.shared_checks.specs.Sizes.{within}
+use Rattle.choice_laws.specs.Chosen.{basis-tab, pick-cong}
+use Rattle.matrix_laws.specs.Linear.{columns-lt}
+use Rattle.matrix_laws.specs.Candidate.{basis-independent}
+use Rattle.pair_laws.specs.Theorem.{Every, Apart}
+use Rattle.pair_laws.specs.Share.{good-word}
 use Rattle.answered_laws.specs.Passed.{Passed, MethodAnswered, method-answered, fill-answers}
-use Rattle.moves.specs.Smaller as M
+use Rattle.step_laws.specs.Smaller as M
 use Rattle.demands.specs.Blocks.{shift-points, measure-points}
 use Rattle.demands.specs.Restoring.{restoring-answers}
 

@@ -15,9 +15,9 @@ use Rattle.slices.specs.Places.{at}
 use Rattle.slices.specs.Least.{first-is}
 use Rattle.block.specs.Basis.{span, columns, apply, basisOf, sigmaOf}
 use Rattle.block.specs.Refusals.{dependent}
-use Rattle.matrix.specs.Linear.{apply-bit}
-use Rattle.matrix.specs.Candidate.{basis-independent}
-use Rattle.matrix.specs.Inverse.{length-sigma, columns-kernel, inverse-lt, sigma-columns, columns-sigma, inverse-unique, inverse-unique-right}
+use Rattle.matrix_laws.specs.Linear.{apply-bit}
+use Rattle.matrix_laws.specs.Candidate.{basis-independent}
+use Rattle.matrix_laws.specs.Inverse.{length-sigma, columns-kernel, inverse-lt, sigma-columns, columns-sigma, inverse-unique, inverse-unique-right}
 
 -- a row that is an XOR of earlier rows has parity 0 wherever they all have
 span-parity : (s : ℕ → ℕ) (k t x : ℕ) → span s k t ≡ true → ((i : ℕ) → i < k → parity (bitAnd (s i) x) ≡ 0) → parity (bitAnd t x) ≡ 0

@@ -14,10 +14,10 @@ use Rattle.block.specs.Words.{none, ofTable}
 use Rattle.block.specs.Basis.{columns, basisOf, sigmaOf}
 use Rattle.block.specs.Refusals.{answer, badEntry, badNumber}
 use Rattle.block.specs.Tables.{tableMethodVerdict, smallerTable, restoreVerdict, restored}
-use Rattle.matrix.specs.Linear.{columns-lt}
-use Rattle.matrix.specs.Candidate.{basis-independent}
+use Rattle.matrix_laws.specs.Linear.{columns-lt}
+use Rattle.matrix_laws.specs.Candidate.{basis-independent}
 use Rattle.table_checks.specs.Passed.{method-passed, method-sizes, method-entries}
-use Rattle.verdicts.specs.Verdicts.{verdict-miss, verdict-none, none-passes}
+use Rattle.refusal_laws.specs.Verdicts.{verdict-miss, verdict-none, none-passes}
 use Rattle.demands.specs.Matrix.{sigma-length, sigma-lt, sigma-independent}
 use Rattle.demands.specs.Blocks.{smaller-at, smaller-length, block-at}
 

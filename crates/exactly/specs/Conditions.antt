@@ -26,7 +26,7 @@ use Rattle.block.specs.Basis.{span, columns}
 use Rattle.block.specs.Refusals.{Check, check, outside, sizeChecks, badEntry, badNumber, badRow, malformed, rowAt, share, second, sharing, dependent}
 use Rattle.block.specs.Lists.{badRowCheck, shareCheck, rowsAfter, passing, passingCheck}
 use Rattle.block.specs.declared.Row.{Row}
-use Rattle.matrix.specs.Linear.{columns-none, columns-more, columns-xor, columns-unit}
+use Rattle.matrix_laws.specs.Linear.{columns-none, columns-more, columns-xor, columns-unit}
 use Rattle.exactly.specs.General.{Reason, placed, plain, Decides, Decided, _also_}
 
 -- ---- tests and what they say

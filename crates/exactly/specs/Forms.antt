@@ -15,11 +15,11 @@ use lib.Seq.{length-take-le, drop-cons, take-at, drop-at, getD-at, getD-drop, ge
 use Rattle.slices.specs.Places.{at, first}
 use Rattle.slices.specs.Least.{first-below}
 use Rattle.block.specs.Text.{decimal, headLine, lineIn, lineAt, equal, every, isDigit, numeral, headDigits, numberPart, headForm, rowForm, valueOf, headCount, headDue, headFault, inputsIn, outputsIn, countIn, body, bodyDue, bodyFault, firstLine, bodyLine, formCheck, headCheck, bodyCheck}
-use Rattle.lines.specs.Tests.{every-at, every-all, equal-true, equal-same}
-use Rattle.lines.specs.Numerals.{head-decimal, decimal-head}
-use Rattle.lines.specs.HeadLines.{last-apart, form-written, written-form}
-use Rattle.lines.specs.RowLines.{symbolTest, bitTest}
-use Rattle.lines.specs.Whole.{row-due, end-due, past-due}
+use Rattle.read_laws.specs.Tests.{every-at, every-all, equal-true, equal-same}
+use Rattle.read_laws.specs.Numerals.{head-decimal, decimal-head}
+use Rattle.read_laws.specs.HeadLines.{last-apart, form-written, written-form}
+use Rattle.read_laws.specs.RowLines.{symbolTest, bitTest}
+use Rattle.read_laws.specs.Whole.{row-due, end-due, past-due}
 use Rattle.exactly.specs.General.{placed, Decides}
 use Rattle.exactly.specs.Conditions.{Says, eq-says, ne-says, or-says, and-says, says-not, says-false, first-least, least-first}
 

@@ -9,7 +9,7 @@ use Prim.Native.Nat.{ℕ, zero, suc, _<_}
 use native.Mathlib.Omega.{arith}
 use Rattle.block.specs.Refusals.{Check, answer, verdict}
 use Rattle.block.specs.declared.Answer.{Answer}
-use Rattle.verdicts.specs.Verdicts.{verdict-hit, verdict-miss, verdict-none}
+use Rattle.refusal_laws.specs.Verdicts.{verdict-hit, verdict-miss, verdict-none}
 
 -- ---- what is said
 

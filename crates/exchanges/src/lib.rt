@@ -14,7 +14,7 @@ pub fn highest_bit(n: usize, y: u32) -> usize
     let mut m = n;
     while 0 < m {
         m -= 1;
-        if numbers::bit_of(y, m) == 1 {
+        if bit_work::bit_of(y, m) == 1 {
             return m;
         }
     }
@@ -26,7 +26,7 @@ pub fn partner_of(n: usize, k: usize, y: u32) -> usize
     requires { ⌜ (k < n) × (n ≤ listInputs) ⌝ }
     ensures { λ r. ⌜ r ≡ partner n k y ⌝ }
 {
-    if numbers::bit_of(y, k) == 1 {
+    if bit_work::bit_of(y, k) == 1 {
         return k;
     }
     highest_bit(n, y)
@@ -37,8 +37,8 @@ pub fn exchange_bits(k: usize, h: usize, y: u32) -> u32
     requires { ⌜ (k < listInputs) × (h < listInputs) ⌝ }
     ensures { λ r. ⌜ r ≡ exchange k h y ⌝ }
 {
-    let d = (numbers::bit_of(y, k) + numbers::bit_of(y, h)) % 2;
-    numbers::xor_where(y, numbers::power(k) ^ numbers::power(h), d)
+    let d = (bit_work::bit_of(y, k) + bit_work::bit_of(y, h)) % 2;
+    bit_work::xor_where(y, bit_work::power(k) ^ bit_work::power(h), d)
 }
 
 // The chosen number y after the exchange with h, without bit k.
@@ -46,5 +46,5 @@ pub fn rest_of(k: usize, h: usize, y: u32) -> u32
     requires { ⌜ (k < listInputs) × (h < listInputs) ⌝ }
     ensures { λ r. ⌜ r ≡ bitXor (exchange k h y) (2 ^ k) ⌝ }
 {
-    exchange_bits(k, h, y) ^ numbers::power(k)
+    exchange_bits(k, h, y) ^ bit_work::power(k)
 }

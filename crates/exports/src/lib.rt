@@ -156,7 +156,7 @@ pub extern "C" fn irwystl_read_text(
         r ⌝ }
 {
     let answer = reading::read_text(text, masks, values, words);
-    kinds::in_numbers(answer)
+    read_kinds::in_numbers(answer)
 }
 
 // What the program prints for a text, into room for every sheet. An array is passed as a pointer alone.

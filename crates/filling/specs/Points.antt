@@ -20,9 +20,9 @@ use Rattle.block.specs.Words.{none, wordAt, ofRows, row, rowsOf}
 use Rattle.block.specs.Refusals.{rowAt}
 use Rattle.block.specs.Lists.{filled}
 use Rattle.block.specs.declared.Row.{Row}
-use Rattle.pairs.specs.Cube.{Sound, sound-values}
-use Rattle.pairs.specs.Theorem.{Every}
-use Rattle.listing.specs.Listing.{Listed, rows-count, row-at}
+use Rattle.pair_laws.specs.Cube.{Sound, sound-values}
+use Rattle.pair_laws.specs.Theorem.{Every}
+use Rattle.flat_rows.specs.Listing.{Listed, rows-count, row-at}
 
 -- the inputs of n that the row leaves free
 abbrev pub freeOf : ℕ → ℕ → ℕ

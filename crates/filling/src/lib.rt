@@ -6,9 +6,9 @@ ghost use Rattle.slices.specs.Places.{at, tab, over};
 ghost use Rattle.block.specs.Limits.{tableInputs, smallerRows};
 ghost use Rattle.block.specs.Words.{none, row, rowsOf};
 ghost use Rattle.block.specs.Lists.{filled};
-ghost use Rattle.pairs.specs.Cube.{Sound};
-ghost use Rattle.pairs.specs.Theorem.{Every};
-ghost use Rattle.listing.specs.Listing.{Listed};
+ghost use Rattle.pair_laws.specs.Cube.{Sound};
+ghost use Rattle.pair_laws.specs.Theorem.{Every};
+ghost use Rattle.flat_rows.specs.Listing.{Listed};
 ghost use Rattle.filling.specs.Points.{RowPut};
 
 // No output at any point.
@@ -29,7 +29,7 @@ fn put_row(n: usize, mask: u32, values: u32, word: u16, out: &mut [u16])
     requires { ⌜ (n ≤ tableInputs) × (2 ^ n ≤ length (now out)) × Sound n (row mask values word) ⌝ }
     ensures { λ _. ⌜ RowPut n (row mask values word) (now (out .entry)) (now (out .exit)) ⌝ }
 {
-    let free = (numbers::power(n) - 1) ^ mask;
+    let free = (bit_work::power(n) - 1) ^ mask;
     let mut part = free;
     while 0 < part {
         out[(values ^ part) as usize] = word;
@@ -45,7 +45,7 @@ pub fn fill_rows(n: usize, masks: &[u32], values: &[u32], words: &[u32], out: &m
     requires { ⌜ ((i : ℕ) → i < length (now words) → at (now words) i < 65536) ⌝ }
     ensures { λ _. ⌜ now (out .exit) ≡ over (filled n (rowsOf (now (masks .entry)) (now (values .entry)) (now (words .entry)))) (now (out .entry)) ⌝ }
 {
-    clear(numbers::size(n), out);
+    clear(bit_work::size(n), out);
     let mut i = masks.len();
     while 0 < i {
         i -= 1;

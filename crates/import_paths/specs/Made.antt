@@ -9,7 +9,7 @@ use lib.Seq.{take-at, take-set-le, getD-set-same, length-sets}
 use Rattle.io.specs.Counts.{Counts}
 use Rattle.libc.specs.Io.{Ended}
 use Rattle.import_paths.specs.Room.{pathRoom}
-use Rattle.puts.specs.Puts.{Put, put-over}
+use Rattle.put_bytes.specs.Puts.{Put, put-over}
 
 pub path-made : (l l′ t : List ℕ) (e : ℕ) → Put l 0 t l′ e → pathRoom ≡ length l → e < pathRoom
     → (take e (set (set l′ e 0) 4095 0) ≡ t) × (Counts e (set (set l′ e 0) 4095 0) × Ended (set (set l′ e 0) 4095 0))

@@ -6,7 +6,7 @@ use native.Mathlib.Omega.{arith}
 use lib.Dec.{ltb}
 use lib.ListN.{length}
 use Rattle.block.specs.Text.{decimal}
-use Rattle.puts.specs.Digits.{decimal-most}
+use Rattle.put_bytes.specs.Digits.{decimal-most}
 use Rattle.import_paths.specs.Path.{counted}
 
 -- a path, with the 0 after it

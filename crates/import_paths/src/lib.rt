@@ -5,7 +5,7 @@ ghost use Prim.Native.Nat.{_+_, _≤_, _<_};
 ghost use lib.ListN.{length, take};
 ghost use Rattle.io.specs.Counts.{Counts};
 ghost use Rattle.libc.specs.Io.{Ended};
-ghost use Rattle.puts.specs.Puts.{Put};
+ghost use Rattle.put_bytes.specs.Puts.{Put};
 ghost use Rattle.import_paths.specs.Path.{counted, pathOf};
 ghost use Rattle.import_paths.specs.Room.{pathRoom, countRoom};
 
@@ -22,7 +22,7 @@ pub fn put_count(path: &mut [u8], at: usize, k: usize) -> usize
     if k < 2 {
         return at;
     }
-    puts::put_decimal(path, at, k)
+    put_bytes::put_decimal(path, at, k)
 }
 
 // Puts the name beside a list with the given ending, and answers its length. A 0 stands after it, for calls that read up to one. There
@@ -33,8 +33,8 @@ pub fn put_path(path: &mut [u8; PATH_ROOM], name: &[u8], ending: &[u8], k: usize
     ensures { λ r. ⌜ Counts r (now (path .exit)) ⌝ }
     ensures { λ _. ⌜ Ended (now (path .exit)) ⌝ }
 {
-    let c = puts::put_bytes(path, 0, name);
-    let d = puts::put_bytes(path, c, ending);
+    let c = put_bytes::put_bytes(path, 0, name);
+    let d = put_bytes::put_bytes(path, c, ending);
     let e = put_count(path, d, k);
     path[e] = 0;
     path[PATH_ROOM - 1] = 0;

@@ -6,7 +6,7 @@ use lib.ListN.{length, take}
 use Rattle.slices.specs.Places.{over}
 use Rattle.block.specs.Refusals.{stored}
 use Rattle.text_work.specs.Work.{textVerdict, sheetIn, textWork}
-use Rattle.import_lines.specs.Line.{importLine}
+use Rattle.put_import.specs.Line.{importLine}
 use Rattle.importing.specs.declared.Imported.{Imported}
 
 -- the line of a list: at most 4,096 bytes of its name, and what came of its text

@@ -7,11 +7,11 @@ use native.Mathlib.Omega.{arith}
 use lib.ListN.{length, take, length-append}
 use Rattle.slices.specs.Places.{over}
 use Rattle.block.specs.Refusals.{stored}
-use Rattle.verdicts.specs.Verdicts.{carried-yes, stored-yes}
-use Rattle.puts.specs.Puts.{Put, put-over}
+use Rattle.refusal_laws.specs.Verdicts.{carried-yes, stored-yes}
+use Rattle.put_bytes.specs.Puts.{Put, put-over}
 use Rattle.sheet_work.specs.declared.SheetWork.{SheetWork}
 use Rattle.text_work.specs.Work.{textVerdict, sheetIn, textWork}
-use Rattle.import_lines.specs.Line.{importLine}
+use Rattle.put_import.specs.Line.{importLine}
 use Rattle.importing.specs.Import.{lineOf, imported}
 use Rattle.importing.specs.declared.Imported.{Imported}
 

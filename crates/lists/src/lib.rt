@@ -29,7 +29,7 @@ pub fn row_value(
             value: 0,
         };
     }
-    let value = cubes::shift_of_rows(n, masks, values, words, t as u32);
+    let value = row_shifts::shift_of_rows(n, masks, values, words, t as u32);
     ValueAnswer {
         number: v.number,
         a: v.a,
@@ -78,12 +78,12 @@ pub fn row_method(
         (now («smaller_masks» .exit)) (now («smaller_values» .exit)) (now («smaller_words» .exit)))
         (now (basis .entry)) (now (sigma .entry)) r (now (basis .exit)) (now (sigma .exit)) ⌝ }
 {
-    let room = listing::least_room(
+    let room = flat_rows::least_room(
         smaller_masks.len(),
         smaller_values.len(),
         smaller_words.len(),
     );
-    let short = checks::is_short(n, basis.len(), sigma.len(), SMALLER_ROWS, room);
+    let short = shared_checks::is_short(n, basis.len(), sigma.len(), SMALLER_ROWS, room);
     row_work::method_rows(
         n,
         k,

@@ -1,5 +1,5 @@
 -- A step of the matrix reached, as the code has it, in which a number was chosen: the matrix after the step, and the coordinates that it
--- gives. Not here: which number is chosen (choosing), and why the matrix reached is that of 01 (matrix). Assumes nothing.
+-- gives. Not here: which number is chosen (choosing), and why the matrix reached is that of 01 (matrix_laws). Assumes nothing.
 use mathlib.Core.Path.{_≡_, sym, ap, ap₂, _∙_}
 use mathlib.Core.Bool.{Bool, true, false, cond}
 use mathlib.Core.List.{List}
@@ -13,9 +13,9 @@ use Rattle.slices.specs.Places.{at, tab, over}
 use Rattle.slices.specs.Filled.{over-at, over-over, tab-cong}
 use Rattle.block.specs.Basis.{span, apply}
 use Rattle.block.specs.Rows.{highest, partner, rest, reached}
-use Rattle.matrix.specs.Linear.{apply-cong}
-use Rattle.matrix.specs.Reached.{Independent, reached-span}
-use Rattle.matrix.specs.Reach.{exchangeRows, shearRows, reachRows, reach-none, reach-more, reach-apply}
+use Rattle.matrix_laws.specs.Linear.{apply-cong}
+use Rattle.matrix_laws.specs.Reached.{Independent, reached-span}
+use Rattle.matrix_laws.specs.Reach.{exchangeRows, shearRows, reachRows, reach-none, reach-more, reach-apply}
 use Rattle.matrix_steps.specs.declared.Move.{Move}
 
 -- the rows s after step k + 1, in which t was chosen

@@ -19,11 +19,11 @@ pub fn advance(s: &mut [u32], n: usize, k: usize, t: u32) -> Move
     requires { ⌜ (n ≤ length (now s)) × (n ≤ listInputs) × (k < n) ⌝ }
     ensures { λ r. ⌜ Advanced n k t (now (s .entry)) (now (s .exit)) r ⌝ }
 {
-    let y = matrices::apply_rows(s, n, t);
+    let y = matrix_work::apply_rows(s, n, t);
     let partner = exchanges::partner_of(n, k, y);
     let rest = exchanges::rest_of(k, partner, y);
-    matrices::exchange_rows(s, n, k, partner);
-    matrices::shear_rows(s, n, k, rest);
+    matrix_work::exchange_rows(s, n, k, partner);
+    matrix_work::shear_rows(s, n, k, rest);
     Move { partner, rest }
 }
 
@@ -32,10 +32,10 @@ pub fn first_dependent(n: usize, rows: &[u32], m: &mut [u32]) -> usize
     requires { ⌜ (n ≤ length (now rows)) × (n ≤ length (now m)) × (n ≤ listInputs) × ((j : ℕ) → j < n → at (now rows) j < 2 ^ n) ⌝ }
     ensures { λ r. ⌜ r ≡ dependent n (at (now (rows .entry))) ⌝ }
 {
-    matrices::put_units(m, n);
+    matrix_work::put_units(m, n);
     let mut j: usize = 0;
     while j < n {
-        if matrices::apply_rows(m, n, rows[j]) < numbers::power(j) {
+        if matrix_work::apply_rows(m, n, rows[j]) < bit_work::power(j) {
             return j;
         }
         advance(m, n, j, rows[j]);

@@ -7,7 +7,7 @@ use Rattle.slices.specs.Places.{at, tab, over}
 use Rattle.slices.specs.Filled.{length-tab, map-tab, tab-cong, tab-list, over-map-at}
 use Rattle.block.specs.Words.{row, rowsOf}
 use Rattle.block.specs.declared.Row.{Row}
-use Rattle.listing.specs.Listing.{Listed, rowsFrom, rows-of}
+use Rattle.flat_rows.specs.Listing.{Listed, rowsFrom, rows-of}
 
 -- the list rs lies at the front of three lent slices
 pub record ListPut (rs : List Row) (m v d m′ v′ d′ : List ℕ) : Type 0 where

@@ -10,7 +10,7 @@ use Rattle.block.specs.declared.Answer.{Answer}
 use Rattle.block.specs.declared.TextAnswer.{TextAnswer}
 use Rattle.block.specs.declared.ReadAnswer.{ReadAnswer}
 use Rattle.block.specs.declared.Reading.{Reading}
-use Rattle.texts.specs.Unique.{numbers-one}
+use Rattle.text_theorems.specs.Unique.{numbers-one}
 use Rattle.promises.specs.Lent.{lentRecords, lentFlat}
 use Rattle.promises.specs.Texts.{WritePromise, ReadPromise}
 use Rattle.once.specs.Law.{one, Alike, records-alike, flat-alike}

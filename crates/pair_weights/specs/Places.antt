@@ -1,5 +1,5 @@
 -- The cube of two rows that lie in flat slices, by their places, and what a cube adds to R(t) as a test on t has it. Not here: which pairs
--- have a cube, and that the cubes add up to R (`pairs`). Assumes nothing.
+-- have a cube, and that the cubes add up to R (`pair_laws`). Assumes nothing.
 use mathlib.Core.Path.{_≡_}
 use mathlib.Core.Bool.{cond}
 use mathlib.Core.List.{List}
@@ -9,7 +9,7 @@ use lib.Bits.{bitAnd, bitXor, bitOr}
 use lib.Count.{ones}
 use lib.Dec.{eqb}
 use Rattle.slices.specs.Places.{at}
-use Rattle.pairs.specs.Symmetric.{Cube, cube, hit}
+use Rattle.pair_laws.specs.Symmetric.{Cube, cube, hit}
 
 -- the cube of the rows i and j
 abbrev pub cubeOf : ℕ → List ℕ → List ℕ → ℕ → ℕ → Cube

@@ -1,5 +1,5 @@
 // What a pair of rows adds to R: whether their words are equal, what the pair weighs, and where t lies in its cube (document 003, Theorem 1).
-// Every function here is inner: the loops over pairs stand in cubes.
+// Every function here is inner: the loops over pairs stand in row_shifts.
 ghost use mathlib.Core.Path.{_≡_};
 ghost use mathlib.Core.Bool.{cond};
 ghost use Prim.Native.Nat.{_-_, _*_, _≤_, _<_, _^_};
@@ -9,7 +9,7 @@ ghost use lib.Dec.{eqb};
 ghost use lib.ListN.{length};
 ghost use Rattle.slices.specs.Places.{at};
 ghost use Rattle.block.specs.Limits.{listInputs};
-ghost use Rattle.pairs.specs.Symmetric.{hit};
+ghost use Rattle.pair_laws.specs.Symmetric.{hit};
 ghost use Rattle.pair_weights.specs.Places.{cubeOf};
 
 // Whether two words are equal, in all their columns; word 0 is a word like any other.
@@ -25,7 +25,7 @@ pub fn weight_of(n: usize, mask: u32, mask2: u32, single: bool) -> u32
     requires { ⌜ (n ≤ listInputs) × (mask < 2 ^ n) × (mask2 < 2 ^ n) ⌝ }
     ensures { λ r. ⌜ r ≡ 2 ^ (n - ones (bitOr mask mask2)) * cond single 1 2 ⌝ }
 {
-    let once = numbers::power(n - u32::count_ones(mask | mask2) as usize);
+    let once = bit_work::power(n - u32::count_ones(mask | mask2) as usize);
     if single {
         return once;
     }

@@ -10,7 +10,7 @@ pub fn print_text(input: &[u8], out: &mut [u8; SHEET_ROOM]) -> usize
 {
     let r = text_work::work_text(input, out);
     if r.number != 0 {
-        return printlines::put_refusal(out, r.number, r.a, r.b);
+        return put_refusal::put_refusal(out, r.number, r.a, r.b);
     }
     r.count
 }

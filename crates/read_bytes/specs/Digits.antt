@@ -9,10 +9,10 @@ use Rattle.slices.specs.Places.{at}
 use Rattle.slices.specs.Least.{first-is}
 use Rattle.slices.specs.Filled.{length-tab, tab-at, tab-zero, tab-suc}
 use Rattle.block.specs.Text.{isDigit, spelled, valueOf}
-use Rattle.lines.specs.Tests.{every-all}
-use Rattle.lines.specs.Spelled.{spelled-last}
-use Rattle.lines.specs.Numerals.{value-lt}
-use Rattle.lines.specs.ByPlace.{digitsAt, bytesAt, endedOf, numberAt}
+use Rattle.read_laws.specs.Tests.{every-all}
+use Rattle.read_laws.specs.Spelled.{spelled-last}
+use Rattle.read_laws.specs.Numerals.{value-lt}
+use Rattle.read_laws.specs.ByPlace.{digitsAt, bytesAt, endedOf, numberAt}
 
 module _ (s : List ℕ) (from : ℕ) where
   -- the first `count` bytes are digits

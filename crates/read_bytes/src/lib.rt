@@ -1,10 +1,10 @@
 // Bytes and decimal numbers, read by place. All functions here are inner.
-use lines::Number;
+use read_laws::Number;
 ghost use mathlib.Core.Path.{_≡_};
 ghost use Prim.Native.Nat.{_+_, _≤_, _<_};
 ghost use Rattle.slices.specs.Places.{at};
 ghost use Rattle.block.specs.Text.{isDigit};
-ghost use Rattle.lines.specs.ByPlace.{farthest, longest, endedOf, numberAt, widthOf};
+ghost use Rattle.read_laws.specs.ByPlace.{farthest, longest, endedOf, numberAt, widthOf};
 
 // The byte at a place, or 0 past the end: no byte of the form is 0.
 pub fn byte(s: &[u8], from: usize) -> usize

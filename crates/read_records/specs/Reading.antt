@@ -14,11 +14,11 @@ use Rattle.block.specs.Text.{inputsIn, outputsIn, countIn, headCheck, bodyCheck
 use Rattle.block.specs.declared.Answer.{Answer}
 use Rattle.block.specs.declared.ReadAnswer.{ReadAnswer}
 use Rattle.block.specs.declared.Row.{Row}
-use Rattle.verdicts.specs.Verdicts.{answered-clear, verdict-stop}
-use Rattle.checks.specs.Sizes.{inside}
+use Rattle.refusal_laws.specs.Verdicts.{answered-clear, verdict-stop}
+use Rattle.shared_checks.specs.Sizes.{inside}
 use Rattle.promises.specs.Lent.{Lent, lentFlat}
 use Rattle.promises.specs.Texts.{ReadPromise}
-use Rattle.lines.specs.Front.{rows-count}
+use Rattle.read_laws.specs.Front.{rows-count}
 use Rattle.record_copies.specs.declared.FlatRows.{FlatRows}
 use Rattle.record_copies.specs.Flat.{heldRows, Sized}
 use Rattle.record_copies.specs.Yielded.{lentArrays, stores, lent-room, yields, yielded-wider, short-alike}

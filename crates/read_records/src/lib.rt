@@ -70,7 +70,7 @@ pub fn read_numbers_of(text: &[u8], room: usize) -> ReadNumbers
     let read = read_of(text, room);
     let flat = read.flat;
     let reading = read.answer;
-    let answer = kinds::in_numbers(reading);
+    let answer = read_kinds::in_numbers(reading);
     ReadNumbers {
         flat,
         count: read.count,

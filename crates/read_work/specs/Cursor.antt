@@ -9,11 +9,11 @@ use lib.ListN.{length, take, drop, length-drop}
 use lib.Seq.{take-all}
 use Rattle.block.specs.Text.{headCount}
 use Rattle.block.specs.declared.Headings.{Headings}
-use Rattle.lines.specs.declared.Opening.{Opening}
-use Rattle.lines.specs.declared.Opening.the-variants.{Open, Stopped}
-use Rattle.lines.specs.ByPlace.{openingOf}
-use Rattle.lines.specs.Front.{front-le, start}
-use Rattle.lines.specs.Answers.{Stop, Opened, outcome}
+use Rattle.read_laws.specs.declared.Opening.{Opening}
+use Rattle.read_laws.specs.declared.Opening.the-variants.{Open, Stopped}
+use Rattle.read_laws.specs.ByPlace.{openingOf}
+use Rattle.read_laws.specs.Front.{front-le, start}
+use Rattle.read_laws.specs.Answers.{Stop, Opened, outcome}
 
 -- the cursor of an opening
 abbrev cursorOf : Opening → ℕ

@@ -4,14 +4,14 @@ use block::Headings;
 use block::Kind;
 use block::Reading;
 use block::Refusal;
-use lines::BODY_LINE;
-use lines::Opening;
+use read_laws::BODY_LINE;
+use read_laws::Opening;
 ghost use mathlib.Core.Path.{_≡_};
 ghost use Prim.Native.Nat.{_+_, _≤_};
 ghost use lib.ListN.{length};
 ghost use Rattle.block.specs.Limits.{givenRows};
 ghost use Rattle.block.specs.Words.{maskPart, valuesPart, wordPart};
-ghost use Rattle.lines.specs.ByPlace.{openingOf, closedOf, readingOf, afterOf};
+ghost use Rattle.read_laws.specs.ByPlace.{openingOf, closedOf, readingOf, afterOf};
 
 // The headings, or the faulty line of the body, by its number in the text.
 pub fn closed(h: Headings, fault: usize) -> Reading
@@ -42,11 +42,19 @@ pub fn read_from(
     ensures { λ r. ⌜ now (values .exit) ≡ afterOf (openingOf (now (text .entry)) room) (now (text .entry)) valuesPart (now (values .entry)) ⌝ }
     ensures { λ r. ⌜ now (words .exit) ≡ afterOf (openingOf (now (text .entry)) room) (now (text .entry)) wordPart (now (words .entry)) ⌝ }
 {
-    let opening = headings::read_headings(text, room);
+    let opening = read_headings::read_headings(text, room);
     match opening {
         Opening::Stopped(r) => Reading::Refused(r),
         Opening::Open(h, from) => {
-            let fault = rowlines::read_rows(&text[from..], h.n, h.k, h.count, masks, values, words);
+            let fault = read_body::read_rows(
+                &text[from..],
+                h.n,
+                h.k,
+                h.count,
+                masks,
+                values,
+                words,
+            );
             closed(h, fault)
         }
     }

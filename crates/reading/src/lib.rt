@@ -11,6 +11,6 @@ pub fn read_text(text: &[u8], masks: &mut [u32], values: &mut [u32], words: &mut
         (lentFlat (now (masks .entry)) (now (values .entry)) (now (words .entry)) (now (masks .exit)) (now (values .exit)) (now (words .exit)))
         (numbers r) ⌝ }
 {
-    let room = listing::least_room(masks.len(), values.len(), words.len());
+    let room = flat_rows::least_room(masks.len(), values.len(), words.len());
     read_work::read_from(text, room, masks, values, words)
 }

@@ -11,7 +11,7 @@ use Rattle.block.specs.Limits.{smallerRows}
 use Rattle.block.specs.Words.{row, rowsOf}
 use Rattle.block.specs.Refusals.{rowAt}
 use Rattle.block.specs.declared.Row.{Row}
-use Rattle.listing.specs.Listing.{rows-count, row-at}
+use Rattle.flat_rows.specs.Listing.{rows-count, row-at}
 use Rattle.record_copies.specs.declared.FlatRows.{FlatRows}
 use Rattle.record_copies.specs.Copied.{Copied}
 

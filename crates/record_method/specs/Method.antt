@@ -19,8 +19,8 @@ use Rattle.block.specs.Lists.{countCheck, badRowCheck, shareCheck, rowsAfter, p
 use Rattle.block.specs.declared.Row.{Row}
 use Rattle.block.specs.declared.Answer.{Answer}
 use Rattle.block.specs.declared.RowMethodAnswer.{RowMethodAnswer}
-use Rattle.verdicts.specs.Verdicts.{answered-clear}
-use Rattle.checks.specs.Sizes.{inside}
+use Rattle.refusal_laws.specs.Verdicts.{answered-clear}
+use Rattle.shared_checks.specs.Sizes.{inside}
 use Rattle.promises.specs.Lent.{Lent, lentFlat}
 use Rattle.promises.specs.Lists.{RowMethodPromise}
 use Rattle.record_copies.specs.declared.FlatRows.{FlatRows}

@@ -22,7 +22,7 @@ use Rattle.block.specs.Text.{withBytes, writeVerdict, writeText, textOf}
 use Rattle.block.specs.Sheet.{sheet, sheetVerdict, sheetText}
 use Rattle.block.specs.declared.Row.{Row}
 use Rattle.block.specs.declared.Answer.{Answer}
-use Rattle.verdicts.specs.Verdicts.{verdict-hit, verdict-miss, Numbered, verdict-parts}
+use Rattle.refusal_laws.specs.Verdicts.{verdict-hit, verdict-miss, Numbered, verdict-parts}
 
 -- the rows that are looked at: one more than any operation takes
 abbrev cutRows : ℕ

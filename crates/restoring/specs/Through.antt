@@ -7,8 +7,8 @@ use Rattle.slices.specs.Filled.{over-at, tab-cong}
 use Rattle.block.specs.Words.{ofTable}
 use Rattle.block.specs.Basis.{apply, columns}
 use Rattle.block.specs.Tables.{restored}
-use Rattle.matrix.specs.Linear.{apply-lt, columns-cong}
-use Rattle.matrix.specs.Images.{apply-columns}
+use Rattle.matrix_laws.specs.Linear.{apply-lt, columns-cong}
+use Rattle.matrix_laws.specs.Images.{apply-columns}
 
 -- the columns of the matrix with rows s lie at the front of c
 module _ (n : ℕ) (s c c₀ : List ℕ) (e : c ≡ over (tab n (λ j. apply (at s) n (2 ^ j))) c₀) where

@@ -17,7 +17,7 @@ pub fn put_through(table: &[u16], by_columns: &[u32], n: usize, out: &mut [u16])
     ensures { λ _. ⌜ now (out .exit) ≡ over (tab (2 ^ n) (λ z. ofTable (now (table .entry)) (columns (at (now («by_columns» .entry))) n z))) (now (out .entry)) ⌝ }
 {
     let mut images = [0u32; TABLE_POINTS];
-    matrices::put_images(by_columns, n, &mut images);
+    matrix_work::put_images(by_columns, n, &mut images);
     let size = table.len();
     let mut z: usize = 0;
     while z < size {
@@ -32,6 +32,6 @@ pub fn put_restored(sigma: &[u32], n: usize, table: &[u16], out: &mut [u16])
     ensures { λ _. ⌜ now (out .exit) ≡ over (restored n (now (sigma .entry)) (now (table .entry))) (now (out .entry)) ⌝ }
 {
     let mut sigma_columns = [0u32; TABLE_INPUTS];
-    matrices::put_columns(sigma, n, &mut sigma_columns);
+    matrix_work::put_columns(sigma, n, &mut sigma_columns);
     put_through(table, &sigma_columns, n, out);
 }

@@ -14,7 +14,7 @@ use Rattle.block.specs.Limits.{smallerRows}
 use Rattle.block.specs.Words.{row}
 use Rattle.block.specs.Rows.{exchange, exchangeRow}
 use Rattle.block.specs.declared.Row.{Row}
-use Rattle.listing.specs.Listing.{rowsFrom}
+use Rattle.flat_rows.specs.Listing.{rowsFrom}
 
 -- three slices with room for the rows of a smaller block
 pub record Room (masks values words : List ℕ) : Type 0 where

@@ -5,8 +5,8 @@ ghost use Prim.Native.Nat.{_≤_, _<_};
 ghost use lib.ListN.{length};
 ghost use Rattle.block.specs.Limits.{listInputs, givenRows};
 ghost use Rattle.block.specs.Words.{ofRows, rowsOf};
-ghost use Rattle.pairs.specs.Theorem.{Disjoint};
-ghost use Rattle.listing.specs.Listing.{Listed};
+ghost use Rattle.pair_laws.specs.Theorem.{Disjoint};
+ghost use Rattle.flat_rows.specs.Listing.{Listed};
 ghost use Rattle.walks.specs.Walk.{walk};
 ghost use Rattle.choosing.specs.Found.{Found};
 
@@ -29,7 +29,7 @@ fn find_basis_in(
     ensures { λ r. ⌜ Found (ofRows (rowsOf (now (masks .entry)) (now (values .entry)) (now (words .entry)))) n w (now (basis .entry)) (now (sigma .entry)) (now (basis .exit)) (now (sigma .exit)) r ⌝ }
 {
     let count = walks::put_walk(n, w, candidates);
-    cubes::shifts_of_rows(n, masks, values, words, candidates, count, shifts);
+    row_shifts::shifts_of_rows(n, masks, values, words, candidates, count, shifts);
     choosing::choose_basis(candidates, shifts, count, n, w, basis, sigma)
 }
 

@@ -13,9 +13,9 @@ use Rattle.block.specs.Refusals.{rowAt}
 use Rattle.block.specs.Lists.{rowValueVerdict, fillVerdict}
 use Rattle.block.specs.declared.Row.{Row}
 use Rattle.block.specs.declared.Answer.{Answer}
-use Rattle.verdicts.specs.Verdicts.{zero-too}
-use Rattle.pairs.specs.Share.{good-word}
-use Rattle.listing.specs.Listing.{listed-rows, rows-count, row-at}
+use Rattle.refusal_laws.specs.Verdicts.{zero-too}
+use Rattle.pair_laws.specs.Share.{good-word}
+use Rattle.flat_rows.specs.Listing.{listed-rows, rows-count, row-at}
 use Rattle.answered_laws.specs.Passed.{Passed, value-passed, fill-passed}
 
 -- a single value

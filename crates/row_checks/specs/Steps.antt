@@ -12,8 +12,8 @@ use Rattle.block.specs.Refusals.{check, verdict, andThen, outside, sizeChecks}
 use Rattle.block.specs.Lists.{countCheck, rowChecks, rowValueVerdict, methodChecked, fillVerdict}
 use Rattle.block.specs.declared.Row.{Row}
 use Rattle.block.specs.declared.Answer.{Answer}
-use Rattle.verdicts.specs.Verdicts.{zero-too, Asked, asked-then, asked-where}
-use Rattle.checks.specs.Sizes.{asked-sizes, sizes-pass}
+use Rattle.refusal_laws.specs.Verdicts.{zero-too, Asked, asked-then, asked-where}
+use Rattle.shared_checks.specs.Sizes.{asked-sizes, sizes-pass}
 use Rattle.answered_laws.specs.Passed.{InRange, in-range-more, rows-numbered, value-ranges, fill-ranges, method-ranges}
 
 -- ---- a single shift value; `size` is 2^n where n is in range

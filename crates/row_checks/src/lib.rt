@@ -17,8 +17,8 @@ ghost use Rattle.answered_laws.specs.Passed.{InRange};
 pub fn then_count(v: Answer, most: usize, masks: &[u32], values: &[u32], words: &[u32]) -> Answer
     ensures { λ r. ⌜ r ≡ andThen v (verdict (countCheck most (rowsOf (now (masks .entry)) (now (values .entry)) (now (words .entry))) ∷ [])) ⌝ }
 {
-    let count = listing::row_count(masks, values, words);
-    checks::then_where(v, checks::is_outside(1, most, count), 4, 0, 0)
+    let count = flat_rows::row_count(masks, values, words);
+    shared_checks::then_where(v, shared_checks::is_outside(1, most, count), 4, 0, 0)
 }
 
 // What every operation asks of its rows: 6, 7.
@@ -36,7 +36,7 @@ pub fn then_rows(
     if v.number != 0 {
         return v;
     }
-    let formed = listing::rows_formed(n, k, masks, values, words);
+    let formed = flat_rows::rows_formed(n, k, masks, values, words);
     shared_points::then_apart(formed, masks, values)
 }
 
@@ -51,9 +51,9 @@ pub fn row_value_verdict(
 ) -> Answer
     ensures { λ r. ⌜ r ≡ rowValueVerdict n k t (rowsOf (now (masks .entry)) (now (values .entry)) (now (words .entry))) ⌝ }
 {
-    let sizes = checks::sizes(LIST_INPUTS, n, k);
-    let below = t < checks::size_of(n);
-    let point = checks::then_where(sizes, !below, 3, 0, 0);
+    let sizes = shared_checks::sizes(LIST_INPUTS, n, k);
+    let below = t < shared_checks::size_of(n);
+    let point = shared_checks::then_where(sizes, !below, 3, 0, 0);
     let count = then_count(point, GIVEN_ROWS, masks, values, words);
     then_rows(count, n, k, masks, values, words)
 }
@@ -69,10 +69,10 @@ pub fn fill_verdict(
 ) -> Answer
     ensures { λ r. ⌜ r ≡ fillVerdict n k (rowsOf (now (masks .entry)) (now (values .entry)) (now (words .entry))) room ⌝ }
 {
-    let sizes = checks::sizes(TABLE_INPUTS, n, k);
+    let sizes = shared_checks::sizes(TABLE_INPUTS, n, k);
     let count = then_count(sizes, SMALLER_ROWS, masks, values, words);
-    let short = room < checks::size_of(n);
-    let lent = checks::then_where(count, short, 5, 0, 0);
+    let short = room < shared_checks::size_of(n);
+    let lent = shared_checks::then_where(count, short, 5, 0, 0);
     then_rows(lent, n, k, masks, values, words)
 }
 
@@ -88,9 +88,9 @@ pub fn method_checked(
 ) -> Answer
     ensures { λ r. ⌜ r ≡ verdict (methodChecked n k w (rowsOf (now (masks .entry)) (now (values .entry)) (now (words .entry))) short) ⌝ }
 {
-    let sizes = checks::sizes(LIST_INPUTS, n, k);
-    let weight = checks::then_where(sizes, checks::is_outside(1, n, w), 3, 0, 0);
+    let sizes = shared_checks::sizes(LIST_INPUTS, n, k);
+    let weight = shared_checks::then_where(sizes, shared_checks::is_outside(1, n, w), 3, 0, 0);
     let count = then_count(weight, GIVEN_ROWS, masks, values, words);
-    let lent = checks::then_where(count, short, 5, 0, 0);
+    let lent = shared_checks::then_where(count, short, 5, 0, 0);
     then_rows(lent, n, k, masks, values, words)
 }

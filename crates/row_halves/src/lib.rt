@@ -12,7 +12,7 @@ pub fn is_split(k: usize, v: u32, mask: u32) -> bool
     requires { ⌜ k < listInputs ⌝ }
     ensures { λ r. ⌜ r ≡ splits k v mask ⌝ }
 {
-    if numbers::bit_of(mask, k) == 1 {
+    if bit_work::bit_of(mask, k) == 1 {
         return false;
     }
     mask & v != 0
@@ -23,10 +23,10 @@ pub fn flip_row(k: usize, v: u32, r: Row) -> Row
     requires { ⌜ k < listInputs ⌝ }
     ensures { λ s. ⌜ s ≡ flipRow k v r ⌝ }
 {
-    let d = numbers::bit_of(r.values, k);
+    let d = bit_work::bit_of(r.values, k);
     Row {
         mask: r.mask,
-        values: numbers::xor_where(r.values, r.mask & v, d),
+        values: bit_work::xor_where(r.values, r.mask & v, d),
         word: r.word,
     }
 }
@@ -36,10 +36,10 @@ pub fn half_row(k: usize, d: u32, r: Row) -> Row
     requires { ⌜ (k < listInputs) × (d < 2) ⌝ }
     ensures { λ s. ⌜ s ≡ half k d r ⌝ }
 {
-    let place = numbers::power(k);
+    let place = bit_work::power(k);
     Row {
         mask: r.mask ^ place,
-        values: numbers::xor_where(r.values, place, d),
+        values: bit_work::xor_where(r.values, place, d),
         word: r.word,
     }
 }

@@ -10,8 +10,8 @@ use Rattle.slices.specs.Filled.{length-tab, tab-zero, tab-suc}
 use Rattle.block.specs.Words.{row}
 use Rattle.block.specs.Rows.{splitRow, splitRows}
 use Rattle.block.specs.declared.Row.{Row}
-use Rattle.listing.specs.Listing.{rowsFrom}
-use Rattle.moves.specs.Step.{split-length}
+use Rattle.flat_rows.specs.Listing.{rowsFrom}
+use Rattle.step_laws.specs.Step.{split-length}
 use Rattle.row_adding.specs.Held.{Added, added-then}
 
 split-append : (k v : ℕ) (rs ss : List Row) → splitRows k v (rs ++ ss) ≡ splitRows k v rs ++ splitRows k v ss

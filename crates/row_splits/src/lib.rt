@@ -8,8 +8,8 @@ ghost use lib.ListN.{length};
 ghost use Rattle.slices.specs.Places.{at, tab, over};
 ghost use Rattle.block.specs.Limits.{listInputs, smallerRows};
 ghost use Rattle.block.specs.Rows.{exchange, splitRows};
-ghost use Rattle.listing.specs.Listing.{rowsFrom};
-ghost use Rattle.moves.specs.Step.{stepRows};
+ghost use Rattle.flat_rows.specs.Listing.{rowsFrom};
+ghost use Rattle.step_laws.specs.Step.{stepRows};
 ghost use Rattle.row_adding.specs.Held.{Held, Room};
 
 // Positions k and h exchanged in the first p numbers.

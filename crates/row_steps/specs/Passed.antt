@@ -17,11 +17,11 @@ use Rattle.block.specs.Words.{row}
 use Rattle.block.specs.Basis.{apply}
 use Rattle.block.specs.Rows.{partner, rest, reached, moved}
 use Rattle.block.specs.declared.Row.{Row}
-use Rattle.listing.specs.Listing.{rowsFrom}
-use Rattle.matrix.specs.Reached.{Independent, independent-fewer}
-use Rattle.matrix.specs.Reach.{reachRows}
-use Rattle.moves.specs.Step.{stepRows}
-use Rattle.moves.specs.Moved.{moved-suc, moved-length}
+use Rattle.flat_rows.specs.Listing.{rowsFrom}
+use Rattle.matrix_laws.specs.Reached.{Independent, independent-fewer}
+use Rattle.matrix_laws.specs.Reach.{reachRows}
+use Rattle.step_laws.specs.Step.{stepRows}
+use Rattle.step_laws.specs.Moved.{moved-suc, moved-length}
 use Rattle.matrix_steps.specs.Steps.{apply-held}
 use Rattle.row_steps.specs.declared.Replay.{Replay}
 

@@ -6,8 +6,8 @@ ghost use Prim.Native.Nat.{_≤_};
 ghost use lib.ListN.{length};
 ghost use Rattle.slices.specs.Places.{at};
 ghost use Rattle.block.specs.Limits.{listInputs, smallerRows};
-ghost use Rattle.listing.specs.Listing.{rowsFrom};
-ghost use Rattle.matrix.specs.Reached.{Independent};
+ghost use Rattle.flat_rows.specs.Listing.{rowsFrom};
+ghost use Rattle.matrix_laws.specs.Reached.{Independent};
 ghost use Rattle.row_adding.specs.Held.{Room};
 ghost use Rattle.row_steps.specs.Passed.{Replayed};
 
@@ -31,7 +31,7 @@ pub fn move_rows(
     ensures { λ r. ⌜ Replayed n (at (now (basis .entry))) (rowsFrom p (now (masks .entry)) (now (values .entry)) (now (words .entry))) (now (masks .exit)) (now (values .exit)) (now (words .exit)) r ⌝ }
 {
     let mut s = [0u32; LIST_INPUTS];
-    matrices::put_units(&mut s, n);
+    matrix_work::put_units(&mut s, n);
     let mut count = p;
     let mut k: usize = 0;
     while k < n {

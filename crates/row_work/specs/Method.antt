@@ -16,9 +16,9 @@ use Rattle.block.specs.Lists.{passing, passingCheck, methodChecked, methodCheck
 use Rattle.block.specs.declared.Row.{Row}
 use Rattle.block.specs.declared.Answer.{Answer}
 use Rattle.block.specs.declared.RowMethodAnswer.{RowMethodAnswer}
-use Rattle.checks.specs.Sizes.{long-enough}
+use Rattle.shared_checks.specs.Sizes.{long-enough}
 use Rattle.answered_laws.specs.Passed.{method-numbered}
-use Rattle.verdicts.specs.Verdicts.{verdict-hit, verdict-miss, verdict-none, part-refuses, part-passes, rows-refused, kept, given}
+use Rattle.refusal_laws.specs.Verdicts.{verdict-hit, verdict-miss, verdict-none, part-refuses, part-passes, rows-refused, kept, given}
 use Rattle.smaller_rows.specs.Work.{Kept, RowsWorked}
 use Rattle.smaller_rows.specs.declared.RowWork.{RowWork}
 

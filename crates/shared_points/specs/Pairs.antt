@@ -15,12 +15,12 @@ use Rattle.block.specs.Refusals.{answer, verdict, andThen, rowAt, second, shari
 use Rattle.block.specs.Lists.{shareCheck}
 use Rattle.block.specs.declared.Row.{Row}
 use Rattle.block.specs.declared.Answer.{Answer}
-use Rattle.verdicts.specs.Verdicts.{then-refused, then-answered}
-use Rattle.pairs.specs.Cube.{Sound}
-use Rattle.pairs.specs.Closed.{demanded}
-use Rattle.pairs.specs.Theorem.{Every}
-use Rattle.pairs.specs.Share.{Clear, ClearBelow, sharing-none, sharing-at, second-at}
-use Rattle.listing.specs.Listing.{rows-count, row-at}
+use Rattle.refusal_laws.specs.Verdicts.{then-refused, then-answered}
+use Rattle.pair_laws.specs.Cube.{Sound}
+use Rattle.pair_laws.specs.Closed.{demanded}
+use Rattle.pair_laws.specs.Theorem.{Every}
+use Rattle.pair_laws.specs.Share.{Clear, ClearBelow, sharing-none, sharing-at, second-at}
+use Rattle.flat_rows.specs.Listing.{rows-count, row-at}
 use Rattle.shared_points.specs.declared.Pair.{Pair}
 use Rattle.shared_points.specs.declared.Pair.the-variants.{At, Apart}
 

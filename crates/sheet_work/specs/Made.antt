@@ -21,15 +21,15 @@ use Rattle.block.specs.Sheet.{sheetOf, sheetText, sheetVerdict}
 use Rattle.block.specs.declared.Row.{Row}
 use Rattle.block.specs.declared.Answer.{Answer}
 use Rattle.block.specs.declared.RowMethodAnswer.{RowMethodAnswer}
-use Rattle.verdicts.specs.Verdicts.{carried-yes, stored-yes, stored-no}
+use Rattle.refusal_laws.specs.Verdicts.{carried-yes, stored-yes, stored-no}
 use Rattle.answered_laws.specs.Passed.{MethodAnswered, method-answered}
-use Rattle.pairs.specs.Theorem.{shift-le}
-use Rattle.matrix.specs.Inverse.{length-basis, length-sigma}
-use Rattle.listing.specs.Listing.{rowsFrom}
-use Rattle.puts.specs.Puts.{Put, put-over}
+use Rattle.pair_laws.specs.Theorem.{shift-le}
+use Rattle.matrix_laws.specs.Inverse.{length-basis, length-sigma}
+use Rattle.flat_rows.specs.Listing.{rowsFrom}
+use Rattle.put_bytes.specs.Puts.{Put, put-over}
 use Rattle.moved_rows.specs.Put.{rows-put}
 use Rattle.row_work.specs.Method.{MethodDone}
-use Rattle.sheetlines.specs.Length.{sheet-le}
+use Rattle.put_sheet.specs.Length.{sheet-le}
 use Rattle.sheet_work.specs.Work.{sheetWork}
 
 -- a measure of a block with up to `most` inputs

@@ -65,7 +65,7 @@ pub fn make_sheet(
             count: 0,
         };
     }
-    let count = sheetlines::put_sheet(
+    let count = put_sheet::put_sheet(
         out,
         n,
         k,

@@ -16,12 +16,12 @@ use Rattle.block.specs.Basis.{basisOf, sigmaOf, smallerOf}
 use Rattle.block.specs.Rows.{moved}
 use Rattle.block.specs.Lists.{rowsAfter, passing, smallerList}
 use Rattle.block.specs.declared.Row.{Row}
-use Rattle.listing.specs.Listing.{rowsFrom}
-use Rattle.choice.specs.Chosen.{length-chosen}
-use Rattle.matrix.specs.Reached.{Independent, independent-cong}
-use Rattle.matrix.specs.Candidate.{basis-independent}
-use Rattle.matrix.specs.Inverse.{length-inverse}
-use Rattle.moves.specs.Moved.{moved-cong}
+use Rattle.flat_rows.specs.Listing.{rowsFrom}
+use Rattle.choice_laws.specs.Chosen.{length-chosen}
+use Rattle.matrix_laws.specs.Reached.{Independent, independent-cong}
+use Rattle.matrix_laws.specs.Candidate.{basis-independent}
+use Rattle.matrix_laws.specs.Inverse.{length-inverse}
+use Rattle.step_laws.specs.Moved.{moved-cong}
 use Rattle.choosing.specs.Found.{Found}
 use Rattle.choosing.specs.declared.Measures.{Measures}
 use Rattle.row_adding.specs.Held.{rows-copied}

@@ -6,8 +6,8 @@ ghost use Prim.Native.Nat.{_≤_};
 ghost use lib.ListN.{length};
 ghost use Rattle.block.specs.Limits.{listInputs, givenRows, smallerRows};
 ghost use Rattle.block.specs.Words.{rowsOf};
-ghost use Rattle.pairs.specs.Theorem.{Disjoint};
-ghost use Rattle.listing.specs.Listing.{Listed};
+ghost use Rattle.pair_laws.specs.Theorem.{Disjoint};
+ghost use Rattle.flat_rows.specs.Listing.{Listed};
 ghost use Rattle.smaller_rows.specs.Work.{RowsWorked};
 
 // What the work comes to: the first step, from 1, at which the list passes 512 rows, or 0, both measures and the number of rows.

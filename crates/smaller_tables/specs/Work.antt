@@ -7,10 +7,10 @@ use Rattle.slices.specs.Filled.{tab-cong}
 use Rattle.block.specs.Measure.{shift, measure}
 use Rattle.block.specs.Basis.{columns, basisOf, sigmaOf, smallerOf}
 use Rattle.block.specs.Tables.{smallerTable}
-use Rattle.choice.specs.Chosen.{Agree, pick}
-use Rattle.matrix.specs.Linear.{columns-cong}
-use Rattle.matrix.specs.Candidate.{basis-independent}
-use Rattle.shifts.specs.Light.{LightValues}
+use Rattle.choice_laws.specs.Chosen.{Agree, pick}
+use Rattle.matrix_laws.specs.Linear.{columns-cong}
+use Rattle.matrix_laws.specs.Candidate.{basis-independent}
+use Rattle.table_shifts.specs.Light.{LightValues}
 use Rattle.walks.specs.Walk.{Walked, valueAt, value-agree}
 use Rattle.choosing.specs.Steps.{ChosenBasis}
 use Rattle.choosing.specs.Found.{found-column, found}

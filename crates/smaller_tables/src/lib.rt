@@ -27,7 +27,7 @@ pub fn linearize(
     let mut by_t = [0u32; TABLE_POINTS];
     let mut walk = [0u32; TABLE_POINTS];
     let mut values = [0u32; TABLE_POINTS];
-    shifts::shifts_of(table, n, w, &mut by_t);
+    table_shifts::shifts_of(table, n, w, &mut by_t);
     let count = walks::put_walk(n, w, &mut walk);
     copying::put_values(&by_t, &walk, count, &mut values);
     let measures = choosing::choose_basis(&walk, &values, count, n, w, basis, sigma);

@@ -12,9 +12,9 @@ use Rattle.block.specs.Limits.{tableInputs, outputs}
 use Rattle.block.specs.Refusals.{verdict, outside, badEntry, badNumber}
 use Rattle.block.specs.Tables.{tableValueVerdict, tableMethodVerdict}
 use Rattle.block.specs.declared.Answer.{Answer}
-use Rattle.checks.specs.Sizes.{inside, or-left, or-right, long-enough, sizes-pass}
+use Rattle.shared_checks.specs.Sizes.{inside, or-left, or-right, long-enough, sizes-pass}
 use Rattle.table_checks.specs.Restoring.{restoreChecked}
-use Rattle.verdicts.specs.Verdicts.{passes-none, zero-too, passes}
+use Rattle.refusal_laws.specs.Verdicts.{passes-none, zero-too, passes}
 
 pub record ValuePassed (n k t : ℕ) (table : List ℕ) : Type 0 where
   pub inputs : n ≤ tableInputs

@@ -12,8 +12,8 @@ use Rattle.block.specs.Limits.{listInputs, tableInputs, outputs}
 use Rattle.block.specs.Refusals.{Check, check, verdict, andThen, outside, sizeChecks, badEntry, badNumber, malformed}
 use Rattle.block.specs.Tables.{tableValueVerdict, tableMethodVerdict}
 use Rattle.block.specs.declared.Answer.{Answer}
-use Rattle.verdicts.specs.Verdicts.{zero-too, then-answered, Asked, asked-then, asked-where}
-use Rattle.checks.specs.Sizes.{asked-sizes, sizes-pass}
+use Rattle.refusal_laws.specs.Verdicts.{zero-too, then-answered, Asked, asked-then, asked-where}
+use Rattle.shared_checks.specs.Sizes.{asked-sizes, sizes-pass}
 use Rattle.table_checks.specs.Restoring.{restoreChecked}
 
 -- 6 in a list of numbers after an answer of 0, by the least malformed index

@@ -19,7 +19,7 @@ pub fn is_bad_entry(k: usize, x: u16) -> bool
     requires { ⌜ k ≤ outputs ⌝ }
     ensures { λ r. ⌜ r ≡ badEntry k x ⌝ }
 {
-    if (x as u32) < numbers::power(k) {
+    if (x as u32) < bit_work::power(k) {
         return false;
     }
     x != 65535
@@ -45,7 +45,7 @@ pub fn is_bad_number(n: usize, x: u32) -> bool
     requires { ⌜ n ≤ tableInputs ⌝ }
     ensures { λ r. ⌜ r ≡ badNumber n x ⌝ }
 {
-    let below = x < numbers::power(n);
+    let below = x < bit_work::power(n);
     !below
 }
 
@@ -73,7 +73,7 @@ pub fn then_matrix(v: Answer, n: usize, rows: &[u32]) -> Answer
         return v;
     }
     let i = first_bad_number(n, rows);
-    checks::refuse_where(i < rows.len(), 6, 1, i)
+    shared_checks::refuse_where(i < rows.len(), 6, 1, i)
 }
 
 // 6 for a table.
@@ -85,18 +85,18 @@ pub fn then_entries(v: Answer, k: usize, table: &[u16]) -> Answer
         return v;
     }
     let i = first_bad_entry(k, table);
-    checks::refuse_where(i < table.len(), 6, 0, i)
+    shared_checks::refuse_where(i < table.len(), 6, 0, i)
 }
 
 // The verdict on a single shift value of a table.
 pub fn table_value_verdict(n: usize, k: usize, t: usize, table: &[u16]) -> Answer
     ensures { λ r. ⌜ r ≡ tableValueVerdict n k t (now (table .entry)) ⌝ }
 {
-    let sizes = checks::sizes(TABLE_INPUTS, n, k);
-    let size = checks::size_of(n);
+    let sizes = shared_checks::sizes(TABLE_INPUTS, n, k);
+    let size = shared_checks::size_of(n);
     let below = t < size;
-    let point = checks::then_where(sizes, !below, 3, 0, 0);
-    let whole = checks::then_where(point, table.len() != size, 4, 0, 0);
+    let point = shared_checks::then_where(sizes, !below, 3, 0, 0);
+    let whole = shared_checks::then_where(point, table.len() != size, 4, 0, 0);
     then_entries(whole, k, table)
 }
 
@@ -112,12 +112,12 @@ pub fn table_method_verdict(
 ) -> Answer
     ensures { λ r. ⌜ r ≡ tableMethodVerdict n k w (now (table .entry)) «room_t» «room_sigma» «room_table» ⌝ }
 {
-    let sizes = checks::sizes(TABLE_INPUTS, n, k);
-    let size = checks::size_of(n);
-    let weight = checks::then_where(sizes, checks::is_outside(1, n, w), 3, 0, 0);
-    let whole = checks::then_where(weight, table.len() != size, 4, 0, 0);
-    let short = checks::is_short(n, room_t, room_sigma, size, room_table);
-    let lent = checks::then_where(whole, short, 5, 0, 0);
+    let sizes = shared_checks::sizes(TABLE_INPUTS, n, k);
+    let size = shared_checks::size_of(n);
+    let weight = shared_checks::then_where(sizes, shared_checks::is_outside(1, n, w), 3, 0, 0);
+    let whole = shared_checks::then_where(weight, table.len() != size, 4, 0, 0);
+    let short = shared_checks::is_short(n, room_t, room_sigma, size, room_table);
+    let lent = shared_checks::then_where(whole, short, 5, 0, 0);
     then_entries(lent, k, table)
 }
 
@@ -135,11 +135,11 @@ pub fn is_unfit(rows: usize, n: usize, entries: usize, size: usize) -> bool
 pub fn restore_checked(n: usize, k: usize, sigma: &[u32], table: &[u16], room: usize) -> Answer
     ensures { λ r. ⌜ r ≡ verdict (restoreChecked n k (now (sigma .entry)) (now (table .entry)) room) ⌝ }
 {
-    let sizes = checks::sizes(TABLE_INPUTS, n, k);
-    let size = checks::size_of(n);
+    let sizes = shared_checks::sizes(TABLE_INPUTS, n, k);
+    let size = shared_checks::size_of(n);
     let unfit = is_unfit(sigma.len(), n, table.len(), size);
-    let whole = checks::then_where(sizes, unfit, 4, 0, 0);
-    let lent = checks::then_where(whole, room < size, 5, 0, 0);
+    let whole = shared_checks::then_where(sizes, unfit, 4, 0, 0);
+    let lent = shared_checks::then_where(whole, room < size, 5, 0, 0);
     let rows = then_matrix(lent, n, sigma);
     then_entries(rows, k, table)
 }

@@ -1,5 +1,5 @@
 -- A table and a marked copy of it, compared by blocks of 64 points: the definitions, the number of blocks, and what a pair of blocks adds.
--- Not here: that the pairs add up to R (shifts). Assumes nothing.
+-- Not here: that the pairs add up to R (table_shifts). Assumes nothing.
 use mathlib.Core.Path.{_≡_, sym, ap, _∙_}
 use mathlib.Core.Bool.{cond}
 use mathlib.Core.List.{List}

@@ -1,6 +1,6 @@
 // What R of a table is counted from, by blocks of 64 points: an entry as the moved copy holds it, how many points of two blocks match, what
 // two blocks add together, and whether a number has few one-bits. Every function here is inner: the loops over blocks and numbers stand
-// in shifts.
+// in table_shifts.
 ghost use mathlib.Core.Path.{_≡_};
 ghost use Prim.Native.Nat.{_+_, _*_, _-_, _≤_, _<_, _^_};
 ghost use lib.Count.{ones};

@@ -87,8 +87,8 @@ pub fn restore_table(
     let mut reached = [0u32; TABLE_INPUTS];
     let j = matrix_steps::first_dependent(n, sigma, &mut reached);
     if j < n {
-        return checks::refuse(8, j, 0);
+        return shared_checks::refuse(8, j, 0);
     }
     restoring::put_restored(sigma, n, smaller, table);
-    checks::refuse(0, 0, 0)
+    shared_checks::refuse(0, 0, 0)
 }

@@ -25,10 +25,10 @@ use Rattle.block.specs.declared.Kind.{Kind}
 use Rattle.block.specs.declared.Kind.the-variants.{Inputs, Outputs, Count, Room, Form}
 use Rattle.block.specs.declared.Reading.{Reading}
 use Rattle.block.specs.declared.Reading.the-variants.{Accepted, Refused}
-use Rattle.verdicts.specs.Verdicts.{answered-clear, carried-yes, stored-yes, stored-no}
-use Rattle.checks.specs.Sizes.{inside}
-use Rattle.listing.specs.Listing.{rowsFrom, rows-of}
-use Rattle.lines.specs.Front.{rows-count}
+use Rattle.refusal_laws.specs.Verdicts.{answered-clear, carried-yes, stored-yes, stored-no}
+use Rattle.shared_checks.specs.Sizes.{inside}
+use Rattle.flat_rows.specs.Listing.{rowsFrom, rows-of}
+use Rattle.read_laws.specs.Front.{rows-count}
 use Rattle.sheet_work.specs.Work.{withSheet, sheetWork}
 use Rattle.sheet_work.specs.declared.SheetWork.{SheetWork}
 use Rattle.text_work.specs.Work.{firstRows, textVerdict, sheetIn, textWork}

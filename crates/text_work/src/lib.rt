@@ -87,7 +87,7 @@ pub fn work_text(input: &[u8], out: &mut [u8]) -> SheetWork
         Reading::Refused(r) => {
             let kind = r.kind;
             SheetWork {
-                number: kinds::kind_number(kind),
+                number: read_kinds::kind_number(kind),
                 a: r.a,
                 b: r.b,
                 before: 0,

@@ -17,7 +17,7 @@ use Rattle.slices.specs.Places.{at, tab, first, over}
 use Rattle.slices.specs.Filled.{over-at, over-push}
 use Rattle.slices.specs.Least.{first-is, first-found, first-passes}
 use Rattle.sums.specs.Laws.{below-suc}
-use Rattle.choice.specs.Chosen.{Agree}
+use Rattle.choice_laws.specs.Chosen.{Agree}
 use Rattle.candidates.specs.Light.{light}
 
 -- the numbers below m with 1 to w one-bits, in ascending order

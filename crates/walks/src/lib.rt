@@ -14,7 +14,7 @@ pub fn put_walk(n: usize, w: usize, out: &mut [u32]) -> usize
     ensures { λ _. ⌜ now (out .exit) ≡ over (walk n w) (now (out .entry)) ⌝ }
     ensures { λ r. ⌜ r ≡ length (walk n w) ⌝ }
 {
-    let size = numbers::size(n);
+    let size = bit_work::size(n);
     let mut count: usize = 0;
     let mut t: usize = 0;
     while t < size {

@@ -17,7 +17,7 @@ pub fn write_text(
     ensures { λ r. ⌜ WritePromise n k (rowsOf (now (masks .entry)) (now (values .entry)) (now (words .entry)))
         (now (out .entry)) r (now (out .exit)) ⌝ }
 {
-    let v = rowtext::write_checks(n, k, masks, values, words, out.len());
+    let v = put_text::write_checks(n, k, masks, values, words, out.len());
     if v.number != 0 {
         return TextAnswer {
             number: v.number,
@@ -26,7 +26,7 @@ pub fn write_text(
             count: 0,
         };
     }
-    let count = rowtext::put_text(out, n, k, masks, values, words);
+    let count = put_text::put_text(out, n, k, masks, values, words);
     TextAnswer {
         number: v.number,
         a: v.a,

@@ -7,8 +7,8 @@ use lib.ListN.{length}
 use denote.Ref.{now}
 use Rattle.slices.specs.Places.{tab, over}
 use Rattle.slices.specs.Filled.{over-none, over-more, over-over}
-use Rattle.choice.specs.Chosen.{pick}
-use Rattle.matrix.specs.Reach.{reachRows}
+use Rattle.choice_laws.specs.Chosen.{pick}
+use Rattle.matrix_laws.specs.Reach.{reachRows}
 use Rattle.matrix_steps.specs.Steps.{reach-start, reach-turn}
 use Rattle.walks.specs.Walk.{valueAt}
 use Rattle.choosing.specs.Steps.{choose-turn}

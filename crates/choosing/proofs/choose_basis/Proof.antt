@@ -5,8 +5,8 @@ use Prim.Native.Nat.{ℕ, _^_}
 use denote.Ref.{now}
 use Rattle.slices.specs.Places.{tab, over}
 use Rattle.slices.specs.Filled.{over-over}
-use Rattle.choice.specs.Chosen.{pick}
-use Rattle.matrix.specs.Reach.{reachRows}
+use Rattle.choice_laws.specs.Chosen.{pick}
+use Rattle.matrix_laws.specs.Reach.{reachRows}
 use Rattle.walks.specs.Walk.{valueAt}
 use Rattle.choosing.specs.Steps.{sum-held}
 use borrow.Author.Needs.{needs}

@@ -8,7 +8,7 @@ use lib.ListN.{length}
 use Rattle.block.specs.Limits.{smallerRows}
 use Rattle.block.specs.Words.{rowsOf}
 use Rattle.filling.specs.Points.{TableFrom, table-none, table-all, sound-row, table-row}
-use Rattle.listing.specs.Listing.{rows-count}
+use Rattle.flat_rows.specs.Listing.{rows-count}
 use borrow.Author.Needs.{needs}
 use Rattle.filling.proofs.fill_rows.Statement.{statement}
 use Rattle.filling.proofs.fill_rows.Tie as tie

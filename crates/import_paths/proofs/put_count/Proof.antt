@@ -1,7 +1,7 @@
 -- `import_paths::put_count` meets its contract: nothing is put for the first name. Assumes nothing.
 use borrow.Author.Tests.{lt-ltb, le-ltb}
 use native.Mathlib.Omega.{arith}
-use Rattle.puts.specs.Puts.{none-put}
+use Rattle.put_bytes.specs.Puts.{none-put}
 use Rattle.import_paths.specs.Path.{counted}
 use borrow.Author.Needs.{needs}
 use Rattle.import_paths.proofs.put_count.Statement.{statement}

@@ -1,7 +1,7 @@
 -- `import_paths::put_path` meets its contract: the three puts, one after the other, are the name. Assumes nothing.
 use native.Mathlib.Omega.{arith}
 use denote.Ref.{now}
-use Rattle.puts.specs.Puts.{then}
+use Rattle.put_bytes.specs.Puts.{then}
 use Rattle.import_paths.specs.Path.{pathOf}
 use Rattle.import_paths.specs.Room.{counted-le}
 use Rattle.import_paths.specs.Made.{path-made}

@@ -3,7 +3,7 @@ use mathlib.Core.Path.{ap}
 use native.Mathlib.Omega.{arith}
 use denote.Ref.{now}
 use lib.ListN.{length, length-take}
-use Rattle.import_lines.specs.Length.{line-le}
+use Rattle.put_import.specs.Length.{line-le}
 use Rattle.importing.specs.Made.{line-made}
 use borrow.Author.Needs.{needs}
 use Rattle.importing.proofs.import_text.Statement.{statement}

@@ -4,7 +4,7 @@ use borrow.Author.Tests.{eq-eqb, ne-eqb}
 use denote.Ref.{now}
 use lib.ListN.{length}
 use Rattle.block.specs.Limits.{tableInputs, smallerRows}
-use Rattle.listing.specs.Listing.{listed-rows}
+use Rattle.flat_rows.specs.Listing.{listed-rows}
 use Rattle.row_checks.specs.Checked.{fill-checked, checked-words}
 use borrow.Author.Needs.{needs}
 use Rattle.lists.proofs.fill_table.Statement.{statement}

@@ -6,7 +6,7 @@ use denote.Ref.{now}
 use lib.Pow.{pow-mono}
 use Rattle.block.specs.Limits.{smallerRows}
 use Rattle.block.specs.Lists.{rowValue}
-use Rattle.listing.specs.Listing.{listed-rows}
+use Rattle.flat_rows.specs.Listing.{listed-rows}
 use Rattle.row_checks.specs.Checked.{value-checked}
 use borrow.Author.Needs.{needs}
 use Rattle.lists.proofs.row_value.Statement.{statement}

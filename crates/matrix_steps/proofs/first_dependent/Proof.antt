@@ -13,7 +13,7 @@ use Rattle.slices.specs.Places.{at, tab, over}
 use Rattle.slices.specs.Least.{first-is}
 use Rattle.block.specs.Basis.{span}
 use Rattle.block.specs.Refusals.{dependent}
-use Rattle.matrix.specs.Reach.{reachRows}
+use Rattle.matrix_laws.specs.Reach.{reachRows}
 use Rattle.matrix_steps.specs.Steps.{reach-start, reach-turn, span-held}
 use borrow.Author.Needs.{needs}
 use Rattle.matrix_steps.proofs.first_dependent.Statement.{statement}

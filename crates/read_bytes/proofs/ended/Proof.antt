@@ -1,7 +1,7 @@
 -- `read_bytes::ended` meets its contract: each return is the case of `endedOf` that the tests on the way lead to. Assumes nothing.
 use borrow.Author.Needs.{needs}
 use borrow.Author.Tests.{eq-eqb, ne-eqb}
-use Rattle.lines.specs.ByPlace.{endedOf}
+use Rattle.read_laws.specs.ByPlace.{endedOf}
 use Rattle.read_bytes.proofs.ended.Statement.{statement}
 use Rattle.read_bytes.proofs.ended.Tie as tie
 

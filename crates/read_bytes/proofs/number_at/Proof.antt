@@ -8,8 +8,8 @@ use borrow.Author.Needs.{needs}
 use borrow.Author.Tests.{not-true, not-false}
 use denote.Ref.{now}
 use Rattle.block.specs.Text.{valueOf}
-use Rattle.lines.specs.ByPlace.{longest, bytesAt}
-use Rattle.lines.specs.Numerals.{digit-range}
+use Rattle.read_laws.specs.ByPlace.{longest, bytesAt}
+use Rattle.read_laws.specs.Numerals.{digit-range}
 use Rattle.read_bytes.specs.Digits.{AllDigits, value-none, value-more, value-below, number-ends}
 use Rattle.read_bytes.proofs.number_at.Statement.{statement}
 use Rattle.read_bytes.proofs.number_at.Tie as tie

@@ -1,7 +1,7 @@
 -- `read_work::closed` meets its contract: each return is the case of `closedOf` that its test leads to. Assumes nothing.
 use borrow.Author.Tests.{eq-eqb, ne-eqb}
 use borrow.Author.Needs.{needs}
-use Rattle.lines.specs.ByPlace.{closedOf}
+use Rattle.read_laws.specs.ByPlace.{closedOf}
 use Rattle.read_work.proofs.closed.Tie as tie
 use Rattle.read_work.proofs.closed.Statement.{statement}
 

@@ -4,9 +4,9 @@ use mathlib.Core.Path.{refl, sym, subst, _∙_}
 use native.Mathlib.Omega.{arith}
 use borrow.Author.Needs.{needs}
 use denote.Ref.{now}
-use Rattle.lines.specs.Whole.{fault-le}
-use Rattle.lines.specs.ByPlace.{openWithin, readingOf, afterOf}
-use Rattle.lines.specs.declared.Opening.{Opening}
+use Rattle.read_laws.specs.Whole.{fault-le}
+use Rattle.read_laws.specs.ByPlace.{openWithin, readingOf, afterOf}
+use Rattle.read_laws.specs.declared.Opening.{Opening}
 use Rattle.read_work.specs.Cursor.{cursor-le, part-from}
 use Rattle.read_work.proofs.read_from.Statement.{statement}
 use Rattle.read_work.proofs.read_from.Tie as tie

@@ -1,4 +1,4 @@
--- `reading::read_text` meets its contract: the answer by place, and the slices after it, are the meaning's by the laws of the crate lines.
+-- `reading::read_text` meets its contract: the answer by place, and the slices after it, are the meaning's by the laws of the crate read_laws.
 -- Assumes nothing.
 use mathlib.Core.Path.{_≡_, ap, _∙_}
 use native.Mathlib.Omega.{arith}
@@ -6,7 +6,7 @@ use borrow.Author.Needs.{needs}
 use denote.Ref.{now}
 use Rattle.block.specs.Words.{maskPart, valuesPart, wordPart}
 use Rattle.block.specs.Text.{readText, numbers}
-use Rattle.lines.specs.Answers.{numbers-read, after-read}
+use Rattle.read_laws.specs.Answers.{numbers-read, after-read}
 use Rattle.promises.specs.Lent.{shortest}
 use Rattle.reading.proofs.read_text.Statement.{statement}
 use Rattle.reading.proofs.read_text.Tie as tie

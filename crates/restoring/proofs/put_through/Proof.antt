@@ -11,7 +11,7 @@ use Rattle.slices.specs.Filled.{over-none, over-more, getD-any}
 use Rattle.block.specs.Limits.{tableInputs}
 use Rattle.block.specs.Words.{none, ofTable}
 use Rattle.block.specs.Basis.{columns}
-use Rattle.matrix.specs.Linear.{columns-lt}
+use Rattle.matrix_laws.specs.Linear.{columns-lt}
 use borrow.Author.Needs.{needs}
 use Rattle.restoring.proofs.put_through.Statement.{statement}
 use Rattle.restoring.proofs.put_through.Tie as tie

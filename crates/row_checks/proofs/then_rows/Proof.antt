@@ -4,8 +4,8 @@ use mathlib.Core.Path.{refl, _∙_}
 use denote.Ref.{now}
 use Rattle.block.specs.Limits.{smallerRows}
 use Rattle.block.specs.Words.{rowsOf}
-use Rattle.verdicts.specs.Verdicts.{zero-too, then-refused, then-answered, asked-then}
-use Rattle.listing.specs.Listing.{listed-rows}
+use Rattle.refusal_laws.specs.Verdicts.{zero-too, then-refused, then-answered, asked-then}
+use Rattle.flat_rows.specs.Listing.{listed-rows}
 use Rattle.answered_laws.specs.Passed.{formed-sound}
 use Rattle.row_checks.proofs.then_rows.Statement.{statement}
 use Rattle.row_checks.proofs.then_rows.Tie as tie

@@ -8,7 +8,7 @@ use native.Mathlib.Omega.{arith}
 use lib.ListN.{length}
 use denote.Ref.{now}
 use Rattle.block.specs.Rows.{splitRows}
-use Rattle.listing.specs.Listing.{rowsFrom}
+use Rattle.flat_rows.specs.Listing.{rowsFrom}
 use Rattle.row_adding.specs.Held.{Added, added-none, held-none}
 use Rattle.row_splits.specs.Split.{split-none, split-bound, split-added}
 use borrow.Author.Needs.{needs}

@@ -12,10 +12,10 @@ use Rattle.slices.specs.Filled.{length-tab}
 use Rattle.block.specs.Limits.{listInputs, smallerRows}
 use Rattle.block.specs.Rows.{moved}
 use Rattle.block.specs.declared.Row.{Row}
-use Rattle.listing.specs.Listing.{rowsFrom}
-use Rattle.matrix.specs.Reach.{reachRows}
-use Rattle.moves.specs.Step.{stepRows}
-use Rattle.moves.specs.Moved.{moved-none}
+use Rattle.flat_rows.specs.Listing.{rowsFrom}
+use Rattle.matrix_laws.specs.Reach.{reachRows}
+use Rattle.step_laws.specs.Step.{stepRows}
+use Rattle.step_laws.specs.Moved.{moved-none}
 use Rattle.matrix_steps.specs.Steps.{partner-lt, reach-start, reach-turn}
 use Rattle.row_steps.specs.Passed.{step-held, replay-stopped, replay-done}
 use borrow.Author.Needs.{needs}

@@ -2,8 +2,8 @@
 use denote.Ref.{now}
 use Rattle.block.specs.Limits.{givenRows}
 use Rattle.block.specs.Words.{rowsOf}
-use Rattle.verdicts.specs.Verdicts.{zero-too}
-use Rattle.listing.specs.Listing.{listed-rows}
+use Rattle.refusal_laws.specs.Verdicts.{zero-too}
+use Rattle.flat_rows.specs.Listing.{listed-rows}
 use Rattle.answered_laws.specs.Passed.{method-passed}
 use Rattle.row_work.specs.Method.{method-refused, method-stopped, method-made}
 use borrow.Author.Needs.{needs}

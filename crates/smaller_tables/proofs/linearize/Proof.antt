@@ -8,7 +8,7 @@ use denote.Ref.{now}
 use Rattle.block.specs.Limits.{tableInputs}
 use Rattle.block.specs.Words.{ofTable}
 use Rattle.block.specs.Measure.{shift}
-use Rattle.choice.specs.Chosen.{Agree}
+use Rattle.choice_laws.specs.Chosen.{Agree}
 use Rattle.walks.specs.Walk.{Walked, valueAt, walked, walked-lt, walk-below}
 use Rattle.smaller_tables.specs.Work.{laid-agree, column-lt, worked}
 use borrow.Author.Needs.{needs}

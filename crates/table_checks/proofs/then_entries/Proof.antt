@@ -1,7 +1,7 @@
 -- `table_checks::then_entries` meets its contract: the earlier refusal, or one check. Assumes nothing.
 use denote.Ref.{now}
 use Rattle.block.specs.Refusals.{badEntry}
-use Rattle.verdicts.specs.Verdicts.{then-refused}
+use Rattle.refusal_laws.specs.Verdicts.{then-refused}
 use Rattle.table_checks.specs.Steps.{malformed-asked}
 use borrow.Author.Needs.{needs}
 use Rattle.table_checks.proofs.then_entries.Statement.{statement}

@@ -13,7 +13,7 @@ use Rattle.block.specs.Tables.{restoreVerdict, restored}
 use Rattle.block.specs.declared.Answer.{Answer}
 use Rattle.table_checks.specs.Restoring.{restoreChecked}
 use Rattle.table_checks.specs.Passed.{restore-passed}
-use Rattle.verdicts.specs.Verdicts.{verdict-hit, verdict-miss, verdict-none, part-refuses, part-passes, kept, given}
+use Rattle.refusal_laws.specs.Verdicts.{verdict-hit, verdict-miss, verdict-none, part-refuses, part-passes, kept, given}
 use borrow.Author.Needs.{needs}
 use Rattle.tables.proofs.restore_table.Statement.{statement}
 use Rattle.tables.proofs.restore_table.Tie as tie

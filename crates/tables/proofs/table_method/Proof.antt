@@ -10,10 +10,10 @@ use Rattle.block.specs.Measure.{measure}
 use Rattle.block.specs.Basis.{basisOf, sigmaOf, smallerOf}
 use Rattle.block.specs.Tables.{tableMethod, withMeasures, smallerTable}
 use Rattle.block.specs.declared.Answer.{Answer}
-use Rattle.checks.specs.Sizes.{inside}
-use Rattle.shifts.specs.Blocks.{good-unmarked}
+use Rattle.shared_checks.specs.Sizes.{inside}
+use Rattle.table_shifts.specs.Blocks.{good-unmarked}
 use Rattle.table_checks.specs.Passed.{method-passed, method-sizes, method-entries}
-use Rattle.verdicts.specs.Verdicts.{measures-refused, measures-answered, kept, given}
+use Rattle.refusal_laws.specs.Verdicts.{measures-refused, measures-answered, kept, given}
 use borrow.Author.Needs.{needs}
 use Rattle.tables.proofs.table_method.Statement.{statement}
 use Rattle.tables.proofs.table_method.Tie as tie

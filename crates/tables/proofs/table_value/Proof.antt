@@ -7,7 +7,7 @@ use Rattle.block.specs.Measure.{shift}
 use Rattle.block.specs.Tables.{tableValue, withValue}
 use Rattle.block.specs.declared.Answer.{Answer}
 use Rattle.table_checks.specs.Passed.{value-passed}
-use Rattle.verdicts.specs.Verdicts.{value-refused, value-answered}
+use Rattle.refusal_laws.specs.Verdicts.{value-refused, value-answered}
 use borrow.Author.Needs.{needs}
 use Rattle.tables.proofs.table_value.Statement.{statement}
 use Rattle.tables.proofs.table_value.Tie as tie

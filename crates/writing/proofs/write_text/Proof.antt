@@ -8,11 +8,11 @@ use borrow.Author.Tests.{eq-eqb, ne-eqb}
 use denote.Ref.{now}
 use lib.ListN.{length}
 use Rattle.block.specs.Text.{writeText}
-use Rattle.puts.specs.Puts.{put-over}
-use Rattle.rowtext.specs.Length.{text-le}
+use Rattle.put_bytes.specs.Puts.{put-over}
+use Rattle.put_text.specs.Length.{text-le}
 use Rattle.block.specs.Words.{rowsOf}
-use Rattle.listing.specs.Listing.{equal-lengths}
-use Rattle.rowtext.specs.Checks.{writable}
+use Rattle.flat_rows.specs.Listing.{equal-lengths}
+use Rattle.put_text.specs.Checks.{writable}
 use Rattle.writing.proofs.write_text.Statement.{statement}
 use Rattle.writing.proofs.write_text.Tie as tie
 

@@ -1,0 +1,46 @@
+-- What the checks of writing say where none holds; and the last of them as the code finds it. Assumes nothing.
+use mathlib.Core.Path.{_≡_, refl}
+use mathlib.Core.Bool.{false}
+use mathlib.Core.List.{List, [], _∷_}
+use Prim.Native.Nat.{ℕ, _≤_, _<_}
+use native.Mathlib.Omega.{arith}
+use borrow.Author.Tests.{ltb-false, eq-eqb}
+use lib.Dec.{ltb}
+use lib.ListN.{length}
+use Rattle.slices.specs.Places.{first}
+use Rattle.slices.specs.Least.{first-below}
+use Rattle.block.specs.Limits as limits
+use Rattle.block.specs.Refusals.{check, verdict, badRow, rowAt}
+use Rattle.block.specs.Lists.{badRowCheck}
+use Rattle.block.specs.Text.{writeVerdict}
+use Rattle.block.specs.declared.Row.{Row}
+use Rattle.refusal_laws.specs.Verdicts.{answered-clear}
+use Rattle.shared_checks.specs.Sizes.{inside}
+
+-- n, k and the number of rows are in range, the room is long enough, and no row is malformed
+pub record Writable (n k : ℕ) (rs : List Row) (room : ℕ) : Type 0 where
+  pub inputs : (1 ≤ n) × (n ≤ limits.listInputs)
+  pub outputs : (1 ≤ k) × (k ≤ limits.outputs)
+  pub count : (1 ≤ length rs) × (length rs ≤ limits.givenRows)
+  pub enough : limits.textRoom ≤ room
+  pub rows : (i : ℕ) → i < length rs → badRow n k (rowAt rs i) ≡ false
+
+pub writable : (n k : ℕ) (rs : List Row) (room : ℕ) → writeVerdict n k rs room .number ≡ 0 → Writable n k rs room
+unfolding writeVerdict
+writable n k rs room e =
+    let clear = answered-clear _ (refl, (refl, (refl, (refl, (refl, tt))))) (eq-eqb _ 0 e) in
+    record {
+      inputs = inside 1 limits.listInputs n (clear 0 (omega arith));
+      outputs = inside 1 limits.outputs k (clear 1 (omega arith));
+      count = inside 1 limits.givenRows (length rs) (clear 2 (omega arith));
+      enough = ltb-false room limits.textRoom (clear 3 (omega arith));
+      rows =
+          λ i h.
+          first-below (length rs) (λ i. badRow n k (rowAt rs i)) i
+          (omega (arith, ltb-false _ (length rs) (clear 4 (omega arith))));
+    }
+
+-- 6 by the least malformed row and the number of rows
+pub bad-check : (n k : ℕ) (rs : List Row) (count bad : ℕ) → count ≡ length rs → bad ≡ first (length rs) (λ i. badRow n k (rowAt rs i))
+    → verdict (check (ltb bad count) 6 0 bad ∷ []) ≡ verdict (badRowCheck n k rs ∷ [])
+bad-check n k rs count bad e f = rw (f, e)

@@ -1,0 +1,188 @@
+// R of a list of rows by cubes (document 003, Theorem 1), one for each pair of rows with equal words: at one t, pair by pair; and at each
+// t of a list, with the parts of the cubes laid out in three slices. What one pair adds is in pair_weights. Every function here is inner.
+use block::GIVEN_ROWS;
+ghost use mathlib.Core.Path.{_≡_};
+ghost use mathlib.Core.Bool.{cond};
+ghost use Prim.Native.Nat.{ℕ, _-_, _*_, _≤_, _<_, _^_};
+ghost use lib.Bits.{bitAnd, bitXor, bitOr};
+ghost use lib.Count.{ones};
+ghost use lib.Dec.{eqb};
+ghost use lib.ListN.{length, set};
+ghost use Rattle.slices.specs.Places.{at, tab, over};
+ghost use Rattle.block.specs.Limits.{listInputs, givenRows, smallerRows};
+ghost use Rattle.block.specs.Words.{ofRows, rowsOf};
+ghost use Rattle.block.specs.Measure.{shift};
+ghost use Rattle.pair_laws.specs.Cube.{Sound};
+ghost use Rattle.pair_laws.specs.Theorem.{Every, Disjoint};
+ghost use Rattle.pair_laws.specs.Symmetric.{cubesOf};
+ghost use Rattle.flat_rows.specs.Listing.{Listed};
+ghost use Rattle.row_shifts.specs.Looped.{cubesRoom};
+ghost use Rattle.row_shifts.specs.Stored.{CubesAt, addedBy};
+
+// The cubes of the rows given: one for each pair i up to j.
+pub const CUBES: usize = GIVEN_ROWS * (GIVEN_ROWS + 1) / 2;
+
+// Puts the cube of the rows i and j at a place of the three slices.
+pub fn put_cube(
+    n: usize,
+    masks: &[u32],
+    values: &[u32],
+    i: usize,
+    j: usize,
+    cube_masks: &mut [u32],
+    cube_values: &mut [u32],
+    cube_weights: &mut [u32],
+    place: usize,
+)
+    requires { ⌜ (n ≤ listInputs) × (i < length (now masks)) × (j < length (now masks)) × (length (now values) ≡ length (now masks)) ⌝ }
+    requires { ⌜ (at (now masks) i < 2 ^ n) × (at (now masks) j < 2 ^ n) ⌝ }
+    requires { ⌜ (place < length (now «cube_masks»)) × (place < length (now «cube_values»)) × (place < length (now «cube_weights»)) ⌝ }
+    ensures { λ _. ⌜ now («cube_masks» .exit) ≡ set (now («cube_masks» .entry)) place (bitAnd (at (now (masks .entry)) i) (at (now (masks .entry)) j)) ⌝ }
+    ensures { λ _. ⌜ now («cube_values» .exit) ≡ set (now («cube_values» .entry)) place (bitAnd (bitAnd (at (now (masks .entry)) i) (at (now (masks .entry)) j)) (bitXor (at (now (values .entry)) i) (at (now (values .entry)) j))) ⌝ }
+    ensures { λ _. ⌜ now («cube_weights» .exit) ≡ set (now («cube_weights» .entry)) place (2 ^ (n - ones (bitOr (at (now (masks .entry)) i) (at (now (masks .entry)) j))) * cond (eqb i j) 1 2) ⌝ }
+{
+    let mask = masks[i];
+    let mask2 = masks[j];
+    cube_masks[place] = mask & mask2;
+    cube_values[place] = (mask & mask2) & (values[i] ^ values[j]);
+    cube_weights[place] = pair_weights::weight_of(n, mask, mask2, i == j);
+}
+
+// Puts the cubes of all pairs of rows with equal words, i up to j, in the order of the loops, and answers how many there are.
+pub fn put_cubes(
+    n: usize,
+    masks: &[u32],
+    values: &[u32],
+    words: &[u32],
+    cube_masks: &mut [u32],
+    cube_values: &mut [u32],
+    cube_weights: &mut [u32],
+) -> usize
+    requires { ⌜ (n ≤ listInputs) × Listed givenRows (now masks) (now values) (now words) ⌝ }
+    requires { ⌜ Every (Sound n) (rowsOf (now masks) (now values) (now words)) ⌝ }
+    requires { ⌜ (cubesRoom ≤ length (now «cube_masks»)) × (cubesRoom ≤ length (now «cube_values»)) × (cubesRoom ≤ length (now «cube_weights»)) ⌝ }
+    ensures { λ r. ⌜ CubesAt (cubesOf n (rowsOf (now (masks .entry)) (now (values .entry)) (now (words .entry)))) (now («cube_masks» .entry)) (now («cube_values» .entry)) (now («cube_weights» .entry)) (now («cube_masks» .exit)) (now («cube_values» .exit)) (now («cube_weights» .exit)) r ⌝ }
+{
+    let p = masks.len();
+    let mut count: usize = 0;
+    for i in 0..p {
+        for j in i..p {
+            if pair_weights::same_word(words[i], words[j]) {
+                put_cube(
+                    n,
+                    masks,
+                    values,
+                    i,
+                    j,
+                    cube_masks,
+                    cube_values,
+                    cube_weights,
+                    count,
+                );
+                count += 1;
+            }
+        }
+    }
+    count
+}
+
+// What the cubes add to R(t).
+pub fn shift_by_cubes(
+    cube_masks: &[u32],
+    cube_values: &[u32],
+    cube_weights: &[u32],
+    count: usize,
+    t: u32,
+) -> u32
+    requires { ⌜ (count ≤ length (now «cube_masks»)) × (count ≤ length (now «cube_values»)) × (count ≤ length (now «cube_weights»)) ⌝ }
+    requires { ⌜ addedBy (now «cube_masks») (now «cube_values») (now «cube_weights») count t ≤ 2 ^ listInputs ⌝ }
+    ensures { λ r. ⌜ r ≡ addedBy (now («cube_masks» .entry)) (now («cube_values» .entry)) (now («cube_weights» .entry)) count t ⌝ }
+{
+    let mut sum: u32 = 0;
+    let mut q: usize = 0;
+    while q < count {
+        if t & cube_masks[q] == cube_values[q] {
+            sum += cube_weights[q];
+        }
+        q += 1;
+    }
+    sum
+}
+
+// What the cubes add at each t of a list, by its place there.
+pub fn shifts_by_cubes(
+    cube_masks: &[u32],
+    cube_values: &[u32],
+    cube_weights: &[u32],
+    count: usize,
+    ts: &[u32],
+    places: usize,
+    out: &mut [u32],
+)
+    requires { ⌜ (count ≤ length (now «cube_masks»)) × (count ≤ length (now «cube_values»)) × (count ≤ length (now «cube_weights»)) ⌝ }
+    requires { ⌜ (places ≤ length (now ts)) × (places ≤ length (now out)) ⌝ }
+    requires { ⌜ ((i : ℕ) → i < places → addedBy (now «cube_masks») (now «cube_values») (now «cube_weights») count (at (now ts) i) ≤ 2 ^ listInputs) ⌝ }
+    ensures { λ _. ⌜ now (out .exit) ≡ over (tab places (λ i. addedBy (now («cube_masks» .entry)) (now («cube_values» .entry)) (now («cube_weights» .entry)) count (at (now (ts .entry)) i))) (now (out .entry)) ⌝ }
+{
+    let mut i: usize = 0;
+    while i < places {
+        out[i] = shift_by_cubes(cube_masks, cube_values, cube_weights, count, ts[i]);
+        i += 1;
+    }
+}
+
+// R(t) of a list of disjoint rows. No cube is stored.
+pub fn shift_of_rows(n: usize, masks: &[u32], values: &[u32], words: &[u32], t: u32) -> u32
+    requires { ⌜ (n ≤ listInputs) × (t < 2 ^ n) × Listed smallerRows (now masks) (now values) (now words) ⌝ }
+    requires { ⌜ Disjoint n (rowsOf (now masks) (now values) (now words)) ⌝ }
+    ensures { λ r. ⌜ r ≡ shift (ofRows (rowsOf (now (masks .entry)) (now (values .entry)) (now (words .entry)))) n t ⌝ }
+{
+    let p = masks.len();
+    let mut sum: u32 = 0;
+    for i in 0..p {
+        for j in i..p {
+            if pair_weights::same_word(words[i], words[j]) {
+                sum += pair_weights::pair_adds(n, masks, values, i, j, t);
+            }
+        }
+    }
+    sum
+}
+
+// R of a list of disjoint rows at each t of a list of numbers below 2^n, by its place there.
+pub fn shifts_of_rows(
+    n: usize,
+    masks: &[u32],
+    values: &[u32],
+    words: &[u32],
+    ts: &[u32],
+    places: usize,
+    out: &mut [u32],
+)
+    requires { ⌜ (n ≤ listInputs) × Listed givenRows (now masks) (now values) (now words) ⌝ }
+    requires { ⌜ Disjoint n (rowsOf (now masks) (now values) (now words)) ⌝ }
+    requires { ⌜ (places ≤ length (now ts)) × (places ≤ length (now out)) × ((i : ℕ) → i < places → at (now ts) i < 2 ^ n) ⌝ }
+    ensures { λ _. ⌜ now (out .exit) ≡ over (tab places (λ i. shift (ofRows (rowsOf (now (masks .entry)) (now (values .entry)) (now (words .entry)))) n (at (now (ts .entry)) i))) (now (out .entry)) ⌝ }
+{
+    let mut cube_masks = [0u32; CUBES];
+    let mut cube_values = [0u32; CUBES];
+    let mut cube_weights = [0u32; CUBES];
+    let count = put_cubes(
+        n,
+        masks,
+        values,
+        words,
+        &mut cube_masks,
+        &mut cube_values,
+        &mut cube_weights,
+    );
+    shifts_by_cubes(
+        &cube_masks,
+        &cube_values,
+        &cube_weights,
+        count,
+        ts,
+        places,
+        out,
+    );
+}

@@ -1,0 +1,58 @@
+-- What checks that pass say: of a number in its range, of lent rooms that are long enough, and of n and k. Assumes nothing.
+use mathlib.Core.Path.{_≡_, refl}
+use mathlib.Core.Bool.{Bool, true, false, _||_}
+use mathlib.Core.List.{List, []}
+use Prim.Native.Nat.{ℕ, _≤_}
+use native.Mathlib.Omega.{arith}
+use borrow.Author.Tests.{le-ltb, ltb-false}
+use lib.Dec.{ltb}
+use Rattle.block.specs.Limits.{outputs}
+use Rattle.block.specs.Refusals.{Check, verdict, outside, sizeChecks}
+use Rattle.block.specs.declared.Answer.{Answer}
+use Rattle.refusal_laws.specs.Verdicts.{zero-too, passes, Asked}
+
+-- neither test passes
+pub or-left : (p q : Bool) → p || q ≡ false → p ≡ false
+or-left true q h = h
+or-left false q h = refl
+
+pub or-right : (p q : Bool) → p || q ≡ false → q ≡ false
+or-right true q h = absurd (no h)
+  where
+    no : true ≡ false → ⊥
+    no e = let z : _≡_ {A = ℕ} 0 1 = cc in omega arith
+or-right false q h = h
+
+pub inside : (low high x : ℕ) → outside low high x ≡ false → (low ≤ x) × (x ≤ high)
+inside low high x h = (ltb-false x low (or-left (ltb x low) (ltb high x) h), ltb-false high x (or-right (ltb x low) (ltb high x) h))
+
+-- and a number within its range is not outside
+pub within : (low high x : ℕ) → low ≤ x → x ≤ high → outside low high x ≡ false
+within low high x a b = rw (le-ltb x low a, le-ltb high x b)
+
+-- where no room of a method is short there are n numbers for each matrix and `most` places
+pub long-enough : (n most roomT roomSigma room : ℕ) → ltb roomT n || (ltb roomSigma n || ltb room most) ≡ false
+    → (n ≤ roomT) × (n ≤ roomSigma) × (most ≤ room)
+long-enough n most roomT roomSigma room h =
+    let rest = or-right (ltb roomT n) (ltb roomSigma n || ltb room most) h in (
+      ltb-false roomT n (or-left (ltb roomT n) (ltb roomSigma n || ltb room most) h),
+      ltb-false roomSigma n (or-left (ltb roomSigma n) (ltb room most) rest),
+      ltb-false room most (or-right (ltb roomSigma n) (ltb room most) rest),
+    )
+
+-- sizes that pass, before checks that pass
+pub sizes-pass : (most n k : ℕ) (cs : List Check) → verdict (sizeChecks most n k cs) .number ≡ 0
+    → (((1 ≤ n) × (n ≤ most)) × ((1 ≤ k) × (k ≤ outputs))) × (verdict cs .number ≡ 0)
+sizes-pass most n k cs h =
+    let one = passes _ _ refl h in
+    let two = passes _ _ refl (one .1) in
+    ((inside 1 most n (one .0), inside 1 outputs k (two .0)), two .1)
+
+-- the sizes, as the first checks that are asked
+pub asked-sizes : (most n k : ℕ) (v : Answer) → v ≡ verdict (sizeChecks most n k []) → Asked (sizeChecks most n k []) v
+asked-sizes most n k v e = record { numbered = (refl, (refl, tt)); told = e }
+
+-- sizes that pass
+pub sized : (most n k : ℕ) (v : Answer) → v ≡ verdict (sizeChecks most n k []) → v .number ≡ 0
+    → ((1 ≤ n) × (n ≤ most)) × ((1 ≤ k) × (k ≤ outputs))
+sized most n k v e h = sizes-pass most n k [] (zero-too e h) .0
