@@ -1,26 +1,25 @@
--- The row method's room for smaller rows: it counts only up to as many places as a smaller block has rows, and on 0 there is room for them. So what `method_into`
--- promises follows from the promise of the operation on flat slices, and what `method_of` promises from that. Assumes nothing.
-use mathlib.Core.Path.{_≡_, refl, sym, ap, subst, _∙_}
-use mathlib.Core.Bool.{Bool, true, false, _||_, false≢true}
-use mathlib.Core.List.{List, [], _∷_}
-use Prim.Native.Nat.{ℕ, suc, _-_, _≤_, min}
+-- The row method's room for smaller rows: it counts only up to as many places as a smaller block has rows, and on 0 there is room for them.
+-- So what `method_into` promises follows from the promise of the operation on flat slices, and what `method_of` promises from that.
+-- Assumes nothing.
+use mathlib.Core.Path.{_≡_, ap, subst, _∙_}
+use mathlib.Core.Bool.{Bool, true, _||_}
+use mathlib.Core.List.{List}
+use Prim.Native.Nat.{ℕ, _≤_, min}
 use native.Mathlib.Omega.{arith}
-use borrow.Author.Tests.{ltb-false}
+use borrow.Author.Tests.{eqb-true}
 use lib.Dec.{ltb}
 use lib.ListN.{length, take}
-use Rattle.slices.specs.Places.{first}
-use Rattle.slices.specs.Least.{first-below}
-use Rattle.block.specs.Limits.{listInputs, givenRows, smallerRows}
+use Rattle.block.specs.Limits.{smallerRows}
 use Rattle.block.specs.Words.{ofRows}
 use Rattle.block.specs.Measure.{measure}
 use Rattle.block.specs.Basis.{basisOf, sigmaOf, smallerOf}
-use Rattle.block.specs.Refusals.{check, verdict, answered, carried, stored, outside, sizeChecks}
-use Rattle.block.specs.Lists.{countCheck, badRowCheck, shareCheck, rowsAfter, passing, methodChecks, rowMethodVerdict, withRows, rowMethod, smallerList}
+use Rattle.block.specs.Refusals.{verdict, answered, carried, stored}
+use Rattle.block.specs.Lists.{methodChecks, rowMethodVerdict, withRows, rowMethod, smallerList}
 use Rattle.block.specs.declared.Row.{Row}
 use Rattle.block.specs.declared.Answer.{Answer}
 use Rattle.block.specs.declared.RowMethodAnswer.{RowMethodAnswer}
-use Rattle.refusal_laws.specs.Verdicts.{answered-clear}
-use Rattle.shared_checks.specs.Sizes.{inside}
+use Rattle.shared_checks.specs.Sizes.{long-enough}
+use Rattle.answered_laws.specs.Passed.{method-answered}
 use Rattle.promises.specs.Lent.{Lent, lentFlat}
 use Rattle.promises.specs.Lists.{RowMethodPromise}
 use Rattle.record_copies.specs.declared.FlatRows.{FlatRows}
@@ -36,33 +35,12 @@ module _ (n k w : ℕ) (rs : List Row) (a b room : ℕ) where
 
   -- ---- on 0 there is room for the smaller rows
 
-  last-false : (x y z : Bool) → x || (y || z) ≡ false → z ≡ false
-  last-false false false z h = h
-  last-false false true z h = absurd (false≢true (sym h))
-  last-false true y z h = absurd (false≢true (sym h))
-
   smaller-fits : answered (rowMethodVerdict n k w rs a b room) ≡ true → length (smallerList n w rs) ≤ room
-  unfolding rowMethodVerdict methodChecks smallerList passing
+  unfolding rowMethodVerdict
   smaller-fits e =
-      let short : Bool = ltb a n || (ltb b n || ltb room smallerRows) in
-      let p : ℕ → Bool = λ i. ltb smallerRows (length (rowsAfter n w (suc i) rs)) in
-      let clear =
-      answered-clear (
-      sizeChecks listInputs n k (
-      check (outside 1 n w) 3 0 0
-      ∷ countCheck givenRows rs
-      ∷ check short 5 0 0
-      ∷ badRowCheck n k rs
-      ∷ shareCheck n rs
-      ∷ check (ltb (first n p) n) 9 (suc (first n p)) 0
-      ∷ [])) (refl, (refl, (refl, (refl, (refl, (refl, (refl, (refl, tt)))))))) e in
-      let some : 1 ≤ n = inside 1 listInputs n (clear 0 (omega arith)) .0 in
-      let none : n ≤ first n p = ltb-false (first n p) n (clear 7 (omega arith)) in
-      let same : suc (n - 1) ≡ n = omega arith in
-      let enough : smallerRows ≤ room = ltb-false room smallerRows (last-false (ltb a n) (ltb b n) (ltb room smallerRows) (clear 4 (omega arith))) in
-      let few : length (rowsAfter n w (suc (n - 1)) rs) ≤ smallerRows = ltb-false smallerRows (length (rowsAfter n w (suc (n - 1)) rs)) (first-below n p (n - 1) (omega arith)) in
-      let all : length (rowsAfter n w n rs) ≤ smallerRows = subst (λ (i : ℕ). length (rowsAfter n w i rs) ≤ smallerRows) same few in
-      omega arith
+      let p = method-answered n k w rs (ltb a n || (ltb b n || ltb room smallerRows)) (eqb-true _ 0 e) in
+      let lent = long-enough n smallerRows a b room (p .passed .room) in
+      omega (arith, p .few, lent .2)
 
 -- ---- the promise, from one lent room to another
 
