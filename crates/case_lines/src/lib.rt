@@ -2,7 +2,7 @@
 // list. A number repeated is written once, as 5*4096. What an operation answers is gathered as numbers in the order of the line, and
 // compared with those due. All functions here are inner: a program that runs cases calls them.
 ghost use mathlib.Core.Path.{_≡_};
-ghost use Prim.Native.Nat.{_+_, _≤_, _<_};
+ghost use Prim.Native.Nat.{_≤_, _<_};
 ghost use lib.ListN.{length};
 ghost use Rattle.case_lines.specs.Room.{numbersMost, rowsMost};
 

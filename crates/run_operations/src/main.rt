@@ -43,6 +43,21 @@ fn points(n: usize) -> usize {
     1 << n
 }
 
+// T and sigma, n numbers each.
+fn put_matrices(
+    got: &mut [u64; NUMBERS],
+    at: usize,
+    basis: &[u32; ROWS],
+    sigma: &[u32; ROWS],
+    n: usize,
+) -> usize
+    requires { ⌜ at ≤ numbersMost ⌝ }
+    ensures { λ r. ⌜ r ≤ numbersMost ⌝ }
+{
+    let a = put_list(got, at, basis, n);
+    put_list(got, a, sigma, n)
+}
+
 // table_value n k t TABLE => N A B value
 fn table_value(h: Three, numbers: &[u64; NUMBERS], count: usize, got: &mut [u64; NUMBERS]) -> usize
     requires { ⌜ count ≤ numbersMost ⌝ }
@@ -122,9 +137,8 @@ fn table_method(
     let a = put_answer(got, r.number, r.a, r.b);
     let b = put(got, a, r.before);
     let c = put(got, b, r.after);
-    let d = put_list(got, c, &basis, result_size(r.number, h.first));
-    let e = put_list(got, d, &sigma, result_size(r.number, h.first));
-    put_table(got, e, &smaller, result_size(r.number, points(h.first)))
+    let d = put_matrices(got, c, &basis, &sigma, result_size(r.number, h.first));
+    put_table(got, d, &smaller, result_size(r.number, points(h.first)))
 }
 
 // row_method n k w ROOM_ROWS ROOM_T ROOM_SIGMA ROWS => N A B before after count T SIGMA SMALLER_ROWS
@@ -163,9 +177,8 @@ fn row_method(
     let b = put(got, a, r.before);
     let c = put(got, b, r.after);
     let d = put(got, c, r.count as u64);
-    let e = put_list(got, d, &basis, result_size(r.number, h.first));
-    let f = put_list(got, e, &sigma, result_size(r.number, h.first));
-    put_rows(got, f, &new_masks, &new_values, &new_words, r.count)
+    let e = put_matrices(got, d, &basis, &sigma, result_size(r.number, h.first));
+    put_rows(got, e, &new_masks, &new_values, &new_words, r.count)
 }
 
 // restore n k ROOM SIGMA SMALLER_TABLE => N A B TABLE
