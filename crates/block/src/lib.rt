@@ -82,6 +82,18 @@ pub struct TextAnswer {
     pub count: usize,
 }
 
+// What the work of a sheet comes to: beside the number of bytes the measures and the number of smaller rows, for the line of an import.
+#[repr(C)]
+pub struct SheetWork {
+    pub number: u32,
+    pub a: usize,
+    pub b: usize,
+    pub before: u64,
+    pub after: u64,
+    pub rows: usize,
+    pub count: usize,
+}
+
 // The answer of the text reader in numbers: n, k and the number of rows.
 #[repr(C)]
 pub struct ReadAnswer {

@@ -9,7 +9,7 @@ use Rattle.slices.specs.Places.{over}
 use Rattle.block.specs.Refusals.{stored}
 use Rattle.refusal_laws.specs.Verdicts.{carried-yes, stored-yes}
 use Rattle.put_bytes.specs.Puts.{Put, put-over}
-use Rattle.sheet_work.specs.declared.SheetWork.{SheetWork}
+use Rattle.block.specs.declared.SheetWork.{SheetWork}
 use Rattle.text_work.specs.Work.{textVerdict, sheetIn, textWork}
 use Rattle.put_import.specs.Line.{importLine}
 use Rattle.importing.specs.Import.{lineOf, imported}

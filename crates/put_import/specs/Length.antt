@@ -7,7 +7,7 @@ use lib.Dec.{eqb}
 use lib.ListN.{length, length-append, length-map}
 use Rattle.put_refusal.specs.Words.{three}
 use Rattle.put_refusal.specs.Length.{threeRoom, three-le}
-use Rattle.sheet_work.specs.declared.SheetWork.{SheetWork}
+use Rattle.block.specs.declared.SheetWork.{SheetWork}
 use Rattle.put_import.specs.Line.{sheetWord, refusedWord, lineWords, importLine}
 
 -- room for the longest words: the longer of the two, and three numbers

@@ -4,7 +4,7 @@ use mathlib.Core.List.{List, [], _∷_, _++_, map}
 use Prim.Native.Nat.{ℕ}
 use lib.Dec.{eqb, ltb}
 use Rattle.put_refusal.specs.Words.{three}
-use Rattle.sheet_work.specs.declared.SheetWork.{SheetWork}
+use Rattle.block.specs.declared.SheetWork.{SheetWork}
 
 -- a byte of a name as it is shown: a control byte as a question mark
 abbrev pub shownByte : ℕ → ℕ

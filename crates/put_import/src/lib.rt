@@ -1,6 +1,6 @@
 // The line of one list in a bulk import: its file's name, then "sheet ROWS BEFORE AFTER" or "refused N A B". All functions here are
 // inner: the operation that makes the line is `import_text` of the crate importing.
-use sheet_work::SheetWork;
+use block::SheetWork;
 ghost use mathlib.Core.Path.{_≡_};
 ghost use mathlib.Core.List.{map};
 ghost use Prim.Native.Nat.{_+_, _≤_};

@@ -12,7 +12,7 @@ use Rattle.block.specs.Sheet.{sheetText, sheetVerdict, sheet}
 use Rattle.block.specs.declared.Row.{Row}
 use Rattle.block.specs.declared.Answer.{Answer}
 use Rattle.block.specs.declared.TextAnswer.{TextAnswer}
-use Rattle.sheet_work.specs.declared.SheetWork.{SheetWork}
+use Rattle.block.specs.declared.SheetWork.{SheetWork}
 
 -- an answer with both measures, the number of smaller rows and the number of bytes, each 0 with a refusal
 abbrev pub withSheet : Answer → ℕ → ℕ → ℕ → ℕ → SheetWork

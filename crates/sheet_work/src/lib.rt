@@ -3,23 +3,13 @@
 use block::LIST_INPUTS;
 use block::SHEET_ROOM;
 use block::SMALLER_ROWS;
+use block::SheetWork;
 ghost use mathlib.Core.Path.{_≡_};
 ghost use lib.ListN.{length};
 ghost use Rattle.block.specs.Words.{rowsOf};
 ghost use Rattle.block.specs.Refusals.{stored};
 ghost use Rattle.block.specs.Sheet.{sheetText, sheetVerdict};
 ghost use Rattle.sheet_work.specs.Work.{sheetWork};
-
-// What the work comes to: the answer's number and places, both measures, the number of smaller rows, and the number of bytes.
-pub struct SheetWork {
-    pub number: u32,
-    pub a: usize,
-    pub b: usize,
-    pub before: u64,
-    pub after: u64,
-    pub rows: usize,
-    pub count: usize,
-}
 
 // Writes the sheet of the rows with weight limit w to the front of out, or refuses.
 pub fn make_sheet(

@@ -30,7 +30,7 @@ use Rattle.shared_checks.specs.Sizes.{inside}
 use Rattle.flat_rows.specs.Listing.{rowsFrom, rows-of}
 use Rattle.read_laws.specs.Front.{rows-count}
 use Rattle.sheet_work.specs.Work.{withSheet, sheetWork}
-use Rattle.sheet_work.specs.declared.SheetWork.{SheetWork}
+use Rattle.block.specs.declared.SheetWork.{SheetWork}
 use Rattle.text_work.specs.Work.{firstRows, textVerdict, sheetIn, textWork}
 
 -- every refusal has a number of its own

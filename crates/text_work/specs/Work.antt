@@ -15,7 +15,7 @@ use Rattle.block.specs.Sheet.{sheetText, sheetVerdict}
 use Rattle.block.specs.declared.Row.{Row}
 use Rattle.block.specs.declared.Answer.{Answer}
 use Rattle.sheet_work.specs.Work.{withSheet}
-use Rattle.sheet_work.specs.declared.SheetWork.{SheetWork}
+use Rattle.block.specs.declared.SheetWork.{SheetWork}
 
 -- the list of the first rows in storage
 abbrev pub firstRows : ℕ → List ℕ → List ℕ → List ℕ → List Row

@@ -3,7 +3,7 @@
 use block::GIVEN_ROWS;
 use block::READ_BYTES;
 use block::Reading;
-use sheet_work::SheetWork;
+use block::SheetWork;
 ghost use mathlib.Core.Path.{_≡_};
 ghost use Prim.Native.Nat.{_≤_, min};
 ghost use lib.ListN.{length, take};

@@ -1,6 +1,6 @@
-//! An implementation against cases that a third program worked out: `operations.txt`
-//! in `outside/data` has one operation a line with its answer, `crates/run_texts/data`
-//! texts for the program with what it prints. Lent storage is looked at in full: what an answer does not write
+//! An implementation against cases with their answers: the files of `crates/run_operations/data`
+//! have one operation a line with its answer, `crates/run_texts/data` texts for the program with
+//! what it prints. `operations.txt` and most of the texts are worked out by a third program. Lent storage is looked at in full: what an answer does not write
 //! holds what it held.
 
 use crate::inputs::LentRows;
@@ -190,16 +190,32 @@ fn row_method_answer<O: Operations>(n: usize, k: usize, words: &[&str]) -> Strin
     )
 }
 
-/// Every operation of `operations.txt` has the answer that stands beside it.
+/// A line with each `V*COUNT` of its lists written out.
+fn written_out(line: &str) -> String {
+    let items = |word: &str| {
+        let each = word.split(',').map(|item| match item.split_once('*') {
+            Some((value, count)) => vec![value; count.parse().unwrap()].join(","),
+            None => item.to_string(),
+        });
+        each.collect::<Vec<_>>().join(",")
+    };
+    line.split(' ').map(items).collect::<Vec<_>>().join(" ")
+}
+
+/// Every operation of `crates/run_operations/data` has the answer that stands beside it.
 pub fn check_operations<O: Operations>() {
-    let cases = fs::read_to_string(from_here("../data/operations.txt")).unwrap();
-    let mut count = 0;
-    for (index, line) in cases.lines().enumerate() {
-        let (given, due) = line.split_once(" => ").unwrap();
-        assert_eq!(answer::<O>(given), due, "line {}: {given}", index + 1);
-        count += 1;
+    for (name, cases) in [("operations.txt", 300), ("ranges.txt", 96)] {
+        let path = from_here("../../crates/run_operations/data").join(name);
+        let text = fs::read_to_string(path).unwrap();
+        let mut count = 0;
+        for (index, line) in text.lines().enumerate() {
+            let line = written_out(line);
+            let (given, due) = line.split_once(" => ").unwrap();
+            assert_eq!(answer::<O>(given), due, "{name}, line {}: {given}", index + 1);
+            count += 1;
+        }
+        assert_eq!(count, cases, "{name}");
     }
-    assert_eq!(count, 300);
 }
 
 /// Every text of `crates/run_texts/data` has the sheet, or the refusal, that stands beside it.

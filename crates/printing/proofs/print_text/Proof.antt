@@ -3,7 +3,7 @@ use native.Mathlib.Omega.{arith}
 use denote.Ref.{now}
 use Rattle.block.specs.Refusals.{answer}
 use Rattle.put_refusal.specs.Length.{refusal-le}
-use Rattle.put_refusal.specs.Printed.{text-refused, text-printed}
+use Rattle.printing.specs.Printed.{text-refused, text-printed}
 use borrow.Author.Needs.{needs}
 use Rattle.printing.proofs.print_text.Statement.{statement}
 use Rattle.printing.proofs.print_text.Tie as tie

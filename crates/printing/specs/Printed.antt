@@ -13,7 +13,7 @@ use Rattle.block.specs.Sheet.{refusalLine, orRefused, printedList, printed}
 use Rattle.block.specs.declared.Answer.{Answer}
 use Rattle.refusal_laws.specs.Verdicts.{carried-yes, stored-yes, stored-no}
 use Rattle.put_bytes.specs.Puts.{Put, put-over}
-use Rattle.sheet_work.specs.declared.SheetWork.{SheetWork}
+use Rattle.block.specs.declared.SheetWork.{SheetWork}
 use Rattle.put_refusal.specs.Length.{refusalRoom, refusal-le}
 use Rattle.text_work.specs.Work.{textVerdict, sheetIn, textWork}
 

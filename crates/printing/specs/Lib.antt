@@ -1,0 +1,2 @@
+-- What the program prints, by the work of its text.
+pub mod Printed
