@@ -9,7 +9,7 @@ ghost use Rattle.import_paths.specs.Room.{nameMost};
 // Says a name, as it is shown; of a longer one the first 4,096 bytes.
 pub fn say_name(name: &[u8]) {
     let mut shown = [0u8; PATH_ROOM];
-    let count = put_import::put_name(&mut shown, text_work::first_bytes(name, PATH_ROOM));
+    let count = put_import::put_name(&mut shown, read_bytes::first_bytes(name, PATH_ROOM));
     say(&shown[..count]);
 }
 

@@ -28,7 +28,7 @@ pub fn import_text(
     let a = r.a;
     let b = r.b;
     let count = r.count;
-    let length = put_import::put_line(line, text_work::first_bytes(name, 4096), r);
+    let length = put_import::put_line(line, read_bytes::first_bytes(name, 4096), r);
     Imported {
         number,
         a,

@@ -23,7 +23,9 @@ pub fn put_list(
 )
     requires { ⌜ (count ≤ length (now masks)) × (count ≤ length (now values)) × (count ≤ length (now words)) ⌝ }
     requires { ⌜ (count ≤ length (now «out_masks»)) × (count ≤ length (now «out_values»)) × (count ≤ length (now «out_words»)) ⌝ }
-    ensures { λ _. ⌜ ListPut (rowsFrom count (now (masks .entry)) (now (values .entry)) (now (words .entry))) (now («out_masks» .entry)) (now («out_values» .entry)) (now («out_words» .entry)) (now («out_masks» .exit)) (now («out_values» .exit)) (now («out_words» .exit)) ⌝ }
+    ensures { λ _. ⌜ ListPut (rowsFrom count (now (masks .entry)) (now (values .entry)) (now (words .entry)))
+        (now («out_masks» .entry)) (now («out_values» .entry)) (now («out_words» .entry))
+        (now («out_masks» .exit)) (now («out_values» .exit)) (now («out_words» .exit)) ⌝ }
 {
     copying::copy_first(masks, count, out_masks);
     copying::copy_first(values, count, out_values);

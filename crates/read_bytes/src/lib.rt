@@ -1,10 +1,22 @@
-// Bytes and decimal numbers, read by place. All functions here are inner.
+// The first bytes of a text; bytes and decimal numbers, read by place. All functions here are inner.
 use read_laws::Number;
 ghost use mathlib.Core.Path.{_≡_};
 ghost use Prim.Native.Nat.{_+_, _≤_, _<_};
+ghost use lib.ListN.{take};
 ghost use Rattle.slices.specs.Places.{at};
 ghost use Rattle.block.specs.Text.{isDigit};
 ghost use Rattle.read_laws.specs.ByPlace.{farthest, longest, endedOf, numberAt, widthOf};
+
+// The first bytes of a text, at most so many.
+pub fn first_bytes(text: &[u8], most: usize) -> &[u8]
+    ensures { λ r. ⌜ now r ≡ take most (now (text .entry)) ⌝ }
+{
+    if most < text.len() {
+        &text[..most]
+    } else {
+        text
+    }
+}
 
 // The byte at a place, or 0 past the end: no byte of the form is 0.
 pub fn byte(s: &[u8], from: usize) -> usize

@@ -61,7 +61,9 @@ pub fn put_cubes(
     requires { ⌜ (n ≤ listInputs) × Listed givenRows (now masks) (now values) (now words) ⌝ }
     requires { ⌜ Every (Sound n) (rowsOf (now masks) (now values) (now words)) ⌝ }
     requires { ⌜ (cubesRoom ≤ length (now «cube_masks»)) × (cubesRoom ≤ length (now «cube_values»)) × (cubesRoom ≤ length (now «cube_weights»)) ⌝ }
-    ensures { λ r. ⌜ CubesAt (cubesOf n (rowsOf (now (masks .entry)) (now (values .entry)) (now (words .entry)))) (now («cube_masks» .entry)) (now («cube_values» .entry)) (now («cube_weights» .entry)) (now («cube_masks» .exit)) (now («cube_values» .exit)) (now («cube_weights» .exit)) r ⌝ }
+    ensures { λ r. ⌜ CubesAt (cubesOf n (rowsOf (now (masks .entry)) (now (values .entry)) (now (words .entry))))
+        (now («cube_masks» .entry)) (now («cube_values» .entry)) (now («cube_weights» .entry))
+        (now («cube_masks» .exit)) (now («cube_values» .exit)) (now («cube_weights» .exit)) r ⌝ }
 {
     let p = masks.len();
     let mut count: usize = 0;

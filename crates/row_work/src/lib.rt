@@ -23,8 +23,11 @@ pub fn method_rows(
     out_values: &mut [u32],
     out_words: &mut [u32],
 ) -> RowMethodAnswer
-    requires { ⌜ (short ≡ false → n ≤ listInputs → (n ≤ length (now basis)) × (n ≤ length (now sigma)) × (smallerRows ≤ length (now «out_masks»)) × (smallerRows ≤ length (now «out_values»)) × (smallerRows ≤ length (now «out_words»))) ⌝ }
-    ensures { λ r. ⌜ MethodDone n k w (rowsOf (now (masks .entry)) (now (values .entry)) (now (words .entry))) short (now (basis .entry)) (now (sigma .entry)) (now («out_masks» .entry)) (now («out_values» .entry)) (now («out_words» .entry)) (now (basis .exit)) (now (sigma .exit)) (now («out_masks» .exit)) (now («out_values» .exit)) (now («out_words» .exit)) r ⌝ }
+    requires { ⌜ (short ≡ false → n ≤ listInputs → (n ≤ length (now basis)) × (n ≤ length (now sigma))
+        × (smallerRows ≤ length (now «out_masks»)) × (smallerRows ≤ length (now «out_values»)) × (smallerRows ≤ length (now «out_words»))) ⌝ }
+    ensures { λ r. ⌜ MethodDone n k w (rowsOf (now (masks .entry)) (now (values .entry)) (now (words .entry))) short
+        (now (basis .entry)) (now (sigma .entry)) (now («out_masks» .entry)) (now («out_values» .entry)) (now («out_words» .entry))
+        (now (basis .exit)) (now (sigma .exit)) (now («out_masks» .exit)) (now («out_values» .exit)) (now («out_words» .exit)) r ⌝ }
 {
     let v = row_checks::method_checked(n, k, w, masks, values, words, short);
     if v.number != 0 {

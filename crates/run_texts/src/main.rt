@@ -12,7 +12,7 @@ ghost use Prim.Native.Nat.{_≤_};
 // What is printed for the first bytes of a text.
 fn say_cut(text: &[u8], length: usize) {
     let mut out = [0u8; SHEET_ROOM];
-    let count = printing::print_text(text_work::first_bytes(text, length), &mut out);
+    let count = printing::print_text(read_bytes::first_bytes(text, length), &mut out);
     io::print_decimal(STDOUT_FILENO, length as u64);
     say(b" ");
     say(&out[..count]);

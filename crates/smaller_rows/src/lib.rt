@@ -35,7 +35,9 @@ pub fn work_rows(
     requires { ⌜ (smallerRows ≤ length (now «out_masks»)) × (smallerRows ≤ length (now «out_values»)) × (smallerRows ≤ length (now «out_words»)) ⌝ }
     requires { ⌜ Listed givenRows (now masks) (now values) (now words) ⌝ }
     requires { ⌜ Disjoint n (rowsOf (now masks) (now values) (now words)) ⌝ }
-    ensures { λ r. ⌜ RowsWorked n w (rowsOf (now (masks .entry)) (now (values .entry)) (now (words .entry))) (now (basis .entry)) (now (sigma .entry)) (now («out_masks» .entry)) (now («out_values» .entry)) (now («out_words» .entry)) (now (basis .exit)) (now (sigma .exit)) (now («out_masks» .exit)) (now («out_values» .exit)) (now («out_words» .exit)) r ⌝ }
+    ensures { λ r. ⌜ RowsWorked n w (rowsOf (now (masks .entry)) (now (values .entry)) (now (words .entry)))
+        (now (basis .entry)) (now (sigma .entry)) (now («out_masks» .entry)) (now («out_values» .entry)) (now («out_words» .entry))
+        (now (basis .exit)) (now (sigma .exit)) (now («out_masks» .exit)) (now («out_values» .exit)) (now («out_words» .exit)) r ⌝ }
 {
     let mut t = [0u32; LIST_INPUTS];
     let mut s = [0u32; LIST_INPUTS];

@@ -21,7 +21,8 @@ pub fn linearize(
     sigma: &mut [u32],
     smaller: &mut [u16],
 ) -> Measures
-    requires { ⌜ (length (now table) ≡ 2 ^ n) × (n ≤ tableInputs) × (1 ≤ w) × (w ≤ n) × (n ≤ length (now basis)) × (n ≤ length (now sigma)) × (2 ^ n ≤ length (now smaller)) × ((i : ℕ) → i < 2 ^ n → at (now table) i ≡ hole → ⊥) ⌝ }
+    requires { ⌜ (length (now table) ≡ 2 ^ n) × (n ≤ tableInputs) × (1 ≤ w) × (w ≤ n) × (n ≤ length (now basis)) × (n ≤ length (now sigma))
+        × (2 ^ n ≤ length (now smaller)) × ((i : ℕ) → i < 2 ^ n → at (now table) i ≡ hole → ⊥) ⌝ }
     ensures { λ r. ⌜ Worked (ofTable (now (table .entry))) n w (now (basis .entry)) (now (sigma .entry)) (now (smaller .entry)) (now (basis .exit)) (now (sigma .exit)) (now (smaller .exit)) r ⌝ }
 {
     let mut by_t = [0u32; TABLE_POINTS];

@@ -1,29 +1,18 @@
-// The work of a text (01, the first section, and The sheet): the bytes looked at, the weight limit, and the sheet of the rows that the
-// text says, with its measures and the number of smaller rows. What the programs print rests on it. All functions here are inner.
+// The work of a text (01, the first section, and The sheet): the weight limit, and the sheet of the rows that the text says, with its
+// measures and the number of smaller rows. What the programs print rests on it. All functions here are inner.
 use block::GIVEN_ROWS;
 use block::READ_BYTES;
 use block::Reading;
 use block::SheetWork;
 ghost use mathlib.Core.Path.{_≡_};
 ghost use Prim.Native.Nat.{_≤_, min};
-ghost use lib.ListN.{length, take};
+ghost use lib.ListN.{length};
 ghost use Rattle.block.specs.Limits.{sheetRoom};
 ghost use Rattle.block.specs.Words.{rowsOf};
 ghost use Rattle.block.specs.Refusals.{stored};
 ghost use Rattle.block.specs.Sheet.{sheetText, sheetVerdict};
 ghost use Rattle.sheet_work.specs.Work.{sheetWork};
 ghost use Rattle.text_work.specs.Work.{firstRows, textVerdict, sheetIn, textWork};
-
-// The first bytes of a text, at most so many.
-pub fn first_bytes(text: &[u8], most: usize) -> &[u8]
-    ensures { λ r. ⌜ now r ≡ take most (now (text .entry)) ⌝ }
-{
-    if most < text.len() {
-        &text[..most]
-    } else {
-        text
-    }
-}
 
 // The weight limit: 3, or n where n is below 3.
 pub fn weight_limit(n: usize) -> usize
@@ -42,7 +31,8 @@ pub fn work_list(
     out: &mut [u8],
 ) -> SheetWork
     ensures { λ r. ⌜ r ≡ sheetWork n k (min 3 n) (rowsOf (now (masks .entry)) (now (values .entry)) (now (words .entry))) (length (now (out .entry))) ⌝ }
-    ensures { λ r. ⌜ now (out .exit) ≡ stored (sheetVerdict n k (min 3 n) (rowsOf (now (masks .entry)) (now (values .entry)) (now (words .entry))) (length (now (out .entry)))) (sheetText n k (min 3 n) (rowsOf (now (masks .entry)) (now (values .entry)) (now (words .entry)))) (now (out .entry)) ⌝ }
+    ensures { λ r. ⌜ let rs = rowsOf (now (masks .entry)) (now (values .entry)) (now (words .entry)) in
+        now (out .exit) ≡ stored (sheetVerdict n k (min 3 n) rs (length (now (out .entry)))) (sheetText n k (min 3 n) rs) (now (out .entry)) ⌝ }
 {
     let w = weight_limit(n);
     sheet_work::make_sheet(n, k, w, masks, values, words, out)
@@ -60,7 +50,8 @@ pub fn work_rows(
 ) -> SheetWork
     requires { ⌜ (count ≤ length (now masks)) × (count ≤ length (now values)) × (count ≤ length (now words)) ⌝ }
     ensures { λ r. ⌜ r ≡ sheetWork n k (min 3 n) (firstRows count (now (masks .entry)) (now (values .entry)) (now (words .entry))) (length (now (out .entry))) ⌝ }
-    ensures { λ r. ⌜ now (out .exit) ≡ stored (sheetVerdict n k (min 3 n) (firstRows count (now (masks .entry)) (now (values .entry)) (now (words .entry))) (length (now (out .entry)))) (sheetText n k (min 3 n) (firstRows count (now (masks .entry)) (now (values .entry)) (now (words .entry)))) (now (out .entry)) ⌝ }
+    ensures { λ r. ⌜ let rs = firstRows count (now (masks .entry)) (now (values .entry)) (now (words .entry)) in
+        now (out .exit) ≡ stored (sheetVerdict n k (min 3 n) rs (length (now (out .entry)))) (sheetText n k (min 3 n) rs) (now (out .entry)) ⌝ }
 {
     work_list(
         n,
@@ -78,7 +69,7 @@ pub fn work_text(input: &[u8], out: &mut [u8]) -> SheetWork
     ensures { λ r. ⌜ r ≡ textWork (now (input .entry)) ⌝ }
     ensures { λ r. ⌜ now (out .exit) ≡ stored (textVerdict (now (input .entry))) (sheetIn (now (input .entry))) (now (out .entry)) ⌝ }
 {
-    let text = first_bytes(input, READ_BYTES);
+    let text = read_bytes::first_bytes(input, READ_BYTES);
     let mut masks = [0u32; GIVEN_ROWS];
     let mut values = [0u32; GIVEN_ROWS];
     let mut words = [0u32; GIVEN_ROWS];

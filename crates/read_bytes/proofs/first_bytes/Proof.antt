@@ -1,11 +1,11 @@
--- `text_work::first_bytes` meets its contract: a shorter text is all of its first bytes. Assumes nothing.
+-- `read_bytes::first_bytes` meets its contract: a shorter text is all of its first bytes. Assumes nothing.
 use mathlib.Core.Path.{sym}
 use native.Mathlib.Omega.{arith}
 use lib.ListN.{length-take}
 use lib.Seq.{take-all}
 use borrow.Author.Needs.{needs}
-use Rattle.text_work.proofs.first_bytes.Statement.{statement}
-use Rattle.text_work.proofs.first_bytes.Tie as tie
+use Rattle.read_bytes.proofs.first_bytes.Statement.{statement}
+use Rattle.read_bytes.proofs.first_bytes.Tie as tie
 
 slice-aggregate-result : tie.Need-slice-aggregate-result
 slice-aggregate-result c = simp length-take (omega arith)
