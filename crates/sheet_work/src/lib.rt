@@ -22,8 +22,8 @@ pub fn make_sheet(
     out: &mut [u8],
 ) -> SheetWork
     ensures { λ r. ⌜ r ≡ sheetWork n k w (rowsOf (now (masks .entry)) (now (values .entry)) (now (words .entry))) (length (now (out .entry))) ⌝ }
-    ensures { λ r. ⌜ let rs = rowsOf (now (masks .entry)) (now (values .entry)) (now (words .entry)) in
-        now (out .exit) ≡ stored (sheetVerdict n k w rs (length (now (out .entry)))) (sheetText n k w rs) (now (out .entry)) ⌝ }
+    ensures { λ r. ⌜ (let rs = rowsOf (now (masks .entry)) (now (values .entry)) (now (words .entry)) in
+        now (out .exit) ≡ stored (sheetVerdict n k w rs (length (now (out .entry)))) (sheetText n k w rs) (now (out .entry))) ⌝ }
 {
     let mut basis = [0u32; LIST_INPUTS];
     let mut sigma = [0u32; LIST_INPUTS];

@@ -31,8 +31,8 @@ pub fn work_list(
     out: &mut [u8],
 ) -> SheetWork
     ensures { λ r. ⌜ r ≡ sheetWork n k (min 3 n) (rowsOf (now (masks .entry)) (now (values .entry)) (now (words .entry))) (length (now (out .entry))) ⌝ }
-    ensures { λ r. ⌜ let rs = rowsOf (now (masks .entry)) (now (values .entry)) (now (words .entry)) in
-        now (out .exit) ≡ stored (sheetVerdict n k (min 3 n) rs (length (now (out .entry)))) (sheetText n k (min 3 n) rs) (now (out .entry)) ⌝ }
+    ensures { λ r. ⌜ (let rs = rowsOf (now (masks .entry)) (now (values .entry)) (now (words .entry)) in
+        now (out .exit) ≡ stored (sheetVerdict n k (min 3 n) rs (length (now (out .entry)))) (sheetText n k (min 3 n) rs) (now (out .entry))) ⌝ }
 {
     let w = weight_limit(n);
     sheet_work::make_sheet(n, k, w, masks, values, words, out)
@@ -50,8 +50,8 @@ pub fn work_rows(
 ) -> SheetWork
     requires { ⌜ (count ≤ length (now masks)) × (count ≤ length (now values)) × (count ≤ length (now words)) ⌝ }
     ensures { λ r. ⌜ r ≡ sheetWork n k (min 3 n) (firstRows count (now (masks .entry)) (now (values .entry)) (now (words .entry))) (length (now (out .entry))) ⌝ }
-    ensures { λ r. ⌜ let rs = firstRows count (now (masks .entry)) (now (values .entry)) (now (words .entry)) in
-        now (out .exit) ≡ stored (sheetVerdict n k (min 3 n) rs (length (now (out .entry)))) (sheetText n k (min 3 n) rs) (now (out .entry)) ⌝ }
+    ensures { λ r. ⌜ (let rs = firstRows count (now (masks .entry)) (now (values .entry)) (now (words .entry)) in
+        now (out .exit) ≡ stored (sheetVerdict n k (min 3 n) rs (length (now (out .entry)))) (sheetText n k (min 3 n) rs) (now (out .entry))) ⌝ }
 {
     work_list(
         n,
