@@ -9,3 +9,4 @@ pub mod Tables
 pub mod Lists
 pub mod Text
 pub mod Sheet
+pub mod Said
