@@ -33,7 +33,7 @@ use Rattle.put_sheet.specs.Length.{sheet-le}
 use Rattle.sheet_work.specs.Work.{sheetWork}
 
 -- a measure of a block with up to `most` inputs
-measure-le : (most : ℕ) (f : ℕ → ℕ) (n : ℕ) → n ≤ most → measure f n ≤ most * 2 ^ most
+pub measure-le : (most : ℕ) (f : ℕ → ℕ) (n : ℕ) → n ≤ most → measure f n ≤ most * 2 ^ most
 unfolding measure
 measure-le most f n h =
     omega (arith, sum-le (λ i. shift f n (2 ^ i)) (2 ^ n) n (λ i l. shift-le f n (2 ^ i)), mul-le-mul h (pow-mono h))

@@ -240,7 +240,7 @@ spelled-symbols (suc n) m v h =
       ),
     )
 
-spelled-bits : (n v : ℕ) → (spelled 2 value 0 (bits n v) ≡ v % 2 ^ n) × (every bitTest (bits n v) ≡ true)
+pub spelled-bits : (n v : ℕ) → (spelled 2 value 0 (bits n v) ≡ v % 2 ^ n) × (every bitTest (bits n v) ≡ true)
 unfolding bits spelled every
 spelled-bits zero v = (omega arith, refl)
 spelled-bits (suc n) v =
@@ -331,17 +331,19 @@ module _ (n k : ℕ) (r : Row) where
         rw (s .0, s .1 .0, b .0, mod-eq-of-lt (g .mask-lt), mod-eq-of-lt (g .values-lt), mod-eq-of-lt (g .word-lt)),
       )
 
--- a row's line has no LF but its last byte
+-- bits have no LF, and a row's line none but its last byte
+
+noLF-symbols : (l : List ℕ) → every symbolTest l ≡ true → noLF l ≡ true
+noLF-symbols l e = every-all (λ b. not (eqb b 10)) l (λ i h. symbol-noLF (at l i) (every-at symbolTest l e i h))
+
+pub bits-noLF : (n v : ℕ) → noLF (bits n v) ≡ true
+bits-noLF n v =
+    noLF-symbols (bits n v) (every-all symbolTest (bits n v) (λ i h. bit-symbol (at (bits n v) i) (every-at bitTest (bits n v) (spelled-bits n v .1) i h)))
+
 pub row-noLF : (n k : ℕ) (r : Row) → badRow n k r ≡ false → noLF (symbols n (r .mask) (r .values) ++ (32 ∷ bits k (r .word))) ≡ true
 unfolding every
 row-noLF n k r e =
     let g = good-row n k r e in
     every-append (λ b. not (eqb b 10)) (symbols n (r .mask) (r .values)) (32 ∷ bits k (r .word))
     (noLF-symbols (symbols n (r .mask) (r .values)) (spelled-symbols n (r .mask) (r .values) (under n (r .mask) (r .values) (g .within)) .1 .1))
-    (noLF-symbols (bits k (r .word)) (bits-symbols (bits k (r .word)) (spelled-bits k (r .word) .1)))
-  where
-    noLF-symbols : (l : List ℕ) → every symbolTest l ≡ true → noLF l ≡ true
-    noLF-symbols l e = every-all (λ b. not (eqb b 10)) l (λ i h. symbol-noLF (at l i) (every-at symbolTest l e i h))
-
-    bits-symbols : (l : List ℕ) → every bitTest l ≡ true → every symbolTest l ≡ true
-    bits-symbols l e = every-all symbolTest l (λ i h. bit-symbol (at l i) (every-at bitTest l e i h))
+    (bits-noLF k (r .word))

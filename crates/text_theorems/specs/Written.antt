@@ -20,7 +20,7 @@ use Rattle.text_theorems.specs.Rows.{form-row, row-noLF}
 
 -- ---- a written text, line by line
 
-cut-line : (b rest : List ℕ) → noLF b ≡ true → lines ((b ++ (10 ∷ [])) ++ rest) ≡ (b ++ (10 ∷ [])) ∷ lines rest
+pub cut-line : (b rest : List ℕ) → noLF b ≡ true → lines ((b ++ (10 ∷ [])) ++ rest) ≡ (b ++ (10 ∷ [])) ∷ lines rest
 unfolding lines every
 cut-line [] rest e = refl
 cut-line (y ∷ b) rest e =
@@ -36,7 +36,7 @@ cut-row : (n k : ℕ) (r : Row) (rest : List ℕ) → badRow n k r ≡ false →
 unfolding rowLine
 cut-row n k r rest e = cut-line (symbols n (r .mask) (r .values) ++ (32 ∷ bits k (r .word))) rest (row-noLF n k r e)
 
-cut-rows : (n k : ℕ) (rs : List Row) (rest : List ℕ) → ((i : ℕ) → i < length rs → badRow n k (rowAt rs i) ≡ false)
+pub cut-rows : (n k : ℕ) (rs : List Row) (rest : List ℕ) → ((i : ℕ) → i < length rs → badRow n k (rowAt rs i) ≡ false)
     → lines (rowLines n k rs ++ rest) ≡ map (rowLine n k) rs ++ lines rest
 unfolding rowLines
 cut-rows n k [] rest h = refl
