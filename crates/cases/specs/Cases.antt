@@ -1,12 +1,11 @@
 -- The blocks that 01 marks P (01, Blocks to try by hand), as one statement over a table: each question has the numbers that stand
 -- beside it. Every question goes through the answer that an operation's contract cites. Assumes nothing.
 use mathlib.Core.Path.{_≡_, refl, ap₂}
-use mathlib.Core.Bool.{Bool, true, false, cond, _&&_}
+use mathlib.Core.Bool.{Bool, true, cond, _&&_}
 use mathlib.Core.List.{List, [], _∷_, _++_}
-use Prim.Native.Nat.{ℕ, zero, suc, _^_}
+use Prim.Native.Nat.{ℕ, _^_}
 use lib.Count.{ones, onesIn}
 use lib.Dec.{T, eqb, eqb→eq}
-use lib.ListN.{length}
 use Rattle.bits.specs.Digits.{parity}
 use Rattle.slices.specs.Places.{tab, first}
 use Rattle.slices.specs.Tests.{and-left, and-right}
@@ -33,7 +32,7 @@ equal-same (x ∷ xs) (y ∷ ys) h =
 
 -- a question to one operation; the lent room is just what it asks for
 pub data Question : Type 0 where
-  tableValues : ℕ → ℕ → List ℕ → Question
+  tableValues : ℕ → ℕ → ℕ → List ℕ → Question
   tableMethods : ℕ → ℕ → ℕ → List ℕ → Question
   rowValues : ℕ → ℕ → ℕ → List Row → Question
   rowMethods : ℕ → ℕ → ℕ → List Row → Question
@@ -48,10 +47,10 @@ pub flat : List Row → List ℕ
 flat [] = []
 flat (r ∷ rs) = r .mask ∷ r .values ∷ r .word ∷ flat rs
 
--- number, A, B; then R at every t; or the measures, T, sigma and the smaller table; or the value; or the measures, the count, T,
--- sigma and the smaller rows; or the restored table
+-- number, A, B; then the value; or the measures, T, sigma and the smaller table; or the measures, the count, T, sigma and the smaller
+-- rows; or the restored table
 pub ask : Question → List ℕ
-ask (tableValues n k table) = tab (2 ^ n) (λ t. tableValue n k t table .value)
+ask (tableValues n k t table) = let r = tableValue n k t table in r .number ∷ r .a ∷ r .b ∷ r .value ∷ []
 ask (tableMethods n k w table) =
     let r = tableMethod n k w table n n (2 ^ n) in
     r .number ∷ r .a ∷ r .b ∷ r .before ∷ r .after
@@ -104,7 +103,10 @@ rowsH = row 2 0 0 ∷ row 1 0 0 ∷ []
 -- the cases a to j
 pub table : List Case
 table =
-    case (tableValues 2 1 tableA) (4 ∷ 0 ∷ 0 ∷ 4 ∷ [])
+    case (tableValues 2 1 0 tableA) (0 ∷ 0 ∷ 0 ∷ 4 ∷ [])
+    ∷ case (tableValues 2 1 1 tableA) (0 ∷ 0 ∷ 0 ∷ 0 ∷ [])
+    ∷ case (tableValues 2 1 2 tableA) (0 ∷ 0 ∷ 0 ∷ 0 ∷ [])
+    ∷ case (tableValues 2 1 3 tableA) (0 ∷ 0 ∷ 0 ∷ 4 ∷ [])
     ∷ case (tableMethods 2 1 2 tableA) (0 ∷ 0 ∷ 0 ∷ 0 ∷ 4 ∷ 3 ∷ 1 ∷ 2 ∷ 3 ∷ 0 ∷ 0 ∷ 1 ∷ 1 ∷ [])
     ∷ case (tableMethods 2 1 1 tableA) (0 ∷ 0 ∷ 0 ∷ 0 ∷ 0 ∷ 1 ∷ 2 ∷ 1 ∷ 2 ∷ 0 ∷ 1 ∷ 1 ∷ 0 ∷ [])
     ∷ case (rowMethods 1 1 1 rowsC) (0 ∷ 0 ∷ 0 ∷ 2 ∷ 2 ∷ 1 ∷ 1 ∷ 1 ∷ 0 ∷ 0 ∷ 1 ∷ [])

@@ -1,5 +1,5 @@
--- 01's sheet example (01, The sheet): for the text of block e the program prints these bytes, and the text of that list is the
--- text itself. Assumes nothing.
+-- 01's sheet example (01, The sheet): for the text of block e the program prints these bytes, which say the numbers, matrices and rows
+-- of case e, and the text of that list is the text itself. Assumes nothing.
 use mathlib.Core.Path.{_≡_, refl}
 use mathlib.Core.List.{List, [], _∷_}
 use Prim.Native.Nat.{ℕ}
@@ -7,14 +7,15 @@ use lib.Count.{ones, onesIn}
 use Rattle.bits.specs.Digits.{parity}
 use Rattle.slices.specs.Places.{tab, first}
 use Rattle.sums.specs.Sums.{sum, count}
-use Rattle.block.specs.Words.{wordAt}
+use Rattle.block.specs.Words.{wordAt, row}
 use Rattle.block.specs.Measure.{same, shift, measure}
 use Rattle.block.specs.Basis.{span, candidate, before, better, best, next, chosen, columns, inverse, basisOf, sigmaOf, smallerOf}
 use Rattle.block.specs.Rows.{highest, partner, exchange, rest, shear, reached, splitRow, splitRows, moved}
 use Rattle.block.specs.Refusals.{verdict, badRow, share, second, sharing}
 use Rattle.block.specs.Lists.{rowsAfter, passing, methodChecks, smallerList}
 use Rattle.block.specs.Text.{digits, symbols, bits, rowLine, rowLines, headLine, textOf, lines, equal, every, numeral, headForm, rowForm, spelled, rowOn, headFault, bodyDue, bodyFault, rowsOn, readVerdict, rowsIn}
-use Rattle.block.specs.Sheet.{section, numberLines, matrixLines, sheetOf, sheetText, sheetVerdict, refusalLine, orRefused, printedList, printed}
+use Rattle.block.specs.Sheet.{section, numberLines, matrixLines, sheetOf, sheetText, sheetVerdict, orRefused, printedList, printed}
+use Rattle.block.specs.Said.{matrixOn, said}
 use Rattle.cases.specs.Cases.{rowsE}
 
 -- the input, one line of it to a line
@@ -64,6 +65,20 @@ unfolding
     headForm rowForm spelled rowOn headFault bodyDue bodyFault rowsOn readVerdict rowsIn section numberLines matrixLines sheetOf sheetText sheetVerdict
     orRefused printedList printed
 example-sheet = refl
+
+pub example-said : said sheetLines
+    ≡ record {
+      inputs = 3;
+      outputs = 2;
+      weight = 3;
+      earlier = 8;
+      later = 16;
+      basis = 1 ∷ 6 ∷ 2 ∷ [];
+      sigma = 1 ∷ 4 ∷ 6 ∷ [];
+      rows = row 6 0 1 ∷ row 6 2 1 ∷ row 6 4 2 ∷ row 6 6 2 ∷ [];
+    }
+unfolding sheetLines tab lines spelled rowOn rowsOn matrixOn said
+example-said = refl
 
 pub example-text : textOf 3 2 rowsE ≡ input
 unfolding input rowsE digits symbols bits rowLine rowLines headLine textOf
