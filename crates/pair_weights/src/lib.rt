@@ -1,4 +1,5 @@
-// What a pair of rows adds to R: whether their words are equal, what the pair weighs, and where t lies in its cube (document 003, Theorem 1).
+// What a pair of rows adds to R: whether their words are equal, what the pair weighs, and where t lies in its cube (document 003, Theorem 1);
+// and what a cube adds that is laid out by its parts.
 // Every function here is inner: the loops over pairs stand in row_shifts.
 ghost use mathlib.Core.Path.{_≡_};
 ghost use mathlib.Core.Bool.{cond};
@@ -9,7 +10,7 @@ ghost use lib.Dec.{eqb};
 ghost use lib.ListN.{length};
 ghost use Rattle.slices.specs.Places.{at};
 ghost use Rattle.block.specs.Limits.{listInputs};
-ghost use Rattle.pair_laws.specs.Symmetric.{hit};
+ghost use Rattle.pair_laws.specs.Symmetric.{cube, hit};
 ghost use Rattle.pair_weights.specs.Places.{cubeOf};
 
 // Whether two words are equal, in all their columns; word 0 is a word like any other.
@@ -30,6 +31,17 @@ pub fn weight_of(n: usize, mask: u32, mask2: u32, single: bool) -> u32
         return once;
     }
     once * 2
+}
+
+// What a cube adds to R(t), by its parts: its weight where t lies in it, and else nothing. A loop over cubes that asks here, with all three
+// parts at hand, is compiled to one over several at once.
+pub fn cube_adds(mask: u32, value: u32, weight: u32, t: u32) -> u32
+    ensures { λ r. ⌜ r ≡ hit t (cube mask value weight) ⌝ }
+{
+    if t & mask == value {
+        return weight;
+    }
+    0
 }
 
 // What the rows i and j, whose words are equal, add to R(t): what their pair weighs where t lies in its cube, and else nothing.

@@ -3,12 +3,12 @@
 -- Assumes nothing.
 use mathlib.Core.Path.{_≡_, sym, ap, _∙_}
 use mathlib.Core.List.{List, [], _∷_, _++_}
-use Prim.Native.Nat.{ℕ, _+_, _*_, _/_, _^_, _≤_, _<_}
+use Prim.Native.Nat.{ℕ, _+_, _*_, _^_, _≤_, _<_}
+use native.Mathlib.Nat.{mul-le-mul}
 use native.Mathlib.Omega.{arith}
 use lib.ListN.{length}
 use lib.Pow.{pow-mono}
 use Rattle.slices.specs.Places.{at}
-use Rattle.block.specs.Limits.{givenRows}
 use Rattle.block.specs.Words.{rowsOf, ofRows}
 use Rattle.block.specs.Measure.{shift}
 use Rattle.block.specs.Refusals.{rowAt}
@@ -19,9 +19,15 @@ use Rattle.pair_laws.specs.Symmetric.{Cube, hit, added, cubeAt, cubesTo, cubesO
 use Rattle.pair_weights.specs.Places.{cubeOf}
 use Rattle.flat_rows.specs.Listing.{Listed, rows-count, row-at}
 
--- room for the cubes of the rows given, one for each pair i ≤ j
-abbrev pub cubesRoom : ℕ
-cubesRoom = givenRows * (givenRows + 1) / 2
+-- room for the cubes of so many rows, one for each pair i ≤ j, in each of three lists
+abbrev pub Roomy : ℕ → ℕ → ℕ → ℕ → Type 0
+Roomy rows masks values weights = (rows * (rows + 1) ≤ masks * 2) × (rows * (rows + 1) ≤ values * 2) × (rows * (rows + 1) ≤ weights * 2)
+
+-- for the longest list that they are room for
+pub roomy-few : (rows most masks values weights : ℕ) → rows ≤ most → Roomy most masks values weights → Roomy rows masks values weights
+roomy-few rows most masks values weights h r =
+    let l : rows * (rows + 1) ≤ most * (most + 1) = mul-le-mul h (omega arith) in
+    (omega (arith, r .0), omega (arith, r .1), omega (arith, r .2))
 
 module _ (n : ℕ) {most : ℕ} {masks values words : List ℕ} (l : Listed most masks values words) where
   -- the rows
@@ -71,18 +77,16 @@ module _ (n : ℕ) {most : ℕ} {masks values words : List ℕ} (l : Listed most
       omega (arith, d .fixed, ap (λ (r : Row). r .mask) (row-at masks values words (l .values-too) (l .words-too) i h))
 
   -- before any pair there are fewer cubes than there is room for
-  pub cubes-fit : (i j : ℕ) → i ≤ j → j < length masks → length (cubesTo n rows i j) * 2 < most * (most + 1)
+  pub cubes-fit : (i j : ℕ) → i ≤ j → j < length masks → length (cubesTo n rows i j) * 2 < length masks * (length masks + 1)
   cubes-fit i j h k =
       let p = counted in
-      let b = l .few in
-      cubes-room n rows i j most h (omega arith) (omega arith)
+      cubes-room n rows i j (length masks) h (omega arith) (omega arith)
 
   -- and of all pairs no more
-  pub cubes-few : length (cubesOf n rows) * 2 ≤ most * (most + 1)
+  pub cubes-few : length (cubesOf n rows) * 2 ≤ length masks * (length masks + 1)
   cubes-few =
       let p = counted in
-      let b = l .few in
-      cubes-length n rows most (omega arith)
+      cubes-length n rows (length masks) (omega arith)
 
   -- past the last row the next begins
   pub row-done : (i j : ℕ) → j ≡ length masks → cubesTo n rows (i + 1) (i + 1) ≡ cubesTo n rows i j

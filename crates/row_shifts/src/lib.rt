@@ -16,11 +16,16 @@ ghost use Rattle.pair_laws.specs.Cube.{Sound};
 ghost use Rattle.pair_laws.specs.Theorem.{Every, Disjoint};
 ghost use Rattle.pair_laws.specs.Symmetric.{cubesOf};
 ghost use Rattle.flat_rows.specs.Listing.{Listed};
-ghost use Rattle.row_shifts.specs.Looped.{cubesRoom};
+ghost use Rattle.row_shifts.specs.Looped.{Roomy};
 ghost use Rattle.row_shifts.specs.Stored.{CubesAt, addedBy};
 
 // The cubes of the rows given: one for each pair i up to j.
 pub const CUBES: usize = GIVEN_ROWS * (GIVEN_ROWS + 1) / 2;
+
+// A short list, and its cubes.
+pub const FEW_ROWS: usize = 16;
+
+pub const FEW_CUBES: usize = FEW_ROWS * (FEW_ROWS + 1) / 2;
 
 // Puts the cube of the rows i and j at a place of the three slices.
 pub fn put_cube(
@@ -60,7 +65,7 @@ pub fn put_cubes(
 ) -> usize
     requires { ⌜ (n ≤ listInputs) × Listed givenRows (now masks) (now values) (now words) ⌝ }
     requires { ⌜ Every (Sound n) (rowsOf (now masks) (now values) (now words)) ⌝ }
-    requires { ⌜ (cubesRoom ≤ length (now «cube_masks»)) × (cubesRoom ≤ length (now «cube_values»)) × (cubesRoom ≤ length (now «cube_weights»)) ⌝ }
+    requires { ⌜ Roomy (length (now masks)) (length (now «cube_masks»)) (length (now «cube_values»)) (length (now «cube_weights»)) ⌝ }
     ensures { λ r. ⌜ CubesAt (cubesOf n (rowsOf (now (masks .entry)) (now (values .entry)) (now (words .entry))))
         (now («cube_masks» .entry)) (now («cube_values» .entry)) (now («cube_weights» .entry))
         (now («cube_masks» .exit)) (now («cube_values» .exit)) (now («cube_weights» .exit)) r ⌝ }
@@ -103,9 +108,7 @@ pub fn shift_by_cubes(
     let mut sum: u32 = 0;
     let mut q: usize = 0;
     while q < count {
-        if t & cube_masks[q] == cube_values[q] {
-            sum += cube_weights[q];
-        }
+        sum += pair_weights::cube_adds(cube_masks[q], cube_values[q], cube_weights[q], t);
         q += 1;
     }
     sum
@@ -151,7 +154,47 @@ pub fn shift_of_rows(n: usize, masks: &[u32], values: &[u32], words: &[u32], t: 
     sum
 }
 
-// R of a list of disjoint rows at each t of a list of numbers below 2^n, by its place there.
+// R of a list of disjoint rows at each t of a list of numbers below 2^n, by its place there, in working room for the cubes.
+pub fn shifts_in_room(
+    n: usize,
+    masks: &[u32],
+    values: &[u32],
+    words: &[u32],
+    cube_masks: &mut [u32],
+    cube_values: &mut [u32],
+    cube_weights: &mut [u32],
+    ts: &[u32],
+    places: usize,
+    out: &mut [u32],
+)
+    requires { ⌜ (n ≤ listInputs) × Listed givenRows (now masks) (now values) (now words) ⌝ }
+    requires { ⌜ Disjoint n (rowsOf (now masks) (now values) (now words)) ⌝ }
+    requires { ⌜ Roomy (length (now masks)) (length (now «cube_masks»)) (length (now «cube_values»)) (length (now «cube_weights»)) ⌝ }
+    requires { ⌜ (places ≤ length (now ts)) × (places ≤ length (now out)) × ((i : ℕ) → i < places → at (now ts) i < 2 ^ n) ⌝ }
+    ensures { λ _. ⌜ now (out .exit) ≡ over (tab places (λ i. shift (ofRows (rowsOf (now (masks .entry)) (now (values .entry)) (now (words .entry)))) n (at (now (ts .entry)) i))) (now (out .entry)) ⌝ }
+{
+    let count = put_cubes(
+        n,
+        masks,
+        values,
+        words,
+        cube_masks,
+        cube_values,
+        cube_weights,
+    );
+    shifts_by_cubes(
+        cube_masks,
+        cube_values,
+        cube_weights,
+        count,
+        ts,
+        places,
+        out,
+    );
+}
+
+// R of a list of disjoint rows at each t of a list of numbers below 2^n, by its place there. Room is cleared at each call, which would take
+// a short list longer than its work if it were room for the longest.
 pub fn shifts_of_rows(
     n: usize,
     masks: &[u32],
@@ -166,10 +209,28 @@ pub fn shifts_of_rows(
     requires { ⌜ (places ≤ length (now ts)) × (places ≤ length (now out)) × ((i : ℕ) → i < places → at (now ts) i < 2 ^ n) ⌝ }
     ensures { λ _. ⌜ now (out .exit) ≡ over (tab places (λ i. shift (ofRows (rowsOf (now (masks .entry)) (now (values .entry)) (now (words .entry)))) n (at (now (ts .entry)) i))) (now (out .entry)) ⌝ }
 {
+    if masks.len() <= FEW_ROWS {
+        let mut few_masks = [0u32; FEW_CUBES];
+        let mut few_values = [0u32; FEW_CUBES];
+        let mut few_weights = [0u32; FEW_CUBES];
+        shifts_in_room(
+            n,
+            masks,
+            values,
+            words,
+            &mut few_masks,
+            &mut few_values,
+            &mut few_weights,
+            ts,
+            places,
+            out,
+        );
+        return;
+    }
     let mut cube_masks = [0u32; CUBES];
     let mut cube_values = [0u32; CUBES];
     let mut cube_weights = [0u32; CUBES];
-    let count = put_cubes(
+    shifts_in_room(
         n,
         masks,
         values,
@@ -177,12 +238,6 @@ pub fn shifts_of_rows(
         &mut cube_masks,
         &mut cube_values,
         &mut cube_weights,
-    );
-    shifts_by_cubes(
-        &cube_masks,
-        &cube_values,
-        &cube_weights,
-        count,
         ts,
         places,
         out,

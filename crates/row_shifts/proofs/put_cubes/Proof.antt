@@ -3,14 +3,14 @@
 -- Assumes nothing.
 use mathlib.Core.Path.{_≡_, refl, sym, _∙_}
 use mathlib.Core.Logic.{⊎-elim}
-use Prim.Native.Nat.{_≤_, _<_, _-_}
+use Prim.Native.Nat.{_≤_, _<_, _+_, _-_, _*_}
 use native.Mathlib.Omega.{arith}
 use denote.Ref.{now}
 use lib.ListN.{length}
 use Rattle.block.specs.Words.{rowsOf}
 use Rattle.pair_laws.specs.Symmetric.{cubesTo, cubes-none}
 use Rattle.pair_weights.specs.Places.{cubeOf}
-use Rattle.row_shifts.specs.Looped.{cubesRoom, cubes-put, cubes-pass, mask-fixed, cubes-fit, row-done, rows-done}
+use Rattle.row_shifts.specs.Looped.{cubes-put, cubes-pass, mask-fixed, cubes-fit, row-done, rows-done}
 use Rattle.row_shifts.specs.Stored.{CubesAt, Grown, cubes-at-none, grown-more, grown-same}
 use borrow.Author.Tests.{eqb-true, eqb-false}
 use borrow.Author.Needs.{needs}
@@ -47,7 +47,8 @@ abbrev outer : tie.At-loop2 Inv-loop2 μ-loop2 Inv-loop μ-loop → tie.At-loop 
 outer c = c .before .before
 
 -- one cube more has room
-fits : (c : tie.In-loop2 Inv-loop2 μ-loop2 Inv-loop μ-loop) → c .before .loop2 .count < cubesRoom
+fits : (c : tie.In-loop2 Inv-loop2 μ-loop2 Inv-loop μ-loop)
+    → c .before .loop2 .count * 2 < length (now (start (outer (c .before)) .args .masks)) * (length (now (start (outer (c .before)) .args .masks)) + 1)
 fits c =
     let row = outer (c .before) in
     let s = start row in
