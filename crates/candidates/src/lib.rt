@@ -1,8 +1,8 @@
-// The candidates of a step, one at a time: their weight, their order, whether one is no XOR of those chosen, and whether one takes the
+// The candidates of a step, one at a time: their weight and the numbers that lack it, their order, whether one is no XOR of those chosen, and whether one takes the
 // place of the best so far. The order of candidates is decided by is_before alone. Every function here is inner: the loops over the
 // candidates stand in walks and choosing.
 ghost use mathlib.Core.Path.{_≡_};
-ghost use mathlib.Core.Bool.{_&&_, _||_};
+ghost use mathlib.Core.Bool.{false, _&&_, _||_};
 ghost use Prim.Native.Nat.{ℕ, _≤_, _^_};
 ghost use lib.Dec.{eqb, leb};
 ghost use lib.ListN.{length};
@@ -10,6 +10,7 @@ ghost use Rattle.slices.specs.Places.{at};
 ghost use Rattle.block.specs.Limits.{listInputs};
 ghost use Rattle.block.specs.Basis.{before, apply};
 ghost use Rattle.candidates.specs.Light.{light};
+ghost use Rattle.candidates.specs.Stride.{Skips};
 
 // Whether t has 1 to w one-bits.
 pub fn is_light(w: usize, t: u32) -> bool
@@ -21,6 +22,20 @@ pub fn is_light(w: usize, t: u32) -> bool
         return false;
     }
     ones <= w as u32
+}
+
+// How many numbers from t on, which does not have 1 to w one-bits, do not have them either, seen from t alone: where t is a multiple of 16
+// with too many one-bits, the 15 numbers behind it have no fewer.
+pub fn stride(w: usize, t: u32) -> usize
+    requires { ⌜ (w ≤ listInputs) × (light w t ≡ false) ⌝ }
+    ensures { λ r. ⌜ Skips w t r ⌝ }
+{
+    if t % 16 == 0 {
+        if u32::count_ones(t) > w as u32 {
+            return 16;
+        }
+    }
+    1
 }
 
 // Whether a stands before b in the order of candidates, by the values of the two: the greater value, among equals the smaller number.

@@ -5,6 +5,7 @@ use mathlib.Core.Bool.{Bool, true, false, cond, false≢true}
 use mathlib.Core.List.{List, [], _∷_, _++_, map-id}
 use Prim.Native.Nat.{ℕ, zero, suc, _+_, _^_, _≤_, _<_}
 use native.Mathlib.Decide.{decLt}
+use native.Mathlib.Nat.{add-zero}
 use native.Mathlib.Numerals.{add-one}
 use native.Mathlib.Omega.{arith}
 use borrow.Author.Tests.{eq-eqb, ne-eqb, eqb-true, le-leb}
@@ -19,6 +20,7 @@ use Rattle.slices.specs.Least.{first-is, first-found, first-passes}
 use Rattle.sums.specs.Laws.{below-suc}
 use Rattle.choice_laws.specs.Chosen.{Agree}
 use Rattle.candidates.specs.Light.{light}
+use Rattle.candidates.specs.Stride.{Skips}
 
 -- the numbers below m with 1 to w one-bits, in ascending order
 unfoldable pub walkTo : ℕ → ℕ → List ℕ
@@ -158,15 +160,24 @@ laid-taken w t l m k count r s h b f g =
           (rw (map-id (walkTo w t), map-id (walkTo w t ++ (t ∷ []))) at (over-push (λ (x : ℕ). x) (walkTo w t) t l (omega (arith, s .fits))));
     }
 
-pub laid-left : (w t : ℕ) (l m k : List ℕ) (count r : ℕ) → Laid w t l m count → light w t ≡ false → k ≡ m → r ≡ count
-    → Laid w (t + 1) l k r
-laid-left w t l m k count r s h f g =
-    record {
+-- numbers that are passed over
+pub laid-past : (w t r : ℕ) (l m k : List ℕ) (count c t′ : ℕ) → Laid w t l m count → Skips w t r → k ≡ m → c ≡ count → t′ ≡ t + r
+    → Laid w t′ l k c
+laid-past w t r l m k count c t′ s h f g e =
+    let same : walkTo w (t + r) ≡ walkTo w t = past r (λ i b. h .none i b) in
+    rw e
+    (record {
       size = ap length f ∙ s .size;
-      counted = g ∙ rw (walk-left w t h) (s .counted);
+      counted = g ∙ rw same (s .counted);
       fits = omega (arith, s .fits);
-      holds = f ∙ rw (walk-left w t h) (s .holds);
-    }
+      holds = f ∙ rw same (s .holds);
+    })
+  where
+    past : (r : ℕ) → ((i : ℕ) → i < r → light w (t + i) ≡ false) → walkTo w (t + r) ≡ walkTo w t
+    past zero h = ap (walkTo w) (add-zero t)
+    past (suc r) h =
+        let e : t + suc r ≡ t + r + 1 = omega arith in
+        ap (walkTo w) e ∙ walk-left w (t + r) (h r (omega arith)) ∙ past r (λ i b. h i (omega arith))
 
 -- a number of the walk has a place below its end
 pub laid-room : (n w t : ℕ) (l m : List ℕ) (count : ℕ) → Laid w t l m count → light w t ≡ true → t < 2 ^ n → count < length (walk n w)

@@ -21,8 +21,10 @@ pub fn put_walk(n: usize, w: usize, out: &mut [u32]) -> usize
         if candidates::is_light(w, t as u32) {
             out[count] = t as u32;
             count += 1;
+            t += 1;
+        } else {
+            t += candidates::stride(w, t as u32);
         }
-        t += 1;
     }
     count
 }

@@ -1,14 +1,14 @@
--- `walks::put_walk` meets its contract. The loop's invariant: the walk below t lies at the front, and the rest holds what it held.
+-- `walks::put_walk` meets its contract. The loop's invariant: the walk below t lies at the front, and the rest holds what it held; of
+-- the numbers that are passed over none is of the walk.
 -- The measure is what is left. Assumes nothing.
-use mathlib.Core.Path.{_≡_, sym, _∙_}
+use mathlib.Core.Path.{_≡_, refl, sym, _∙_}
 use mathlib.Core.Bool.{true}
-use mathlib.Core.Logic.{⊎-elim}
-use Prim.Native.Nat.{_≤_, _<_, _-_, _^_}
+use Prim.Native.Nat.{_≤_, _<_, _+_, _-_, _^_}
 use native.Mathlib.Omega.{arith}
 use lib.ListN.{length}
 use lib.Pow.{pow-mono}
 use Rattle.candidates.specs.Light.{light}
-use Rattle.walks.specs.Walk.{walk, Laid, laid-none, laid-room, laid-taken, laid-left}
+use Rattle.walks.specs.Walk.{walk, Laid, laid-none, laid-room, laid-taken, laid-past}
 use borrow.Author.Needs.{needs}
 use Rattle.walks.proofs.put_walk.Statement.{statement}
 use Rattle.walks.proofs.put_walk.Tie as tie
@@ -56,17 +56,36 @@ loop-less c = search needs
 
 loop-again : tie.Need-loop-again Inv-loop μ-loop
 loop-again c =
-    let s = c .before .before .before .before .before .before in
     let p = c .before .before .before .loop in
-    let light = sym (c .before .is-light .ensures) in (
+    let taken = sym (c .before .is-light .ensures) ∙ c .if1 .taken in (
       search needs,
       search needs,
-      ⊎-elim
-          (λ d. laid-taken _ (p .t) _ _ _ _ _ (p .inv .2) (light ∙ d .0 .taken)
-          (omega (arith, laid-room (s .args .n) (s .args .w) (p .t) _ _ _ (p .inv .2) (light ∙ d .0 .taken) (omega arith))) (d .1) (d .2))
-          (λ d. laid-left _ (p .t) _ _ _ _ _ (p .inv .2) (light ∙ d .0 .left) (d .1) (d .2))
-          (c .if1 .came),
+      laid-taken _ (p .t) _ _ _ _ _ (p .inv .2) taken (omega (arith, room c taken)) refl refl,
     )
+
+cast-stride : tie.Need-cast-stride Inv-loop μ-loop
+cast-stride c = omega (arith, pow-mono (c .before .before .before .before .before .before .pre .1))
+
+stride-requires : tie.Need-stride-requires Inv-loop μ-loop
+stride-requires c κs = (search needs, sym (c .before .is-light .ensures) ∙ c .if1 .left)
+
+-- where the next number stands
+past : (c : tie.After-stride Inv-loop μ-loop)
+    → c .before .before .before .before .loop .t + c .stride .result ≤ c .before .before .before .before .before .size .result
+past c =
+    let n = c .before .before .before .before .before .before .before .args .n in
+    omega (arith, c .stride .ensures .inside n (omega arith))
+
+add-t-2 : tie.Need-add-t-2 Inv-loop μ-loop
+add-t-2 c = omega (arith, past c, pow-mono (c .before .before .before .before .before .before .before .pre .1))
+
+loop-less-2 : tie.Need-loop-less-2 Inv-loop μ-loop
+loop-less-2 c = omega (arith, c .stride .ensures .some)
+
+loop-again-2 : tie.Need-loop-again-2 Inv-loop μ-loop
+loop-again-2 c =
+    let p = c .before .before .before .before .loop in
+    (past c, search needs, laid-past _ (p .t) _ _ _ _ _ _ _ (p .inv .2) (c .stride .ensures) refl refl refl)
 
 same-length : tie.Need-same-length Inv-loop μ-loop
 same-length c = search needs
@@ -96,5 +115,10 @@ put-walk-spec =
     add-t
     loop-less
     loop-again
+    cast-stride
+    stride-requires
+    add-t-2
+    loop-less-2
+    loop-again-2
     same-length
     returns)
