@@ -6,7 +6,7 @@ use read_laws::Spelling;
 ghost use mathlib.Core.Path.{_≡_};
 ghost use Prim.Native.Nat.{_+_, _^_, _≤_, _<_};
 ghost use Rattle.block.specs.Limits.{listInputs, outputs};
-ghost use Rattle.read_laws.specs.ByPlace.{farthest, maskOf, valuesOf, stepOf, spelledAt, joinedOf, rowFrom, isBroken, rowOr};
+ghost use Rattle.read_laws.specs.ByPlace.{farthest, maskOf, valuesOf, stepOf, spelledAt, joinedOf, rowFrom};
 
 // One symbol more, as the lowest input; `free` is the byte of a free one.
 pub fn step(st: Spelling, b: usize, free: usize) -> Spelling
@@ -77,28 +77,4 @@ pub fn read_row(s: &[u8], from: usize, n: usize, k: usize) -> Line
     let outputs = spelling(s, from + n + 1, k, 48);
     let end = read_bytes::byte(s, from + n + 1 + k);
     joined(inputs, gap, outputs, end)
-}
-
-// Whether a line is broken.
-pub fn is_broken(l: Line) -> bool
-    ensures { λ r. ⌜ r ≡ isBroken l ⌝ }
-{
-    match l {
-        Line::Broken => true,
-        Line::Sound(_) => false,
-    }
-}
-
-// The row of a line, one of zeros for a broken line.
-pub fn row_or(l: Line) -> Row
-    ensures { λ r. ⌜ r ≡ rowOr l ⌝ }
-{
-    match l {
-        Line::Broken => Row {
-            mask: 0,
-            values: 0,
-            word: 0,
-        },
-        Line::Sound(r) => r,
-    }
 }

@@ -7,12 +7,9 @@ use Rattle.read_laws.specs.ByPlace.{faultOf}
 use Rattle.read_body.proofs.first_fault.Tie as tie
 use Rattle.read_body.proofs.first_fault.Statement.{statement}
 
-first-broken-requires : tie.Need-first-broken-requires
-first-broken-requires c κs = search needs
-
 returns : tie.Need-returns
 unfolding faultOf
-returns c = rw (← (c .before .first-broken .ensures), lt-ltb _ _ (c .if1 .taken))
+returns c = rw (← (c .before .before .pre .3), lt-ltb _ _ (c .if1 .taken))
 
 add-e : tie.Need-add-e
 add-e c = search needs
@@ -22,7 +19,7 @@ add-e-2 c = search needs
 
 mul-e : tie.Need-mul-e
 mul-e c =
-    let a = c .before .before .before .args in
+    let a = c .before .before .args in
     omega (arith, rows-bytes-le (a .n) (a .k) (a .p) (omega arith) (omega arith) (omega arith))
 
 byte-requires : tie.Need-byte-requires
@@ -31,7 +28,7 @@ byte-requires c κs = search needs
 add-byte : tie.Need-add-byte
 add-byte c =
     let sound = c .before in
-    let a = sound .before .before .before .args in
+    let a = sound .before .before .args in
     omega (arith, rows-bytes-le (a .n) (a .k) (a .p) (omega arith) (omega arith) (omega arith))
 
 byte-requires-2 : tie.Need-byte-requires-2
@@ -40,7 +37,7 @@ byte-requires-2 c κs = search needs
 add-byte-2 : tie.Need-add-byte-2
 add-byte-2 c =
     let sound = c .before .before in
-    let a = sound .before .before .before .args in
+    let a = sound .before .before .args in
     omega (arith, rows-bytes-le (a .n) (a .k) (a .p) (omega arith) (omega arith) (omega arith))
 
 byte-requires-3 : tie.Need-byte-requires-3
@@ -49,7 +46,7 @@ byte-requires-3 c κs = search needs
 add-end-of : tie.Need-add-end-of
 add-end-of c =
     let sound = c .before .before .before in
-    let a = sound .before .before .before .args in
+    let a = sound .before .before .args in
     omega (arith, rows-bytes-le (a .n) (a .k) (a .p) (omega arith) (omega arith) (omega arith))
 
 end-of-requires : tie.Need-end-of-requires
@@ -60,7 +57,7 @@ unfolding faultOf
 returns-2 c =
     let sound = c .before .before .before .before in
     rw (
-      ← (sound .before .first-broken .ensures),
+      ← (sound .before .before .pre .3),
       le-ltb _ _ (sound .if1 .left),
       ← (c .before .before .before .byte .ensures .0),
       ← (c .before .before .byte2 .ensures .0),
@@ -72,7 +69,6 @@ pub first-fault-spec : {M : Type 1} → statement M
 first-fault-spec =
     tie.close
     (tie.spec
-    first-broken-requires
     returns
     add-e
     add-e-2

@@ -1,7 +1,5 @@
 -- `row_shifts::shifts_of_rows` meets its contract: the room is enough for the cubes, of a short list and of any. Assumes nothing.
 use native.Mathlib.Omega.{arith}
-use denote.Ref.{now}
-use lib.ListN.{length}
 use Rattle.block.specs.Limits.{givenRows}
 use Rattle.row_shifts.specs.Looped.{roomy-few}
 use borrow.Author.Needs.{needs}
