@@ -1,39 +1,239 @@
-/* Irwystl from C: row text in, sheet out. Link libexports.a, which `rt staticlib exports` makes for x86-64 in target/staticlib. */
+/*
+ * Irwystl from C: the sheet of a logic block, and every operation behind it.
+ *
+ * Link target/staticlib/libexports.a, which `rt staticlib exports` makes for x86-64; it asks for nothing but memcpy and memset. The
+ * shortest use is irwystl_print_text, at the end: row text in, sheet out.
+ *
+ * Words. A block has n inputs and k outputs. A point is a number below 2^n, input x0 its lowest bit. A row fixes some inputs and gives one
+ * word, a number below 2^k; a point under no row has no output. A full table has 2^n entries, the word at each point, or IRWYSTL_NO_OUTPUT.
+ * R(t) counts the points x such that x and x XOR t both have an output and the words are equal; the measure of a block is the sum of R at
+ * 1, 2, 4, .. 2^(n-1). The smaller block at z is the block at T z, and the block at x is the smaller block at sigma x. T comes as n
+ * numbers, its columns, and sigma as n numbers, its rows: bit j of sigma x is the parity of (row j AND x).
+ *
+ * Every call. Any numbers and any contents may come in: each call answers, or refuses with a number (enum irwystl_number) and two places.
+ * Each pointer must be valid for its length in elements, and not null even where that is 0; what is written must not overlap anything else
+ * that is passed. With a refusal every count and value of the answer is 0 and all lent storage holds what it held. With an answer, what
+ * lies beyond the result holds what it held. A call keeps nothing, takes no memory but at most 1 MiB of stack, and may be made from
+ * several threads at once, each with its own rooms.
+ *
+ * Each function has the promise of the operation that its comment names, in docs/PROMISES.md: the answer and the contents of all lent
+ * storage at the end, proved for all inputs. "Refuses" lists the numbers that it can give, in the order in which they are looked for;
+ * docs/REFUSALS.md has each in words.
+ */
 #ifndef IRWYSTL_H
 #define IRWYSTL_H
 
 #include <stddef.h>
 #include <stdint.h>
 
-/* The bytes that the longest sheet takes, so the room that irwystl_print_text asks for. */
-#define IRWYSTL_SHEET_ROOM 17518
-
 #ifdef __cplusplus
 extern "C" {
 #endif
 
+/* ---- limits and rooms */
+
+#define IRWYSTL_MOST_LIST_INPUTS 16  /* inputs of a list of rows, of row text and of a sheet */
+#define IRWYSTL_MOST_TABLE_INPUTS 12 /* inputs of a full table, and of a list that is filled into one */
+#define IRWYSTL_MOST_OUTPUTS 15
+#define IRWYSTL_MOST_ROWS 128     /* rows given; for irwystl_fill_table 512 */
+#define IRWYSTL_SMALLER_ROWS 512  /* the room for smaller rows, however few they are */
+#define IRWYSTL_TEXT_ROOM 4246    /* the bytes of the longest row text: the room for any */
+#define IRWYSTL_SHEET_ROOM 17518  /* the bytes of the longest sheet: the room for any */
+#define IRWYSTL_LINE_ROOM 4176    /* the bytes of the longest line of an import: the room for any */
+#define IRWYSTL_NO_OUTPUT 65535   /* the table entry of a point without an output */
+
+/* ---- numbers that come back */
+
+enum irwystl_number {
+  IRWYSTL_ANSWERED = 0,
+  IRWYSTL_INPUTS = 1,    /* n is out of range */
+  IRWYSTL_OUTPUTS = 2,   /* k is out of range */
+  IRWYSTL_LIMIT = 3,     /* the weight limit w is not 1 to n, or t is not below 2^n */
+  IRWYSTL_COUNT = 4,     /* no row or too many, flat rows of unequal length, a table without 2^n entries, a matrix without n rows */
+  IRWYSTL_ROOM = 5,      /* the room lent for a result is too short */
+  IRWYSTL_RECORD = 6,    /* row, entry or matrix row b, counted from 0, is malformed; a is 1 for a matrix row, else 0 */
+  IRWYSTL_SHARED = 7,    /* rows a and b, counted from 0, share a point */
+  IRWYSTL_DEPENDENT = 8, /* matrix row a, counted from 0, is the XOR of some rows before it, or 0 */
+  IRWYSTL_PASSED = 9,    /* at step a, counted from 1, the smaller rows pass 512 */
+  IRWYSTL_FORM = 10      /* line a of the text, counted from 1, is not of the form due there */
+};
+
+/* ---- rows and answers: number is an irwystl_number, a and b are its places, 0 where it names none */
+
+/* A row: the mask of its fixed inputs, their values (0 outside the mask), and its word. */
+typedef struct irwystl_row {
+  uint32_t mask;
+  uint32_t values;
+  uint32_t word;
+} irwystl_row;
+
+typedef struct irwystl_answer {
+  uint32_t number;
+  size_t a;
+  size_t b;
+} irwystl_answer;
+
+typedef struct irwystl_value_answer {
+  uint32_t number;
+  size_t a;
+  size_t b;
+  uint64_t value; /* R(t) */
+} irwystl_value_answer;
+
+typedef struct irwystl_table_method_answer {
+  uint32_t number;
+  size_t a;
+  size_t b;
+  uint64_t before; /* the measure of the block */
+  uint64_t after;  /* the measure of the smaller block */
+} irwystl_table_method_answer;
+
+typedef struct irwystl_row_method_answer {
+  uint32_t number;
+  size_t a;
+  size_t b;
+  uint64_t before; /* the measure of the block */
+  uint64_t after;  /* the measure of the smaller block */
+  size_t count;    /* how many smaller rows there are */
+} irwystl_row_method_answer;
+
+typedef struct irwystl_text_answer {
+  uint32_t number;
+  size_t a;
+  size_t b;
+  size_t count; /* how many bytes were written */
+} irwystl_text_answer;
+
+typedef struct irwystl_read_answer {
+  uint32_t number;
+  size_t a;
+  size_t b;
+  size_t n;     /* the inputs that the text tells */
+  size_t k;     /* its outputs */
+  size_t count; /* how many rows it has */
+} irwystl_read_answer;
+
+typedef struct irwystl_import_answer {
+  uint32_t number;
+  size_t a;
+  size_t b;
+  size_t count;  /* the bytes of the sheet */
+  size_t length; /* the bytes of the line, with a refusal too */
+} irwystl_import_answer;
+
+/* ---- full tables, of 1 to 12 inputs */
+
+/* R(t) of a table of 2^n entries. Refuses with 1, 2, 3 (t), 4, 6. Promise: tables::table_value. */
+irwystl_value_answer irwystl_table_value(size_t n, size_t k, size_t t, const uint16_t *table, size_t table_length);
+
 /*
- * Works out the sheet of a logic block.
- *
- * text    the block's rows as row text: any bytes. At most 8,192 of them are looked at; no text that is longer is accepted.
- * length  how many bytes stand at text.
- * out     room for IRWYSTL_SHEET_ROOM bytes.
- *
- * Writes to the front of out, and returns how many bytes it wrote: the sheet with weight limit 3, or n where the block has n < 3 inputs;
- * or else one line "refused N A B", where N is
- *
- *   1   the number of inputs is not 1 to 16
- *   2   the number of outputs is not 1 to 15
- *   4   the number of rows is not 1 to 128
- *   7   rows A and B, counted from 0, share a point
- *   9   at step A the smaller rows are more than 512
- *   10  line A, counted from 1, is not of the form due there
- *
- * A sheet begins with the word sheet. The room beyond what is written holds what it held. Nothing has to be checked before the call, but
- * text has to be valid for reading length bytes (and not null, even where length is 0), out for writing, and the two must not overlap. The
- * call keeps nothing, takes no memory but at most 1 MiB of stack, and may be made from several threads at once, each with its own room.
+ * T, sigma, the smaller table and both measures of a table of 2^n entries, with weight limit w: the numbers chosen for T have at most w
+ * one-bits. basis gets T's n columns, sigma its n rows, smaller 2^n entries: each is room for at least that many. Refuses with 1, 2, 3 (w),
+ * 4, 5, 6. Promise: tables::table_method.
  */
-size_t irwystl_print_text(const uint8_t *text, size_t length, uint8_t *out);
+irwystl_table_method_answer irwystl_table_method(size_t n, size_t k, size_t w, const uint16_t *table, size_t table_length,
+                                                 uint32_t *basis, size_t basis_length, uint32_t *sigma, size_t sigma_length,
+                                                 uint16_t *smaller, size_t smaller_length);
+
+/*
+ * The original table from sigma, n numbers, and the smaller table, 2^n entries. table is room for at least 2^n. Refuses with 1, 2, 4, 5,
+ * 6 (the matrix, then the table), 8. Promise: tables::restore_table.
+ */
+irwystl_answer irwystl_restore_table(size_t n, size_t k, const uint32_t *sigma, size_t sigma_length, const uint16_t *smaller,
+                                     size_t smaller_length, uint16_t *table, size_t table_length);
+
+/* ---- lists of rows as records, of 1 to 16 inputs; rows_length counts records */
+
+/* R(t) of a list of 1 to 128 rows. Refuses with 1, 2, 3 (t), 4, 6, 7. Promise: records::row_value. */
+irwystl_value_answer irwystl_records_row_value(size_t n, size_t k, size_t t, const irwystl_row *rows, size_t rows_length);
+
+/*
+ * T, sigma, the smaller rows and both measures of a list of 1 to 128 rows, with weight limit w. basis and sigma are room for at least n
+ * numbers each, smaller for at least IRWYSTL_SMALLER_ROWS rows, of which the first `count` are written. Refuses with 1, 2, 3 (w), 4, 5, 6,
+ * 7, 9. Promise: records::row_method.
+ */
+irwystl_row_method_answer irwystl_records_row_method(size_t n, size_t k, size_t w, const irwystl_row *rows, size_t rows_length,
+                                                     uint32_t *basis, size_t basis_length, uint32_t *sigma, size_t sigma_length,
+                                                     irwystl_row *smaller, size_t smaller_length);
+
+/*
+ * The full table of a list of 1 to 512 rows and at most 12 inputs. table is room for at least 2^n entries. Refuses with 1, 2, 4, 5, 6, 7.
+ * Promise: records::fill_table.
+ */
+irwystl_answer irwystl_records_fill_table(size_t n, size_t k, const irwystl_row *rows, size_t rows_length, uint16_t *table,
+                                          size_t table_length);
+
+/*
+ * A list of 1 to 128 rows as row text. out is room for at least IRWYSTL_TEXT_ROOM bytes. Whether rows share a point is not looked at.
+ * Refuses with 1, 2, 4, 5, 6. Promise: records::write_text.
+ */
+irwystl_text_answer irwystl_records_write_text(size_t n, size_t k, const irwystl_row *rows, size_t rows_length, uint8_t *out,
+                                               size_t out_length);
+
+/*
+ * The rows of a row text: any bytes. rows is room for as many as the text tells, at most IRWYSTL_MOST_ROWS. Whether rows share a point is
+ * not looked at. Refuses with 10 (a heading), 1, 2, 4, 5, 10 (any other line). Promise: records::read_numbers.
+ */
+irwystl_read_answer irwystl_records_read_text(const uint8_t *text, size_t text_length, irwystl_row *rows, size_t rows_length);
+
+/*
+ * The sheet of a list of 1 to 128 rows with weight limit w. out is room for at least IRWYSTL_SHEET_ROOM bytes. Refuses with 1, 2, 3 (w),
+ * 4, 5, 6, 7, 9. Promise: records::sheet.
+ */
+irwystl_text_answer irwystl_records_sheet(size_t n, size_t k, size_t w, const irwystl_row *rows, size_t rows_length, uint8_t *out,
+                                          size_t out_length);
+
+/*
+ * ---- the same on rows in three flat arrays: row i is masks[i], values[i] and words[i]. Given arrays of unequal length are refused with 4.
+ * Of arrays that are room the shortest is the room.
+ */
+
+/* Promise: lists::row_value. */
+irwystl_value_answer irwystl_row_value(size_t n, size_t k, size_t t, const uint32_t *masks, size_t masks_length, const uint32_t *values,
+                                       size_t values_length, const uint32_t *words, size_t words_length);
+
+/* Promise: lists::row_method. */
+irwystl_row_method_answer irwystl_row_method(size_t n, size_t k, size_t w, const uint32_t *masks, size_t masks_length,
+                                             const uint32_t *values, size_t values_length, const uint32_t *words, size_t words_length,
+                                             uint32_t *basis, size_t basis_length, uint32_t *sigma, size_t sigma_length,
+                                             uint32_t *smaller_masks, size_t smaller_masks_length, uint32_t *smaller_values,
+                                             size_t smaller_values_length, uint32_t *smaller_words, size_t smaller_words_length);
+
+/* Promise: lists::fill_table. */
+irwystl_answer irwystl_fill_table(size_t n, size_t k, const uint32_t *masks, size_t masks_length, const uint32_t *values,
+                                  size_t values_length, const uint32_t *words, size_t words_length, uint16_t *table,
+                                  size_t table_length);
+
+/* Promise: writing::write_text. */
+irwystl_text_answer irwystl_write_text(size_t n, size_t k, const uint32_t *masks, size_t masks_length, const uint32_t *values,
+                                       size_t values_length, const uint32_t *words, size_t words_length, uint8_t *out,
+                                       size_t out_length);
+
+/* Promise: reading::read_text, its answer in numbers. */
+irwystl_read_answer irwystl_read_text(const uint8_t *text, size_t text_length, uint32_t *masks, size_t masks_length, uint32_t *values,
+                                      size_t values_length, uint32_t *words, size_t words_length);
+
+/* Promise: sheets::sheet. */
+irwystl_text_answer irwystl_sheet(size_t n, size_t k, size_t w, const uint32_t *masks, size_t masks_length, const uint32_t *values,
+                                  size_t values_length, const uint32_t *words, size_t words_length, uint8_t *out, size_t out_length);
+
+/* ---- from row text to its sheet, with weight limit 3, or n where the block has n < 3 inputs. Any bytes may come in; at most 8,192 of
+ * them are looked at, and no longer text is accepted. */
+
+/*
+ * Writes to the front of out what the program prints, and returns how many bytes that is: the sheet, which begins with the word sheet, or
+ * one line "refused N A B", where N is 1, 2, 4, 7, 9 or 10. out is room for IRWYSTL_SHEET_ROOM bytes. Promise: printing::print_text.
+ */
+size_t irwystl_print_text(const uint8_t *text, size_t text_length, uint8_t *out);
+
+/*
+ * One list of a bulk import: the sheet of the text, and the line that says what came of it, without its end: the name, and then
+ * "sheet ROWS BEFORE AFTER" or "refused N A B". Of a longer name the line has the first 4,096 bytes, and a control byte in it is shown as
+ * "?". sheet is room for IRWYSTL_SHEET_ROOM bytes, line for IRWYSTL_LINE_ROOM. With a refusal the sheet's room holds what it held, and the
+ * line is written. Refuses with 10, 1, 2, 4, 7, 9. Promise: importing::import_text.
+ */
+irwystl_import_answer irwystl_import_text(const uint8_t *name, size_t name_length, const uint8_t *text, size_t text_length, uint8_t *sheet,
+                                          uint8_t *line);
 
 #ifdef __cplusplus
 }

@@ -1,65 +1,368 @@
-//! Irwystl from Rust: the rows of a logic block as row text in, its sheet out.
+//! Irwystl from Rust: the sheet of a logic block, and every operation behind it.
+//!
+//! A block has n inputs and k outputs. It comes as a list of [`Row`]s, as three
+//! flat slices ([`flat`]), as row text or as a full table: 2^n words, the entry of
+//! a point without an output [`NO_OUTPUT`]. The shortest use is [`sheet_of`], row
+//! text in and sheet out:
+//!
+//! ```
+//! let text = b".i 3\n.o 2\n.p 4\n00- 01\n11- 01\n01- 10\n10- 10\n.e\n";
+//! let sheet = irwystl::sheet_of(text)?;
+//! assert!(sheet.ends_with("table 4\n00- 01\n01- 01\n10- 10\n11- 10\n"));
+//! # Ok::<(), irwystl::Refusal>(())
+//! ```
+//!
+//! Any numbers and any slices may come in. Each call answers or is refused
+//! ([`Refusal`]), and no call panics. With a refusal all lent storage holds what it
+//! held; with an answer, what lies beyond the result holds what it held. A call
+//! takes at most 1 MiB of stack. docs/PROMISES.md says what each operation
+//! promises; a function here has the promise of the operation of its name.
 
-use std::fmt;
+pub mod flat;
+pub mod raw;
+mod refusal;
 
-/// The bytes that the longest sheet takes.
+pub use refusal::Refusal;
+
+/// The most inputs of a list of rows, of row text and of a sheet.
+pub const MOST_LIST_INPUTS: usize = 16;
+
+/// The most inputs of a full table, and of a list that is filled into one.
+pub const MOST_TABLE_INPUTS: usize = 12;
+
+/// The most outputs.
+pub const MOST_OUTPUTS: usize = 15;
+
+/// The most rows given; [`fill_table`] takes [`SMALLER_ROWS`].
+pub const MOST_ROWS: usize = 128;
+
+/// The room for smaller rows, however few they are.
+pub const SMALLER_ROWS: usize = 512;
+
+/// The bytes of the longest row text, and so the room for any.
+pub const TEXT_ROOM: usize = 4246;
+
+/// The bytes of the longest sheet, and so the room for any.
 pub const SHEET_ROOM: usize = 17518;
 
-extern "C" {
-    fn irwystl_print_text(text: *const u8, length: usize, out: *mut u8) -> usize;
+/// The bytes of the longest line of an import, and so the room for any.
+pub const LINE_ROOM: usize = 4176;
+
+/// The table entry of a point without an output.
+pub const NO_OUTPUT: u16 = 65535;
+
+/// A row: the mask of its fixed inputs, their values (0 outside the mask), and
+/// its word. Input x0 is the lowest bit.
+#[repr(C)]
+#[derive(Clone, Copy, Debug, Default, PartialEq, Eq, Hash)]
+pub struct Row {
+    pub mask: u32,
+    pub values: u32,
+    pub word: u32,
 }
 
-/// Why a text has no sheet: the number and the two places, 0 where not named.
+/// The measure of a block and that of its smaller block.
 #[derive(Clone, Copy, Debug, PartialEq, Eq)]
-pub struct Refused {
-    pub number: u32,
-    pub a: usize,
-    pub b: usize,
+pub struct Measures {
+    pub before: u64,
+    pub after: u64,
 }
 
-impl fmt::Display for Refused {
-    fn fmt(&self, out: &mut fmt::Formatter<'_>) -> fmt::Result {
-        let Refused { a, b, .. } = self;
-        match self.number {
-            1 => write!(out, "the number of inputs is not 1 to 16"),
-            2 => write!(out, "the number of outputs is not 1 to 15"),
-            4 => write!(out, "the number of rows is not 1 to 128"),
-            7 => write!(out, "rows {a} and {b}, counted from 0, share a point"),
-            9 => write!(out, "at step {a} the smaller rows are more than 512"),
-            10 => write!(out, "line {a} is not of the form due there"),
-            number => write!(out, "refused {number} {a} {b}"),
-        }
-    }
+/// The measures of the row method, and the number of smaller rows.
+#[derive(Clone, Copy, Debug, PartialEq, Eq)]
+pub struct Smaller {
+    pub before: u64,
+    pub after: u64,
+    pub count: usize,
 }
 
-impl std::error::Error for Refused {}
-
-/// The sheet of a text with weight limit 3, or n where the block has n < 3
-/// inputs. Any bytes may come in.
-pub fn sheet(text: &[u8]) -> Result<String, Refused> {
-    let mut out = vec![0; SHEET_ROOM];
-    // The slice is valid for its length and not null; the room is as long as the
-    // promise asks for, and it is ours alone.
-    let count = unsafe { irwystl_print_text(text.as_ptr(), text.len(), out.as_mut_ptr()) };
-    out.truncate(count);
-    let printed = String::from_utf8(out).expect("a sheet is ASCII");
-    match printed.strip_prefix("refused ") {
-        None => Ok(printed),
-        Some(rest) => Err(refused(rest)),
-    }
+/// What an accepted text tells: inputs, outputs and the number of rows.
+#[derive(Clone, Copy, Debug, PartialEq, Eq)]
+pub struct Headings {
+    pub n: usize,
+    pub k: usize,
+    pub count: usize,
 }
 
-fn refused(line: &str) -> Refused {
-    let parts: Vec<usize> = line
-        .split_ascii_whitespace()
-        .map(|part| part.parse().expect("a refusal is numbers"))
-        .collect();
-    match parts[..] {
-        [number, a, b] => Refused {
-            number: number as u32,
-            a,
-            b,
-        },
-        _ => unreachable!("a refusal is three numbers"),
+/// What came of one list of an import.
+#[derive(Clone, Copy, Debug, PartialEq, Eq)]
+pub struct Imported {
+    /// The bytes of the sheet, or why there is none.
+    pub sheet: Result<usize, Refusal>,
+    /// The bytes of the line.
+    pub line: usize,
+}
+
+// Every pointer below, and in `flat`, comes from a slice or an array that is lent
+// for the whole call, with its length, and no room overlaps anything else: that is
+// all that the calls ask for.
+
+/// R(t) of a table of 2^n entries. Refuses with 1, 2, 3 (t), 4 and 6.
+///
+/// ```
+/// // the XOR of two inputs: flipping both changes no word, flipping one each word
+/// let table = [0, 1, 1, 0];
+/// assert_eq!(irwystl::table_value(2, 1, 3, &table), Ok(4));
+/// assert_eq!(irwystl::table_value(2, 1, 1, &table), Ok(0));
+/// assert_eq!(irwystl::table_value(2, 1, 4, &table), Err(irwystl::Refusal::Limit));
+/// ```
+pub fn table_value(n: usize, k: usize, t: usize, table: &[u16]) -> Result<u64, Refusal> {
+    unsafe { raw::irwystl_table_value(n, k, t, table.as_ptr(), table.len()) }.result()
+}
+
+/// T, sigma, the smaller table and both measures of a table of 2^n entries, with
+/// weight limit w. `basis` and `sigma` are room for n numbers each, `smaller` for
+/// 2^n entries. Refuses with 1, 2, 3 (w), 4, 5 and 6.
+///
+/// ```
+/// let [mut basis, mut sigma] = [[0; 2]; 2];
+/// let mut smaller = [0; 4];
+/// let table = [0, 1, 1, 0];
+/// let measures = irwystl::table_method(2, 1, 2, &table, &mut basis, &mut sigma, &mut smaller)?;
+/// assert_eq!((measures.before, measures.after), (0, 4));
+/// assert_eq!((basis, sigma), ([3, 1], [2, 3]));
+/// assert_eq!(smaller, [0, 0, 1, 1]);
+/// # Ok::<(), irwystl::Refusal>(())
+/// ```
+pub fn table_method(
+    n: usize,
+    k: usize,
+    w: usize,
+    table: &[u16],
+    basis: &mut [u32],
+    sigma: &mut [u32],
+    smaller: &mut [u16],
+) -> Result<Measures, Refusal> {
+    unsafe {
+        raw::irwystl_table_method(
+            n,
+            k,
+            w,
+            table.as_ptr(),
+            table.len(),
+            basis.as_mut_ptr(),
+            basis.len(),
+            sigma.as_mut_ptr(),
+            sigma.len(),
+            smaller.as_mut_ptr(),
+            smaller.len(),
+        )
     }
+    .result()
+}
+
+/// The original table from sigma, n numbers, and the smaller table, 2^n entries.
+/// `table` is room for 2^n. Refuses with 1, 2, 4, 5, 6 (the matrix, then the table)
+/// and 8.
+///
+/// ```
+/// let mut table = [0; 4];
+/// irwystl::restore_table(2, 1, &[2, 3], &[0, 0, 1, 1], &mut table)?;
+/// assert_eq!(table, [0, 1, 1, 0]);
+/// # Ok::<(), irwystl::Refusal>(())
+/// ```
+pub fn restore_table(
+    n: usize,
+    k: usize,
+    sigma: &[u32],
+    smaller: &[u16],
+    table: &mut [u16],
+) -> Result<(), Refusal> {
+    unsafe {
+        raw::irwystl_restore_table(
+            n,
+            k,
+            sigma.as_ptr(),
+            sigma.len(),
+            smaller.as_ptr(),
+            smaller.len(),
+            table.as_mut_ptr(),
+            table.len(),
+        )
+    }
+    .result()
+}
+
+/// R(t) of a list of 1 to 128 rows. Refuses with 1, 2, 3 (t), 4, 6 and 7.
+///
+/// ```
+/// use irwystl::{row_value, Refusal, Row};
+/// // 0- and -0: both cover 00
+/// let rows = [Row { mask: 2, values: 0, word: 1 }, Row { mask: 1, values: 0, word: 1 }];
+/// assert_eq!(row_value(2, 1, 0, &rows[..1]), Ok(2));
+/// assert_eq!(row_value(2, 1, 0, &rows), Err(Refusal::SharedPoint { first: 0, second: 1 }));
+/// ```
+pub fn row_value(n: usize, k: usize, t: usize, rows: &[Row]) -> Result<u64, Refusal> {
+    unsafe { raw::irwystl_records_row_value(n, k, t, rows.as_ptr(), rows.len()) }.result()
+}
+
+/// T, sigma, the smaller rows and both measures of a list of 1 to 128 rows, with
+/// weight limit w. `basis` and `sigma` are room for n numbers each, `smaller` for
+/// [`SMALLER_ROWS`] rows, of which the first `count` are written. Refuses with 1,
+/// 2, 3 (w), 4, 5, 6, 7 and 9.
+///
+/// ```
+/// use irwystl::{row_method, Row, SMALLER_ROWS};
+/// // 01 and 10 have an output, the XOR of the two inputs
+/// let rows = [Row { mask: 3, values: 1, word: 1 }, Row { mask: 3, values: 2, word: 1 }];
+/// let [mut basis, mut sigma] = [[0; 2]; 2];
+/// let mut smaller = [Row::default(); SMALLER_ROWS];
+/// let found = row_method(2, 1, 2, &rows, &mut basis, &mut sigma, &mut smaller)?;
+/// assert_eq!((found.before, found.after, found.count), (0, 2, 2));
+/// assert_eq!(basis, [3, 1]);
+/// # Ok::<(), irwystl::Refusal>(())
+/// ```
+pub fn row_method(
+    n: usize,
+    k: usize,
+    w: usize,
+    rows: &[Row],
+    basis: &mut [u32],
+    sigma: &mut [u32],
+    smaller: &mut [Row],
+) -> Result<Smaller, Refusal> {
+    unsafe {
+        raw::irwystl_records_row_method(
+            n,
+            k,
+            w,
+            rows.as_ptr(),
+            rows.len(),
+            basis.as_mut_ptr(),
+            basis.len(),
+            sigma.as_mut_ptr(),
+            sigma.len(),
+            smaller.as_mut_ptr(),
+            smaller.len(),
+        )
+    }
+    .result()
+}
+
+/// The full table of a list of 1 to 512 rows and at most 12 inputs. `table` is
+/// room for 2^n entries. Refuses with 1, 2, 4, 5, 6 and 7.
+///
+/// ```
+/// use irwystl::{fill_table, Row, NO_OUTPUT};
+/// let mut table = [0; 4];
+/// fill_table(2, 1, &[Row { mask: 2, values: 0, word: 1 }], &mut table)?;
+/// assert_eq!(table, [1, 1, NO_OUTPUT, NO_OUTPUT]);
+/// # Ok::<(), irwystl::Refusal>(())
+/// ```
+pub fn fill_table(n: usize, k: usize, rows: &[Row], table: &mut [u16]) -> Result<(), Refusal> {
+    let [given, room] = [rows.len(), table.len()];
+    unsafe { raw::irwystl_records_fill_table(n, k, rows.as_ptr(), given, table.as_mut_ptr(), room) }
+        .result()
+}
+
+/// A list of 1 to 128 rows as row text: the number of its bytes. `out` is room for
+/// [`TEXT_ROOM`] bytes. Whether rows share a point is not looked at. Refuses with
+/// 1, 2, 4, 5 and 6.
+///
+/// ```
+/// use irwystl::{write_text, Row, TEXT_ROOM};
+/// let mut out = [0; TEXT_ROOM];
+/// let count = write_text(2, 1, &[Row { mask: 2, values: 0, word: 1 }], &mut out)?;
+/// assert_eq!(&out[..count], b".i 2\n.o 1\n.p 1\n0- 1\n.e\n");
+/// # Ok::<(), irwystl::Refusal>(())
+/// ```
+pub fn write_text(n: usize, k: usize, rows: &[Row], out: &mut [u8]) -> Result<usize, Refusal> {
+    let [given, room] = [rows.len(), out.len()];
+    unsafe { raw::irwystl_records_write_text(n, k, rows.as_ptr(), given, out.as_mut_ptr(), room) }
+        .result()
+}
+
+/// The rows of a row text. `rows` is room for as many as the text tells, at most
+/// [`MOST_ROWS`]. Whether rows share a point is not looked at. Refuses with 10 (a
+/// heading), 1, 2, 4, 5 and 10 (any other line).
+///
+/// ```
+/// use irwystl::{read_text, Refusal, Row, MOST_ROWS};
+/// let mut rows = [Row::default(); MOST_ROWS];
+/// let told = read_text(b".i 2\n.o 1\n.p 1\n0- 1\n.e\n", &mut rows)?;
+/// assert_eq!((told.n, told.k, told.count), (2, 1, 1));
+/// assert_eq!(rows[0], Row { mask: 2, values: 0, word: 1 });
+/// assert_eq!(read_text(b".i two\n", &mut rows), Err(Refusal::Line { line: 1 }));
+/// # Ok::<(), irwystl::Refusal>(())
+/// ```
+pub fn read_text(text: &[u8], rows: &mut [Row]) -> Result<Headings, Refusal> {
+    let [given, room] = [text.len(), rows.len()];
+    unsafe { raw::irwystl_records_read_text(text.as_ptr(), given, rows.as_mut_ptr(), room) }
+        .result()
+}
+
+/// The sheet of a list of 1 to 128 rows with weight limit w: the number of its
+/// bytes. `out` is room for [`SHEET_ROOM`] bytes. Refuses with 1, 2, 3 (w), 4, 5,
+/// 6, 7 and 9.
+///
+/// ```
+/// use irwystl::{sheet, Row, SHEET_ROOM};
+/// let mut out = [0; SHEET_ROOM];
+/// let count = sheet(2, 1, 2, &[Row { mask: 2, values: 0, word: 1 }], &mut out)?;
+/// assert!(out[..count].starts_with(b"sheet 1\nsize 3\n2\n1\n2\n"));
+/// # Ok::<(), irwystl::Refusal>(())
+/// ```
+pub fn sheet(n: usize, k: usize, w: usize, rows: &[Row], out: &mut [u8]) -> Result<usize, Refusal> {
+    let [given, room] = [rows.len(), out.len()];
+    unsafe { raw::irwystl_records_sheet(n, k, w, rows.as_ptr(), given, out.as_mut_ptr(), room) }
+        .result()
+}
+
+/// Writes what the program prints for a text to the front of `out`, and gives the
+/// number of its bytes: the sheet with weight limit 3, or n where the block has
+/// n < 3 inputs, or else one line "refused N A B".
+///
+/// ```
+/// let mut out = [0; irwystl::SHEET_ROOM];
+/// let count = irwystl::print_text(b"", &mut out);
+/// assert_eq!(&out[..count], b"refused 10 1 0\n");
+/// ```
+pub fn print_text(text: &[u8], out: &mut [u8; SHEET_ROOM]) -> usize {
+    unsafe { raw::irwystl_print_text(text.as_ptr(), text.len(), out.as_mut_ptr()) }
+}
+
+/// One list of an import: the sheet of a text, with the weight limit of
+/// [`print_text`], and the line that says what came of it, without its end.
+///
+/// ```
+/// use irwystl::{import_text, Refusal, LINE_ROOM, SHEET_ROOM};
+/// let mut sheet = [0; SHEET_ROOM];
+/// let mut line = [0; LINE_ROOM];
+/// let imported = import_text(b"fan.pla", b".i 17\n.o 1\n.p 1\n", &mut sheet, &mut line);
+/// assert_eq!(imported.sheet, Err(Refusal::Inputs));
+/// assert_eq!(&line[..imported.line], b"fan.pla refused 1 0 0");
+/// ```
+pub fn import_text(
+    name: &[u8],
+    text: &[u8],
+    sheet: &mut [u8; SHEET_ROOM],
+    line: &mut [u8; LINE_ROOM],
+) -> Imported {
+    let [sheet, line] = [sheet.as_mut_ptr(), line.as_mut_ptr()];
+    unsafe {
+        raw::irwystl_import_text(
+            name.as_ptr(),
+            name.len(),
+            text.as_ptr(),
+            text.len(),
+            sheet,
+            line,
+        )
+    }
+    .result()
+}
+
+/// The sheet of a text, with the weight limit of [`print_text`]. Refuses with 10,
+/// 1, 2, 4, 7 and 9.
+///
+/// ```
+/// let refused = irwystl::sheet_of(b".i 3\n.o 2\n").unwrap_err();
+/// assert_eq!(refused, irwystl::Refusal::Line { line: 3 });
+/// assert_eq!(refused.to_string(), "line 3 is not of the form due there");
+/// ```
+pub fn sheet_of(text: &[u8]) -> Result<String, Refusal> {
+    let mut sheet = [0; SHEET_ROOM];
+    let count = import_text(b"", text, &mut sheet, &mut [0; LINE_ROOM]).sheet?;
+    // a sheet is ASCII, and no longer than its room
+    Ok(String::from_utf8_lossy(sheet.get(..count).unwrap_or(&[])).into_owned())
 }

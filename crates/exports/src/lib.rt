@@ -1,18 +1,24 @@
 // The operations for programs in C and Rust: each function calls the operation of the same name and promises what it promises. A slice
-// is passed as a pointer and then a length, and an answer comes back as a struct of numbers.
+// is passed as a pointer and then a length, an array as a pointer alone, and an answer comes back as a struct of numbers. The names begin
+// with irwystl_, those on rows that are lent as records with irwystl_records_. This crate holds nothing else.
 use block::Answer;
 use block::ReadAnswer;
+use block::Row;
 use block::RowMethodAnswer;
 use block::SHEET_ROOM;
 use block::TableMethodAnswer;
 use block::TextAnswer;
 use block::ValueAnswer;
+use importing::Imported;
 ghost use Rattle.block.specs.Words.{rowsOf};
-ghost use Rattle.promises.specs.Lent.{lentFlat};
+ghost use Rattle.promises.specs.Lent.{lentFlat, lentRecords};
 ghost use Rattle.promises.specs.Tables.{TableValuePromise, TableMethodPromise, RestorePromise};
 ghost use Rattle.promises.specs.Lists.{RowValuePromise, RowMethodPromise, FillPromise};
 ghost use Rattle.promises.specs.Texts.{WritePromise, ReadPromise};
 ghost use Rattle.promises.specs.Sheets.{SheetPromise, PrintPromise};
+ghost use Rattle.importing.specs.Import.{ImportPromise};
+
+// ---- tables
 
 #[no_mangle]
 pub extern "C" fn irwystl_table_value(n: usize, k: usize, t: usize, table: &[u16]) -> ValueAnswer
@@ -49,6 +55,8 @@ pub extern "C" fn irwystl_restore_table(
 {
     tables::restore_table(n, k, sigma, smaller, table)
 }
+
+// ---- rows in three flat slices
 
 #[no_mangle]
 pub extern "C" fn irwystl_row_value(
@@ -159,10 +167,98 @@ pub extern "C" fn irwystl_read_text(
     read_kinds::in_numbers(answer)
 }
 
-// What the program prints for a text, into room for every sheet. An array is passed as a pointer alone.
+// ---- rows as records
+
+#[no_mangle]
+pub extern "C" fn irwystl_records_row_value(
+    n: usize,
+    k: usize,
+    t: usize,
+    rows: &[Row],
+) -> ValueAnswer
+    ensures { λ r. ⌜ RowValuePromise n k t (now (rows .entry)) r ⌝ }
+{
+    records::row_value(n, k, t, rows)
+}
+
+#[no_mangle]
+pub extern "C" fn irwystl_records_row_method(
+    n: usize,
+    k: usize,
+    w: usize,
+    rows: &[Row],
+    basis: &mut [u32],
+    sigma: &mut [u32],
+    smaller: &mut [Row],
+) -> RowMethodAnswer
+    ensures { λ r. ⌜ RowMethodPromise n k w (now (rows .entry)) (lentRecords (now (smaller .entry)) (now (smaller .exit)))
+        (now (basis .entry)) (now (sigma .entry)) r (now (basis .exit)) (now (sigma .exit)) ⌝ }
+{
+    records::row_method(n, k, w, rows, basis, sigma, smaller)
+}
+
+#[no_mangle]
+pub extern "C" fn irwystl_records_fill_table(
+    n: usize,
+    k: usize,
+    rows: &[Row],
+    table: &mut [u16],
+) -> Answer
+    ensures { λ r. ⌜ FillPromise n k (now (rows .entry)) (now (table .entry)) r (now (table .exit)) ⌝ }
+{
+    records::fill_table(n, k, rows, table)
+}
+
+#[no_mangle]
+pub extern "C" fn irwystl_records_write_text(
+    n: usize,
+    k: usize,
+    rows: &[Row],
+    out: &mut [u8],
+) -> TextAnswer
+    ensures { λ r. ⌜ WritePromise n k (now (rows .entry)) (now (out .entry)) r (now (out .exit)) ⌝ }
+{
+    records::write_text(n, k, rows, out)
+}
+
+#[no_mangle]
+pub extern "C" fn irwystl_records_read_text(text: &[u8], rows: &mut [Row]) -> ReadAnswer
+    ensures { λ r. ⌜ ReadPromise (now (text .entry)) (lentRecords (now (rows .entry)) (now (rows .exit))) r ⌝ }
+{
+    records::read_numbers(text, rows)
+}
+
+#[no_mangle]
+pub extern "C" fn irwystl_records_sheet(
+    n: usize,
+    k: usize,
+    w: usize,
+    rows: &[Row],
+    out: &mut [u8],
+) -> TextAnswer
+    ensures { λ r. ⌜ SheetPromise n k w (now (rows .entry)) (now (out .entry)) r (now (out .exit)) ⌝ }
+{
+    records::sheet(n, k, w, rows, out)
+}
+
+// ---- texts alone, with rooms of fixed length
+
 #[no_mangle]
 pub extern "C" fn irwystl_print_text(input: &[u8], out: &mut [u8; SHEET_ROOM]) -> usize
     ensures { λ r. ⌜ PrintPromise (now (input .entry)) (now (out .entry)) r (now (out .exit)) ⌝ }
 {
     printing::print_text(input, out)
+}
+
+#[no_mangle]
+pub extern "C" fn irwystl_import_text(
+    name: &[u8],
+    text: &[u8],
+    sheet: &mut [u8; SHEET_ROOM],
+    line: &mut [u8; 4176],
+) -> Imported
+    ensures { λ r. ⌜ ImportPromise (now (name .entry)) (now (text .entry)) (now (sheet .entry)) (now (line .entry))
+        r (now (sheet .exit)) (now (line .exit)) ⌝ }
+{
+    importing::import_text(name, text, sheet, line)
 }

@@ -4,6 +4,7 @@ use block::SHEET_ROOM;
 ghost use Rattle.importing.specs.Import.{ImportPromise};
 
 // The answer: its number and places, the bytes of the sheet (0 with a refusal), and the bytes of the line.
+#[repr(C)]
 pub struct Imported {
     pub number: u32,
     pub a: usize,

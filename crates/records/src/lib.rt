@@ -16,8 +16,7 @@ ghost use Rattle.promises.specs.Texts.{WritePromise, ReadPromise};
 ghost use Rattle.promises.specs.Sheets.{SheetPromise};
 
 // R(t) of a list. Refuses with 1, 2, 3 (t), 4, 6 and 7.
-#[no_mangle]
-pub extern "C" fn row_value(n: usize, k: usize, t: usize, rows: &[Row]) -> ValueAnswer
+pub fn row_value(n: usize, k: usize, t: usize, rows: &[Row]) -> ValueAnswer
     ensures { λ r. ⌜ RowValuePromise n k t (now (rows .entry)) r ⌝ }
 {
     let m = record_copies::fits(rows.len());
@@ -27,8 +26,7 @@ pub extern "C" fn row_value(n: usize, k: usize, t: usize, rows: &[Row]) -> Value
 
 // T, sigma, the smaller rows and both measures of a list, with weight limit w: the smaller rows are the first records of `smaller`, and
 // the others hold what they held. Refuses with 1, 2, 3 (w), 4, 5 (n numbers for each matrix, 512 rows), 6, 7 and 9.
-#[no_mangle]
-pub extern "C" fn row_method(
+pub fn row_method(
     n: usize,
     k: usize,
     w: usize,
@@ -48,8 +46,7 @@ pub extern "C" fn row_method(
 }
 
 // Fills the table of a list, of up to 512 rows. Refuses with 1, 2, 4, 5 (2^n entries), 6 and 7.
-#[no_mangle]
-pub extern "C" fn fill_table(n: usize, k: usize, rows: &[Row], table: &mut [u16]) -> Answer
+pub fn fill_table(n: usize, k: usize, rows: &[Row], table: &mut [u16]) -> Answer
     ensures { λ r. ⌜ FillPromise n k (now (rows .entry)) (now (table .entry)) r (now (table .exit)) ⌝ }
 {
     let m = record_copies::fits(rows.len());
@@ -58,8 +55,7 @@ pub extern "C" fn fill_table(n: usize, k: usize, rows: &[Row], table: &mut [u16]
 }
 
 // Writes the rows as text to the front of out. Refuses with 1, 2, 4, 5 (4,246 bytes) and 6.
-#[no_mangle]
-pub extern "C" fn write_text(n: usize, k: usize, rows: &[Row], out: &mut [u8]) -> TextAnswer
+pub fn write_text(n: usize, k: usize, rows: &[Row], out: &mut [u8]) -> TextAnswer
     ensures { λ r. ⌜ WritePromise n k (now (rows .entry)) (now (out .entry)) r (now (out .exit)) ⌝ }
 {
     let m = record_copies::fits(rows.len());
@@ -78,8 +74,7 @@ pub fn read_text(text: &[u8], rows: &mut [Row]) -> Reading
 }
 
 // Reads the text as `read_text` does, for a program in another language: an enum is no answer there.
-#[no_mangle]
-pub extern "C" fn read_numbers(text: &[u8], rows: &mut [Row]) -> ReadAnswer
+pub fn read_numbers(text: &[u8], rows: &mut [Row]) -> ReadAnswer
     ensures { λ r. ⌜ ReadPromise (now (text .entry)) (lentRecords (now (rows .entry)) (now (rows .exit))) r ⌝ }
 {
     let read = read_records::read_numbers_of(text, rows.len());
@@ -88,8 +83,7 @@ pub extern "C" fn read_numbers(text: &[u8], rows: &mut [Row]) -> ReadAnswer
 }
 
 // Writes the sheet of the rows with weight limit w to the front of out. Refuses with 1, 2, 3 (w), 4, 5 (17,518 bytes), 6, 7 and 9.
-#[no_mangle]
-pub extern "C" fn sheet(n: usize, k: usize, w: usize, rows: &[Row], out: &mut [u8]) -> TextAnswer
+pub fn sheet(n: usize, k: usize, w: usize, rows: &[Row], out: &mut [u8]) -> TextAnswer
     ensures { λ r. ⌜ SheetPromise n k w (now (rows .entry)) (now (out .entry)) r (now (out .exit)) ⌝ }
 {
     let m = record_copies::fits(rows.len());

@@ -9,7 +9,8 @@
 //! These are written to be read beside 01 and take the long way wherever that
 //! is the plain one. [`fast`] has the same operations as one would write them
 //! for speed, [`operations`] both under one trait, [`inputs`] makes inputs
-//! from a seed, and [`data`] holds an implementation to the cases of `data/`.
+//! from a seed, and [`data`] holds an implementation to the cases with answers
+//! (outside/CASES.md).
 //!
 //! Not here: anything of the proved product. The two share nothing but 01.
 

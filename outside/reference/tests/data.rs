@@ -1,4 +1,4 @@
-//! The reference against the cases of `outside/data`.
+//! The reference against the cases with answers (outside/CASES.md).
 
 use reference::data::{check_lists, check_operations};
 use reference::{Fast, Plain};

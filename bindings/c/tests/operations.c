@@ -1,0 +1,316 @@
+/*
+ * The operations on tables, lists and matrices, called through irwystl.h, on the cases of the files that are named: one a line, in the form
+ * of outside/CASES.md. An operation on rows is called with records and with flat arrays. Lent storage holds a pattern before each call and
+ * is looked at in full after it. Says which cases have another answer than the one due; the status is 0 where all have theirs.
+ */
+#include "irwystl.h"
+
+#include <stdio.h>
+#include <stdlib.h>
+#include <string.h>
+
+#define MOST 8192
+#define LONGEST_LINE 16384
+#define HELD 0xABCD1234u
+#define HELD_ENTRY 0xABCD
+
+/* A list of a line: numbers in the first field, or the three fields of rows. */
+typedef struct list {
+  uint32_t fields[3][MOST];
+  size_t length;
+} list;
+
+static const char *file;
+static unsigned long line_number, cases, wrong;
+static const char *at;  /* where the line is read */
+static const char *due; /* where the answer due begins */
+static int differs;     /* the case at hand has another answer */
+
+/* ---- a line */
+
+static void fail(const char *why) {
+  printf("%s, line %lu: %s\n", file, line_number, why);
+  exit(1);
+}
+
+static uint64_t number(void) {
+  char *end;
+  uint64_t value = strtoull(at, &end, 10);
+  if (end == at) fail("no number where one is due");
+  at = end;
+  return value;
+}
+
+/* The next number, after a gap. */
+static uint64_t next(void) {
+  at += strspn(at, " ");
+  return number();
+}
+
+/* One item of a list, so many times as it says. */
+static void item(list *l) {
+  uint32_t parts[3] = {0, 0, 0};
+  size_t count = 1, part = 0;
+  parts[part++] = (uint32_t)number();
+  while (*at == ':' && part < 3) {
+    at++;
+    parts[part++] = (uint32_t)number();
+  }
+  if (*at == '*') {
+    at++;
+    count = number();
+  }
+  if (count > MOST - l->length) fail("a list is longer than this program takes");
+  for (; count > 0; count--, l->length++)
+    for (part = 0; part < 3; part++) l->fields[part][l->length] = parts[part];
+}
+
+/* The next list, after a gap. */
+static void next_list(list *l) {
+  at += strspn(at, " ");
+  l->length = 0;
+  if (*at == '-') {
+    at++;
+    return;
+  }
+  item(l);
+  while (*at == ',') {
+    at++;
+    item(l);
+  }
+}
+
+static void arrow(void) {
+  at += strspn(at, " ");
+  if (strncmp(at, "=> ", 3) != 0) fail("no => where it is due");
+  at += 3;
+  due = at;
+}
+
+/* ---- what is given and lent */
+
+static list given, second, expected;
+static irwystl_row rows[MOST], smaller_rows[MOST];
+static uint16_t table[MOST], other_table[MOST];
+static uint32_t basis[MOST], sigma[MOST], smaller[3][MOST];
+
+static void as_table(const list *l, uint16_t *entries) {
+  for (size_t i = 0; i < l->length; i++) entries[i] = (uint16_t)l->fields[0][i];
+}
+
+static void as_rows(const list *l) {
+  for (size_t i = 0; i < l->length; i++) {
+    rows[i].mask = l->fields[0][i];
+    rows[i].values = l->fields[1][i];
+    rows[i].word = l->fields[2][i];
+  }
+}
+
+static size_t room(void) {
+  uint64_t length = next();
+  if (length > MOST) fail("a room is longer than this program takes");
+  return (size_t)length;
+}
+
+/* Puts the pattern into everything that is lent, and goes back to the answer due. */
+static void lend(void) {
+  for (size_t i = 0; i < MOST; i++) {
+    irwystl_row held = {HELD, HELD, HELD};
+    basis[i] = sigma[i] = HELD;
+    smaller[0][i] = smaller[1][i] = smaller[2][i] = HELD;
+    smaller_rows[i] = held;
+    other_table[i] = HELD_ENTRY;
+  }
+  at = due;
+}
+
+/* ---- what came back, beside what is due */
+
+static void is(uint64_t got) {
+  if (got != next()) differs = 1;
+}
+
+static void answered(uint32_t number, size_t a, size_t b) {
+  is(number);
+  is(a);
+  is(b);
+}
+
+/* The numbers due stand at the front, and beyond them the pattern. */
+static void are(const uint32_t *lent, size_t field) {
+  for (size_t i = 0; i < MOST; i++)
+    if (lent[i] != (i < expected.length ? expected.fields[field][i] : HELD)) differs = 1;
+}
+
+static void is_list(const uint32_t *lent) {
+  next_list(&expected);
+  are(lent, 0);
+}
+
+static void is_table(void) {
+  next_list(&expected);
+  for (size_t i = 0; i < MOST; i++)
+    if (other_table[i] != (i < expected.length ? expected.fields[0][i] : HELD_ENTRY)) differs = 1;
+}
+
+static void are_records(void) {
+  next_list(&expected);
+  for (size_t i = 0; i < MOST; i++) {
+    smaller[0][i] = smaller_rows[i].mask;
+    smaller[1][i] = smaller_rows[i].values;
+    smaller[2][i] = smaller_rows[i].word;
+  }
+  for (size_t field = 0; field < 3; field++) are(smaller[field], field);
+}
+
+static void are_flat(void) {
+  next_list(&expected);
+  for (size_t field = 0; field < 3; field++) are(smaller[field], field);
+}
+
+static void ended(void) {
+  at += strspn(at, " \r\n");
+  if (*at != '\0') fail("more in the line than the case has");
+}
+
+/* ---- the operations */
+
+#define FLAT given.fields[0], given.length, given.fields[1], given.length, given.fields[2], given.length
+
+static void table_value(void) {
+  size_t n = next(), k = next(), t = next();
+  next_list(&given);
+  as_table(&given, table);
+  arrow();
+  irwystl_value_answer r = irwystl_table_value(n, k, t, table, given.length);
+  answered(r.number, r.a, r.b);
+  is(r.value);
+}
+
+static void is_value(irwystl_value_answer r) {
+  at = due;
+  answered(r.number, r.a, r.b);
+  is(r.value);
+}
+
+static void row_value(void) {
+  size_t n = next(), k = next(), t = next();
+  next_list(&given);
+  as_rows(&given);
+  arrow();
+  is_value(irwystl_records_row_value(n, k, t, rows, given.length));
+  is_value(irwystl_row_value(n, k, t, FLAT));
+}
+
+static void table_method(void) {
+  size_t n = next(), k = next(), w = next();
+  size_t table_room = room(), basis_room = room(), sigma_room = room();
+  next_list(&given);
+  as_table(&given, table);
+  arrow();
+  lend();
+  irwystl_table_method_answer r =
+      irwystl_table_method(n, k, w, table, given.length, basis, basis_room, sigma, sigma_room, other_table, table_room);
+  answered(r.number, r.a, r.b);
+  is(r.before);
+  is(r.after);
+  is_list(basis);
+  is_list(sigma);
+  is_table();
+}
+
+static void is_method(irwystl_row_method_answer r) {
+  answered(r.number, r.a, r.b);
+  is(r.before);
+  is(r.after);
+  is(r.count);
+  is_list(basis);
+  is_list(sigma);
+}
+
+static void row_method(void) {
+  size_t n = next(), k = next(), w = next();
+  size_t rows_room = room(), basis_room = room(), sigma_room = room();
+  next_list(&given);
+  as_rows(&given);
+  arrow();
+  lend();
+  is_method(irwystl_records_row_method(n, k, w, rows, given.length, basis, basis_room, sigma, sigma_room, smaller_rows, rows_room));
+  are_records();
+  lend();
+  is_method(irwystl_row_method(n, k, w, FLAT, basis, basis_room, sigma, sigma_room, smaller[0], rows_room, smaller[1], rows_room,
+                               smaller[2], rows_room));
+  are_flat();
+}
+
+static void is_filled(irwystl_answer r) {
+  answered(r.number, r.a, r.b);
+  is_table();
+}
+
+static void fill(void) {
+  size_t n = next(), k = next(), table_room = room();
+  next_list(&given);
+  as_rows(&given);
+  arrow();
+  lend();
+  is_filled(irwystl_records_fill_table(n, k, rows, given.length, other_table, table_room));
+  lend();
+  is_filled(irwystl_fill_table(n, k, FLAT, other_table, table_room));
+}
+
+static void restore(void) {
+  size_t n = next(), k = next(), table_room = room();
+  next_list(&given);
+  next_list(&second);
+  as_table(&second, table);
+  arrow();
+  lend();
+  is_filled(irwystl_restore_table(n, k, given.fields[0], given.length, table, second.length, other_table, table_room));
+}
+
+/* ---- the files */
+
+static const struct {
+  const char *name;
+  void (*run)(void);
+} operations[] = {{"table_value", table_value}, {"row_value", row_value}, {"table_method", table_method},
+                  {"row_method", row_method},   {"fill", fill},           {"restore", restore}};
+
+static void run_line(const char *line) {
+  size_t length = strcspn(line, " ");
+  differs = 0;
+  for (size_t i = 0; i < sizeof operations / sizeof operations[0]; i++)
+    if (strlen(operations[i].name) == length && strncmp(operations[i].name, line, length) == 0) {
+      at = line + length;
+      operations[i].run();
+      ended();
+      cases++;
+      wrong += (unsigned long)differs;
+      if (differs) printf("%s, line %lu: not the answer due: %.100s\n", file, line_number, line);
+      return;
+    }
+  fail("no operation of that name");
+}
+
+static void run_file(void) {
+  static char line[LONGEST_LINE];
+  FILE *in = fopen(file, "r");
+  line_number = 0;
+  if (in == NULL) fail("can't be read");
+  while (fgets(line, sizeof line, in) != NULL) {
+    line_number++;
+    if (strchr(line, '\n') == NULL) fail("the line is longer than this program takes, or has no end");
+    run_line(line);
+  }
+  fclose(in);
+}
+
+int main(int count, char **names) {
+  for (int i = 1; i < count; i++) {
+    file = names[i];
+    run_file();
+  }
+  printf("C: %lu cases of operations, %lu with another answer than the one due\n", cases, wrong);
+  return cases > 0 && wrong == 0 ? 0 : 1;
+}

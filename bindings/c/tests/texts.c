@@ -1,0 +1,184 @@
+/*
+ * The operations on texts, called through irwystl.h, on the texts that are named, NAME.txt, each beside what the program prints for it,
+ * NAME.sheet: printed and imported; read, written again and made a sheet of, with records and with flat arrays. Lent storage holds a
+ * pattern before each call and is looked at in full after it. The status is 0 where every text has what is due.
+ */
+#include "irwystl.h"
+
+#include <stdio.h>
+#include <stdlib.h>
+#include <string.h>
+
+#define MOST 32768
+#define HELD 0xAB
+#define NAME "fan.pla"
+
+typedef struct bytes {
+  uint8_t at[MOST];
+  size_t length;
+} bytes;
+
+static bytes text, due, out, line, due_line;
+static irwystl_row rows[IRWYSTL_MOST_ROWS];
+static uint32_t flat[3][IRWYSTL_MOST_ROWS];
+static const char *file;
+static unsigned long texts, wrong;
+
+/* what is due: a refusal, or else a sheet */
+static int refused;
+static unsigned long long number, a, b;
+
+static void differs(const char *what) {
+  printf("%s: %s\n", file, what);
+  wrong++;
+}
+
+/* ---- bytes */
+
+static void load(const char *name, bytes *into) {
+  FILE *in = fopen(name, "rb");
+  if (in == NULL) {
+    printf("%s can't be read\n", name);
+    exit(1);
+  }
+  into->length = fread(into->at, 1, sizeof into->at, in);
+  if (into->length == sizeof into->at) {
+    printf("%s is longer than this program takes\n", name);
+    exit(1);
+  }
+  into->at[into->length] = 0;
+  fclose(in);
+}
+
+static void lend(bytes *room) { memset(room->at, HELD, sizeof room->at); }
+
+/* The bytes due stand at the front, and beyond them the pattern. */
+static int holds(const bytes *room, const uint8_t *front, size_t length) {
+  for (size_t i = length; i < MOST; i++)
+    if (room->at[i] != HELD) return 0;
+  return memcmp(room->at, front, length) == 0;
+}
+
+/* The number after a line of the sheet that is due. */
+static unsigned long long after(const char *words) {
+  const char *found = strstr((const char *)due.at, words);
+  return found == NULL ? 0 : strtoull(found + strlen(words), NULL, 10);
+}
+
+/* The second of the two measures of the sheet that is due. */
+static unsigned long long second_measure(void) {
+  const char *found = strstr((const char *)due.at, "measure 2\n");
+  char *end = NULL;
+  if (found == NULL) return 0;
+  strtoull(found + strlen("measure 2\n"), &end, 10);
+  return strtoull(end, NULL, 10);
+}
+
+/* What is due of the text, off what the program prints for it. */
+static void expect(void) {
+  char *line_at = (char *)due_line.at;
+  int length;
+  refused = sscanf((const char *)due.at, "refused %llu %llu %llu", &number, &a, &b) == 3;
+  if (refused) {
+    length = snprintf(line_at, MOST, NAME " refused %llu %llu %llu", number, a, b);
+  } else {
+    number = a = b = 0;
+    length = snprintf(line_at, MOST, NAME " sheet %llu %llu %llu", after("\ntable "), after("measure 2\n"), second_measure());
+  }
+  due_line.length = (size_t)length;
+}
+
+/* ---- what came back, beside what is due */
+
+static void is_refusal(const char *what, uint32_t got, size_t got_a, size_t got_b) {
+  if (got != number || got_a != a || got_b != b) differs(what);
+}
+
+static void is_sheet(const char *what, irwystl_text_answer r) {
+  is_refusal(what, r.number, r.a, r.b);
+  size_t length = refused ? 0 : due.length;
+  if (r.count != length || !holds(&out, due.at, length)) differs(what);
+}
+
+static void is_text(const char *what, irwystl_text_answer r) {
+  if (r.number != 0 || r.a != 0 || r.b != 0 || r.count != text.length || !holds(&out, text.at, text.length)) differs(what);
+}
+
+/* ---- the operations */
+
+static void print(void) {
+  lend(&out);
+  size_t count = irwystl_print_text(text.at, text.length, out.at);
+  if (count != due.length || !holds(&out, due.at, due.length)) differs("irwystl_print_text");
+}
+
+static void import(void) {
+  lend(&out);
+  lend(&line);
+  irwystl_import_answer r =
+      irwystl_import_text((const uint8_t *)NAME, strlen(NAME), text.at, text.length, out.at, line.at);
+  irwystl_text_answer sheet = {r.number, r.a, r.b, r.count};
+  is_sheet("irwystl_import_text", sheet);
+  if (r.length != due_line.length || !holds(&line, due_line.at, due_line.length)) differs("the line of irwystl_import_text");
+}
+
+static size_t limit_of(size_t n) { return n < 3 ? n : 3; }
+
+#define FLAT flat[0], r.count, flat[1], r.count, flat[2], r.count
+
+/* A text that can be read is written again, and made a sheet of. */
+static void with_records(void) {
+  irwystl_read_answer r = irwystl_records_read_text(text.at, text.length, rows, IRWYSTL_MOST_ROWS);
+  if (r.number != 0) {
+    is_refusal("irwystl_records_read_text", r.number, r.a, r.b);
+    if (r.n != 0 || r.k != 0 || r.count != 0) differs("irwystl_records_read_text");
+    return;
+  }
+  lend(&out);
+  is_text("irwystl_records_write_text", irwystl_records_write_text(r.n, r.k, rows, r.count, out.at, IRWYSTL_TEXT_ROOM));
+  lend(&out);
+  is_sheet("irwystl_records_sheet", irwystl_records_sheet(r.n, r.k, limit_of(r.n), rows, r.count, out.at, IRWYSTL_SHEET_ROOM));
+}
+
+static void with_flat_arrays(void) {
+  irwystl_read_answer r = irwystl_read_text(text.at, text.length, flat[0], IRWYSTL_MOST_ROWS, flat[1], IRWYSTL_MOST_ROWS, flat[2],
+                                            IRWYSTL_MOST_ROWS);
+  if (r.number != 0) {
+    is_refusal("irwystl_read_text", r.number, r.a, r.b);
+    if (r.n != 0 || r.k != 0 || r.count != 0) differs("irwystl_read_text");
+    return;
+  }
+  lend(&out);
+  is_text("irwystl_write_text", irwystl_write_text(r.n, r.k, FLAT, out.at, IRWYSTL_TEXT_ROOM));
+  lend(&out);
+  is_sheet("irwystl_sheet", irwystl_sheet(r.n, r.k, limit_of(r.n), FLAT, out.at, IRWYSTL_SHEET_ROOM));
+}
+
+/* NAME.sheet for NAME.txt */
+static void load_due(void) {
+  static char name[4096];
+  size_t length = strlen(file);
+  if (length < 4 || length > sizeof name - 4 || strcmp(file + length - 4, ".txt") != 0) {
+    printf("%s is no .txt\n", file);
+    exit(1);
+  }
+  memcpy(name, file, length - 4);
+  strcpy(name + length - 4, ".sheet");
+  load(name, &due);
+}
+
+int main(int count, char **names) {
+  for (int i = 1; i < count; i++) {
+    file = names[i];
+    load(file, &text);
+    load_due();
+    expect();
+    print();
+    import();
+    with_records();
+    with_flat_arrays();
+    texts++;
+  }
+  printf("C: %lu texts, %lu answers that are not those due\n", texts, wrong);
+  return texts > 0 && wrong == 0 ? 0 : 1;
+}

@@ -1,0 +1,318 @@
+//! The functions of the static library as C has them: bindings/c/irwystl.h says
+//! what each does and asks for. The functions of this crate call these, and need
+//! no `unsafe`.
+
+use crate::{Headings, Imported, Measures, Refusal, Row, Smaller};
+
+#[repr(C)]
+#[derive(Clone, Copy, Debug, PartialEq, Eq)]
+pub struct Answer {
+    pub number: u32,
+    pub a: usize,
+    pub b: usize,
+}
+
+#[repr(C)]
+#[derive(Clone, Copy, Debug, PartialEq, Eq)]
+pub struct ValueAnswer {
+    pub number: u32,
+    pub a: usize,
+    pub b: usize,
+    pub value: u64,
+}
+
+#[repr(C)]
+#[derive(Clone, Copy, Debug, PartialEq, Eq)]
+pub struct TableMethodAnswer {
+    pub number: u32,
+    pub a: usize,
+    pub b: usize,
+    pub before: u64,
+    pub after: u64,
+}
+
+#[repr(C)]
+#[derive(Clone, Copy, Debug, PartialEq, Eq)]
+pub struct RowMethodAnswer {
+    pub number: u32,
+    pub a: usize,
+    pub b: usize,
+    pub before: u64,
+    pub after: u64,
+    pub count: usize,
+}
+
+#[repr(C)]
+#[derive(Clone, Copy, Debug, PartialEq, Eq)]
+pub struct TextAnswer {
+    pub number: u32,
+    pub a: usize,
+    pub b: usize,
+    pub count: usize,
+}
+
+#[repr(C)]
+#[derive(Clone, Copy, Debug, PartialEq, Eq)]
+pub struct ReadAnswer {
+    pub number: u32,
+    pub a: usize,
+    pub b: usize,
+    pub n: usize,
+    pub k: usize,
+    pub count: usize,
+}
+
+#[repr(C)]
+#[derive(Clone, Copy, Debug, PartialEq, Eq)]
+pub struct ImportAnswer {
+    pub number: u32,
+    pub a: usize,
+    pub b: usize,
+    pub count: usize,
+    pub length: usize,
+}
+
+/// The results, or why there are none.
+fn result<R>(number: u32, a: usize, b: usize, results: R) -> Result<R, Refusal> {
+    Refusal::of(number, a, b).map_or(Ok(results), Err)
+}
+
+impl Answer {
+    pub(crate) fn result(self) -> Result<(), Refusal> {
+        result(self.number, self.a, self.b, ())
+    }
+}
+
+impl ValueAnswer {
+    pub(crate) fn result(self) -> Result<u64, Refusal> {
+        result(self.number, self.a, self.b, self.value)
+    }
+}
+
+impl TableMethodAnswer {
+    pub(crate) fn result(self) -> Result<Measures, Refusal> {
+        let [before, after] = [self.before, self.after];
+        result(self.number, self.a, self.b, Measures { before, after })
+    }
+}
+
+impl RowMethodAnswer {
+    pub(crate) fn result(self) -> Result<Smaller, Refusal> {
+        let smaller = Smaller {
+            before: self.before,
+            after: self.after,
+            count: self.count,
+        };
+        result(self.number, self.a, self.b, smaller)
+    }
+}
+
+impl TextAnswer {
+    pub(crate) fn result(self) -> Result<usize, Refusal> {
+        result(self.number, self.a, self.b, self.count)
+    }
+}
+
+impl ReadAnswer {
+    pub(crate) fn result(self) -> Result<Headings, Refusal> {
+        let [n, k, count] = [self.n, self.k, self.count];
+        result(self.number, self.a, self.b, Headings { n, k, count })
+    }
+}
+
+impl ImportAnswer {
+    pub(crate) fn result(self) -> Imported {
+        Imported {
+            sheet: result(self.number, self.a, self.b, self.count),
+            line: self.length,
+        }
+    }
+}
+
+extern "C" {
+    pub fn irwystl_table_value(
+        n: usize,
+        k: usize,
+        t: usize,
+        table: *const u16,
+        table_length: usize,
+    ) -> ValueAnswer;
+
+    pub fn irwystl_table_method(
+        n: usize,
+        k: usize,
+        w: usize,
+        table: *const u16,
+        table_length: usize,
+        basis: *mut u32,
+        basis_length: usize,
+        sigma: *mut u32,
+        sigma_length: usize,
+        smaller: *mut u16,
+        smaller_length: usize,
+    ) -> TableMethodAnswer;
+
+    pub fn irwystl_restore_table(
+        n: usize,
+        k: usize,
+        sigma: *const u32,
+        sigma_length: usize,
+        smaller: *const u16,
+        smaller_length: usize,
+        table: *mut u16,
+        table_length: usize,
+    ) -> Answer;
+
+    pub fn irwystl_records_row_value(
+        n: usize,
+        k: usize,
+        t: usize,
+        rows: *const Row,
+        rows_length: usize,
+    ) -> ValueAnswer;
+
+    pub fn irwystl_records_row_method(
+        n: usize,
+        k: usize,
+        w: usize,
+        rows: *const Row,
+        rows_length: usize,
+        basis: *mut u32,
+        basis_length: usize,
+        sigma: *mut u32,
+        sigma_length: usize,
+        smaller: *mut Row,
+        smaller_length: usize,
+    ) -> RowMethodAnswer;
+
+    pub fn irwystl_records_fill_table(
+        n: usize,
+        k: usize,
+        rows: *const Row,
+        rows_length: usize,
+        table: *mut u16,
+        table_length: usize,
+    ) -> Answer;
+
+    pub fn irwystl_records_write_text(
+        n: usize,
+        k: usize,
+        rows: *const Row,
+        rows_length: usize,
+        out: *mut u8,
+        out_length: usize,
+    ) -> TextAnswer;
+
+    pub fn irwystl_records_read_text(
+        text: *const u8,
+        text_length: usize,
+        rows: *mut Row,
+        rows_length: usize,
+    ) -> ReadAnswer;
+
+    pub fn irwystl_records_sheet(
+        n: usize,
+        k: usize,
+        w: usize,
+        rows: *const Row,
+        rows_length: usize,
+        out: *mut u8,
+        out_length: usize,
+    ) -> TextAnswer;
+
+    pub fn irwystl_row_value(
+        n: usize,
+        k: usize,
+        t: usize,
+        masks: *const u32,
+        masks_length: usize,
+        values: *const u32,
+        values_length: usize,
+        words: *const u32,
+        words_length: usize,
+    ) -> ValueAnswer;
+
+    pub fn irwystl_row_method(
+        n: usize,
+        k: usize,
+        w: usize,
+        masks: *const u32,
+        masks_length: usize,
+        values: *const u32,
+        values_length: usize,
+        words: *const u32,
+        words_length: usize,
+        basis: *mut u32,
+        basis_length: usize,
+        sigma: *mut u32,
+        sigma_length: usize,
+        smaller_masks: *mut u32,
+        smaller_masks_length: usize,
+        smaller_values: *mut u32,
+        smaller_values_length: usize,
+        smaller_words: *mut u32,
+        smaller_words_length: usize,
+    ) -> RowMethodAnswer;
+
+    pub fn irwystl_fill_table(
+        n: usize,
+        k: usize,
+        masks: *const u32,
+        masks_length: usize,
+        values: *const u32,
+        values_length: usize,
+        words: *const u32,
+        words_length: usize,
+        table: *mut u16,
+        table_length: usize,
+    ) -> Answer;
+
+    pub fn irwystl_write_text(
+        n: usize,
+        k: usize,
+        masks: *const u32,
+        masks_length: usize,
+        values: *const u32,
+        values_length: usize,
+        words: *const u32,
+        words_length: usize,
+        out: *mut u8,
+        out_length: usize,
+    ) -> TextAnswer;
+
+    pub fn irwystl_read_text(
+        text: *const u8,
+        text_length: usize,
+        masks: *mut u32,
+        masks_length: usize,
+        values: *mut u32,
+        values_length: usize,
+        words: *mut u32,
+        words_length: usize,
+    ) -> ReadAnswer;
+
+    pub fn irwystl_sheet(
+        n: usize,
+        k: usize,
+        w: usize,
+        masks: *const u32,
+        masks_length: usize,
+        values: *const u32,
+        values_length: usize,
+        words: *const u32,
+        words_length: usize,
+        out: *mut u8,
+        out_length: usize,
+    ) -> TextAnswer;
+
+    pub fn irwystl_print_text(text: *const u8, text_length: usize, out: *mut u8) -> usize;
+
+    pub fn irwystl_import_text(
+        name: *const u8,
+        name_length: usize,
+        text: *const u8,
+        text_length: usize,
+        sheet: *mut u8,
+        line: *mut u8,
+    ) -> ImportAnswer;
+}

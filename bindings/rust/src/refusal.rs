@@ -1,0 +1,110 @@
+//! Why a call is refused.
+
+use std::fmt;
+
+/// Why a call is refused, with the places that it names. docs/REFUSALS.md says
+/// of each what to do about it.
+#[derive(Clone, Copy, Debug, PartialEq, Eq, Hash)]
+pub enum Refusal {
+    /// 1: the number of inputs n is out of range.
+    Inputs,
+    /// 2: the number of outputs k is out of range.
+    Outputs,
+    /// 3: the weight limit w is not 1 to n, or t is not below 2^n.
+    Limit,
+    /// 4: no row or too many, flat rows of unequal length, a table without 2^n
+    /// entries, a matrix without n rows.
+    Count,
+    /// 5: the room lent for a result is too short.
+    Room,
+    /// 6: a row or a table entry, counted from 0, is malformed.
+    Record { index: usize },
+    /// 6: a row of the matrix, counted from 0, is not below 2^n.
+    MatrixRow { index: usize },
+    /// 7: two rows, counted from 0, share a point.
+    SharedPoint { first: usize, second: usize },
+    /// 8: a row of the matrix, counted from 0, is the XOR of some rows before
+    /// it, or 0.
+    DependentRow { index: usize },
+    /// 9: at this step, counted from 1, the smaller rows pass 512.
+    TooManyRows { step: usize },
+    /// 10: a line of the text, counted from 1, is not of the form due there.
+    Line { line: usize },
+}
+
+impl Refusal {
+    /// The number and the two places, as the program prints them: "refused N A B".
+    pub fn numbers(self) -> (u32, usize, usize) {
+        match self {
+            Refusal::Inputs => (1, 0, 0),
+            Refusal::Outputs => (2, 0, 0),
+            Refusal::Limit => (3, 0, 0),
+            Refusal::Count => (4, 0, 0),
+            Refusal::Room => (5, 0, 0),
+            Refusal::Record { index } => (6, 0, index),
+            Refusal::MatrixRow { index } => (6, 1, index),
+            Refusal::SharedPoint { first, second } => (7, first, second),
+            Refusal::DependentRow { index } => (8, index, 0),
+            Refusal::TooManyRows { step } => (9, step, 0),
+            Refusal::Line { line } => (10, line, 0),
+        }
+    }
+
+    /// The refusal of a number and its places; none for 0. The library gives no
+    /// number above 10, so the last case is 10.
+    pub(crate) fn of(number: u32, a: usize, b: usize) -> Option<Refusal> {
+        Some(match number {
+            0 => return None,
+            1 => Refusal::Inputs,
+            2 => Refusal::Outputs,
+            3 => Refusal::Limit,
+            4 => Refusal::Count,
+            5 => Refusal::Room,
+            6 if a == 0 => Refusal::Record { index: b },
+            6 => Refusal::MatrixRow { index: b },
+            7 => Refusal::SharedPoint {
+                first: a,
+                second: b,
+            },
+            8 => Refusal::DependentRow { index: a },
+            9 => Refusal::TooManyRows { step: a },
+            _ => Refusal::Line { line: a },
+        })
+    }
+}
+
+impl fmt::Display for Refusal {
+    fn fmt(&self, out: &mut fmt::Formatter<'_>) -> fmt::Result {
+        match self {
+            Refusal::Inputs => write!(out, "the number of inputs is out of range"),
+            Refusal::Outputs => write!(out, "the number of outputs is out of range"),
+            Refusal::Limit => write!(out, "the weight limit, or t, is out of range"),
+            Refusal::Count => write!(out, "the number of rows or entries is out of range"),
+            Refusal::Room => write!(out, "the room lent for a result is too short"),
+            Refusal::Record { index } => {
+                write!(out, "record {index}, counted from 0, is malformed")
+            }
+            Refusal::MatrixRow { index } => {
+                write!(out, "matrix row {index}, counted from 0, is malformed")
+            }
+            Refusal::SharedPoint { first, second } => {
+                write!(
+                    out,
+                    "rows {first} and {second}, counted from 0, share a point"
+                )
+            }
+            Refusal::DependentRow { index } => {
+                write!(
+                    out,
+                    "matrix row {index}, counted from 0, is the XOR of some before it, or 0"
+                )
+            }
+            Refusal::TooManyRows { step } => {
+                write!(out, "at step {step} the smaller rows pass 512")
+            }
+            Refusal::Line { line } => write!(out, "line {line} is not of the form due there"),
+        }
+    }
+}
+
+impl std::error::Error for Refusal {}

@@ -1,0 +1,226 @@
+//! The functions of this crate on the cases with answers (outside/CASES.md) and on
+//! drawn calls against the independent implementation: answers and all lent storage.
+
+use irwystl::flat::{self, Room, Rows};
+use irwystl::{Headings, Refusal, SHEET_ROOM};
+use reference::data::{check_lists, check_operations};
+use reference::inputs::Case;
+use reference::{Answer, Flat, FlatRoom, Measures, Operations, Plain, Row, Smaller, TextHead};
+
+/// This crate as one more implementation of 01.
+struct Safe;
+
+fn answer<R, S: Default>(outcome: Result<R, Refusal>, results: impl Fn(R) -> S) -> Answer<S> {
+    let refused = outcome.as_ref().err().map(|refusal| refusal.numbers());
+    let (number, a, b) = refused.unwrap_or_default();
+    Answer {
+        number,
+        a: a as u32,
+        b: b as u32,
+        results: outcome.map(results).unwrap_or_default(),
+    }
+}
+
+fn smaller_of(found: irwystl::Smaller) -> Smaller {
+    Smaller {
+        before: found.before,
+        after: found.after,
+        rows: found.count,
+    }
+}
+
+fn head_of(told: Headings) -> TextHead {
+    TextHead {
+        n: told.n,
+        k: told.k,
+        rows: told.count,
+    }
+}
+
+fn records(rows: &[Row]) -> Vec<irwystl::Row> {
+    let record = |row: &Row| irwystl::Row {
+        mask: row.mask,
+        values: row.values,
+        word: row.word,
+    };
+    rows.iter().map(record).collect()
+}
+
+/// What a call makes of room for records.
+fn lent<R>(room: &mut [Row], call: impl FnOnce(&mut [irwystl::Row]) -> R) -> R {
+    let mut held = records(room);
+    let outcome = call(&mut held);
+    for (row, held) in room.iter_mut().zip(held) {
+        [row.mask, row.values, row.word] = [held.mask, held.values, held.word];
+    }
+    outcome
+}
+
+fn given(rows: Flat<'_>) -> Rows<'_> {
+    Rows {
+        masks: rows.masks,
+        values: rows.values,
+        words: rows.words,
+    }
+}
+
+fn room_of(room: FlatRoom<'_>) -> Room<'_> {
+    Room {
+        masks: room.masks,
+        values: room.values,
+        words: room.words,
+    }
+}
+
+impl Operations for Safe {
+    fn table_value(n: usize, k: usize, t: usize, table: &[u16]) -> Answer<u64> {
+        answer(irwystl::table_value(n, k, t, table), |value| value)
+    }
+
+    fn table_method(
+        n: usize,
+        k: usize,
+        w: usize,
+        table: &[u16],
+        smaller: &mut [u16],
+        columns: &mut [u32],
+        sigma: &mut [u32],
+    ) -> Answer<Measures> {
+        let found = irwystl::table_method(n, k, w, table, columns, sigma, smaller);
+        answer(found, |found| Measures {
+            before: found.before,
+            after: found.after,
+        })
+    }
+
+    fn restore(
+        n: usize,
+        k: usize,
+        sigma: &[u32],
+        smaller: &[u16],
+        table: &mut [u16],
+    ) -> Answer<()> {
+        answer(irwystl::restore_table(n, k, sigma, smaller, table), |()| ())
+    }
+
+    fn row_value(n: usize, k: usize, t: usize, rows: Flat) -> Answer<u64> {
+        answer(flat::row_value(n, k, t, given(rows)), |value| value)
+    }
+
+    fn row_value_records(n: usize, k: usize, t: usize, rows: &[Row]) -> Answer<u64> {
+        answer(irwystl::row_value(n, k, t, &records(rows)), |value| value)
+    }
+
+    fn row_method(
+        n: usize,
+        k: usize,
+        w: usize,
+        rows: Flat,
+        smaller: FlatRoom,
+        columns: &mut [u32],
+        sigma: &mut [u32],
+    ) -> Answer<Smaller> {
+        let room = room_of(smaller);
+        answer(
+            flat::row_method(n, k, w, given(rows), columns, sigma, room),
+            smaller_of,
+        )
+    }
+
+    fn row_method_records(
+        n: usize,
+        k: usize,
+        w: usize,
+        rows: &[Row],
+        smaller: &mut [Row],
+        columns: &mut [u32],
+        sigma: &mut [u32],
+    ) -> Answer<Smaller> {
+        let rows = records(rows);
+        let found = lent(smaller, |room| {
+            irwystl::row_method(n, k, w, &rows, columns, sigma, room)
+        });
+        answer(found, smaller_of)
+    }
+
+    fn fill(n: usize, k: usize, rows: Flat, table: &mut [u16]) -> Answer<()> {
+        answer(flat::fill_table(n, k, given(rows), table), |()| ())
+    }
+
+    fn fill_records(n: usize, k: usize, rows: &[Row], table: &mut [u16]) -> Answer<()> {
+        answer(irwystl::fill_table(n, k, &records(rows), table), |()| ())
+    }
+
+    fn read_text(text: &[u8], room: FlatRoom) -> Answer<TextHead> {
+        answer(flat::read_text(text, room_of(room)), head_of)
+    }
+
+    fn read_text_records(text: &[u8], room: &mut [Row]) -> Answer<TextHead> {
+        let told = lent(room, |rows| irwystl::read_text(text, rows));
+        answer(told, head_of)
+    }
+
+    fn write_text(n: usize, k: usize, rows: Flat, text: &mut [u8]) -> Answer<usize> {
+        answer(flat::write_text(n, k, given(rows), text), |count| count)
+    }
+
+    fn write_text_records(n: usize, k: usize, rows: &[Row], text: &mut [u8]) -> Answer<usize> {
+        let written = irwystl::write_text(n, k, &records(rows), text);
+        answer(written, |count| count)
+    }
+
+    fn sheet(n: usize, k: usize, w: usize, rows: Flat, bytes: &mut [u8]) -> Answer<usize> {
+        answer(flat::sheet(n, k, w, given(rows), bytes), |count| count)
+    }
+
+    fn sheet_records(
+        n: usize,
+        k: usize,
+        w: usize,
+        rows: &[Row],
+        bytes: &mut [u8],
+    ) -> Answer<usize> {
+        let written = irwystl::sheet(n, k, w, &records(rows), bytes);
+        answer(written, |count| count)
+    }
+
+    fn program(input: &[u8]) -> Vec<u8> {
+        let mut out = [0; SHEET_ROOM];
+        let count = irwystl::print_text(input, &mut out);
+        out[..count].to_vec()
+    }
+}
+
+#[test]
+fn every_operation_has_the_answer_due() {
+    check_operations::<Safe>();
+}
+
+#[test]
+fn every_list_has_the_sheet_due() {
+    check_lists::<Safe>();
+}
+
+#[test]
+fn drawn_calls() {
+    for seed in 0..600 {
+        let mut due = Case::new(seed);
+        let mut got = due.clone();
+        assert_eq!(got.run::<Safe>(), due.run::<Plain>(), "seed {seed}");
+        assert_eq!(got, due, "seed {seed}: what was lent");
+    }
+}
+
+#[test]
+fn drawn_calls_with_records() {
+    for seed in 0..600 {
+        let mut due = Case::new(seed);
+        let mut got = due.clone();
+        assert_eq!(
+            got.run_records::<Safe>(),
+            due.run_records::<Plain>(),
+            "seed {seed}"
+        );
+        assert_eq!(got, due, "seed {seed}: what was lent");
+    }
+}
