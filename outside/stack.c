@@ -1,0 +1,128 @@
+/*
+ * How much stack each operation takes: called in a thread whose stack was filled with one byte, and counted down to the lowest byte that
+ * changed. The code has no recursion and its arrays have fixed lengths, so what a call takes goes by the functions that it reaches; each
+ * operation is called on a list or table that it answers. Prints a line an operation, and ends with 1 where one takes more than MOST or is
+ * refused.
+ */
+#define _GNU_SOURCE
+#include <pthread.h>
+#include <stdio.h>
+#include <string.h>
+#include <sys/mman.h>
+
+#include "irwystl.h"
+
+#define MOST ((size_t)1 << 20)
+#define STACK (4 * MOST)
+#define FILL 0xA5
+#define ROWS 128
+#define POINTS 4096
+
+static irwystl_row rows[ROWS], smaller[IRWYSTL_SMALLER_ROWS];
+static uint32_t masks[ROWS], values[ROWS], words[ROWS], basis[16], sigma[16];
+static uint32_t smaller_masks[IRWYSTL_SMALLER_ROWS], smaller_values[IRWYSTL_SMALLER_ROWS], smaller_words[IRWYSTL_SMALLER_ROWS];
+static uint16_t table[POINTS], made[POINTS];
+static uint8_t text[8192], out[IRWYSTL_SHEET_ROOM], line[IRWYSTL_LINE_ROOM];
+static size_t text_length;
+
+#define FLAT masks, ROWS, values, ROWS, words, ROWS
+
+static uint32_t nothing(void) { return 0; }
+static uint32_t table_value(void) { return irwystl_table_value(12, 7, 5, table, POINTS).number; }
+static uint32_t table_method(void) { return irwystl_table_method(12, 7, 12, table, POINTS, basis, 16, sigma, 16, made, POINTS).number; }
+static uint32_t restore_table(void) { return irwystl_restore_table(12, 7, sigma, 12, table, POINTS, made, POINTS).number; }
+static uint32_t row_value(void) { return irwystl_row_value(16, 7, 5, FLAT).number; }
+static uint32_t row_method(void) {
+  return irwystl_row_method(16, 7, 16, FLAT, basis, 16, sigma, 16, smaller_masks, IRWYSTL_SMALLER_ROWS, smaller_values, IRWYSTL_SMALLER_ROWS,
+                            smaller_words, IRWYSTL_SMALLER_ROWS).number;
+}
+static uint32_t fill_table(void) { return irwystl_fill_table(12, 7, FLAT, made, POINTS).number; }
+static uint32_t write_text(void) {
+  irwystl_text_answer r = irwystl_write_text(16, 7, FLAT, text, sizeof text);
+  text_length = r.count;
+  return r.number;
+}
+static uint32_t read_text(void) {
+  return irwystl_read_text(text, text_length, smaller_masks, ROWS, smaller_values, ROWS, smaller_words, ROWS).number;
+}
+static uint32_t sheet(void) { return irwystl_sheet(16, 7, 16, FLAT, out, sizeof out).number; }
+static uint32_t records_row_value(void) { return irwystl_records_row_value(16, 7, 5, rows, ROWS).number; }
+static uint32_t records_row_method(void) {
+  return irwystl_records_row_method(16, 7, 16, rows, ROWS, basis, 16, sigma, 16, smaller, IRWYSTL_SMALLER_ROWS).number;
+}
+static uint32_t records_fill_table(void) { return irwystl_records_fill_table(12, 7, rows, ROWS, made, POINTS).number; }
+static uint32_t records_write_text(void) { return irwystl_records_write_text(16, 7, rows, ROWS, out, sizeof out).number; }
+static uint32_t records_read_text(void) { return irwystl_records_read_text(text, text_length, smaller, ROWS).number; }
+static uint32_t records_sheet(void) { return irwystl_records_sheet(16, 7, 16, rows, ROWS, out, sizeof out).number; }
+static uint32_t print_text(void) { return irwystl_print_text(text, text_length, out) == 0 || out[0] != 's'; }
+static uint32_t import_text(void) { return irwystl_import_text((const uint8_t *)"name", 4, text, text_length, out, line).number; }
+
+struct call {
+  const char *name;
+  uint32_t (*operation)(void);
+  uint32_t number;
+};
+
+static void *make(void *p) {
+  struct call *call = p;
+  call->number = call->operation();
+  return NULL;
+}
+
+/* what a call takes, with the thread's own start; 0 where the thread can't be had */
+static size_t taken(struct call *call) {
+  uint8_t *stack = mmap(NULL, STACK, PROT_READ | PROT_WRITE, MAP_PRIVATE | MAP_ANONYMOUS | MAP_STACK, -1, 0);
+  pthread_attr_t attributes;
+  pthread_t thread;
+  size_t low = 0;
+  if (stack == MAP_FAILED) return 0;
+  memset(stack, FILL, STACK);
+  pthread_attr_init(&attributes);
+  if (pthread_attr_setstack(&attributes, stack, STACK) != 0 || pthread_create(&thread, &attributes, make, call) != 0) return 0;
+  pthread_join(thread, NULL);
+  while (low < STACK && stack[low] == FILL) low++;
+  munmap(stack, STACK);
+  return STACK - low;
+}
+
+int main(void) {
+  struct call none = {"nothing", nothing, 0};
+  struct call calls[] = {
+      {"table_value", table_value, 0},
+      {"table_method", table_method, 0},
+      {"restore_table", restore_table, 0},
+      {"row_value", row_value, 0},
+      {"row_method", row_method, 0},
+      {"fill_table", fill_table, 0},
+      {"write_text", write_text, 0},
+      {"read_text", read_text, 0},
+      {"sheet", sheet, 0},
+      {"records_row_value", records_row_value, 0},
+      {"records_row_method", records_row_method, 0},
+      {"records_fill_table", records_fill_table, 0},
+      {"records_write_text", records_write_text, 0},
+      {"records_read_text", records_read_text, 0},
+      {"records_sheet", records_sheet, 0},
+      {"print_text", print_text, 0},
+      {"import_text", import_text, 0},
+  };
+  size_t i, start;
+  int failed = 0;
+  for (i = 0; i < ROWS; i++) {
+    masks[i] = ROWS - 1;
+    values[i] = (uint32_t)i;
+    words[i] = (uint32_t)(i * 37 + 11) % 128;
+    rows[i].mask = masks[i];
+    rows[i].values = values[i];
+    rows[i].word = words[i];
+  }
+  for (i = 0; i < POINTS; i++) table[i] = (uint16_t)((i * 37 + 11) % 128);
+  taken(&none);
+  start = taken(&none);
+  for (i = 0; i < sizeof calls / sizeof *calls; i++) {
+    size_t bytes = taken(&calls[i]);
+    if (bytes == 0 || bytes > MOST || calls[i].number != 0) failed = 1;
+    printf("%-20s %7zu bytes%s\n", calls[i].name, bytes < start ? 0 : bytes - start, calls[i].number != 0 ? ", refused" : "");
+  }
+  return failed;
+}
