@@ -1,2 +1,2 @@
--- What symbols spell: `Bounds` has how large it can be.
-pub mod Bounds
+-- What symbols spell, counted without a case for each.
+pub mod Told

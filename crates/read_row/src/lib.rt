@@ -4,30 +4,53 @@ use block::Row;
 use read_laws::Line;
 use read_laws::Spelling;
 ghost use mathlib.Core.Path.{_≡_};
-ghost use Prim.Native.Nat.{_+_, _^_, _≤_, _<_};
+ghost use Prim.Native.Nat.{_+_, _≤_, _<_};
 ghost use Rattle.block.specs.Limits.{listInputs, outputs};
-ghost use Rattle.read_laws.specs.ByPlace.{farthest, maskOf, valuesOf, stepOf, spelledAt, joinedOf, rowFrom};
+ghost use Rattle.read_laws.specs.ByPlace.{farthest, spelledAt, joinedOf, rowFrom};
+ghost use Rattle.read_row.specs.Told.{fixedOf, oneOf, strangeOf, toldOf};
 
-// One symbol more, as the lowest input; `free` is the byte of a free one.
-pub fn step(st: Spelling, b: usize, free: usize) -> Spelling
-    requires { ⌜ (maskOf st < 2 ^ 31) × (valuesOf st < 2 ^ 31) ⌝ }
-    ensures { λ r. ⌜ r ≡ stepOf st b free ⌝ }
+// 1 where a symbol is 0 or 1, and so fixes its input, and else 0. This and the next two are functions of their own so that the loop over
+// symbols has no branch on a symbol: a processor can't foresee those.
+pub fn fixed(b: usize) -> u32
+    ensures { λ r. ⌜ r ≡ fixedOf b ⌝ }
 {
-    match st {
-        Spelling::Bad => Spelling::Bad,
-        Spelling::Good(m, v) => {
-            if b == 48 {
-                return Spelling::Good(m * 2 + 1, v * 2);
-            }
-            if b == 49 {
-                return Spelling::Good(m * 2 + 1, v * 2 + 1);
-            }
-            if b == free {
-                return Spelling::Good(m * 2, v * 2);
-            }
-            Spelling::Bad
-        }
+    if b == 48 {
+        return 1;
     }
+    if b == 49 { 1 } else { 0 }
+}
+
+// 1 where a symbol is 1, and else 0.
+pub fn one(b: usize) -> u32
+    ensures { λ r. ⌜ r ≡ oneOf b ⌝ }
+{
+    if b == 48 {
+        return 0;
+    }
+    if b == 49 { 1 } else { 0 }
+}
+
+// 1 where a byte is no symbol, and else 0; `free` is the byte of a free one.
+pub fn strange(b: usize, free: usize) -> u32
+    ensures { λ r. ⌜ r ≡ strangeOf b free ⌝ }
+{
+    if b == 48 {
+        return 0;
+    }
+    if b == 49 {
+        return 0;
+    }
+    if b == free { 0 } else { 1 }
+}
+
+// What is spelled, where so many bytes were no symbols.
+pub fn told(bad: u32, m: u32, v: u32) -> Spelling
+    ensures { λ r. ⌜ r ≡ toldOf bad m v ⌝ }
+{
+    if bad == 0 {
+        return Spelling::Good(m, v);
+    }
+    Spelling::Bad
 }
 
 // The symbols from a place on: at most as many as a number of 32 bits holds.
@@ -35,13 +58,18 @@ pub fn spelling(s: &[u8], from: usize, count: usize, free: usize) -> Spelling
     requires { ⌜ (from < farthest) × (count ≤ 32) ⌝ }
     ensures { λ r. ⌜ r ≡ spelledAt (now (s .entry)) from free count ⌝ }
 {
-    let mut st = Spelling::Good(0, 0);
+    let mut m: u32 = 0;
+    let mut v: u32 = 0;
+    let mut bad: u32 = 0;
     let mut i = 0;
     while i < count {
-        st = step(st, read_bytes::byte(s, from + i), free);
+        let b = read_bytes::byte(s, from + i);
+        m = m * 2 + fixed(b);
+        v = v * 2 + one(b);
+        bad += strange(b, free);
         i += 1;
     }
-    st
+    told(bad, m, v)
 }
 
 // A row's parts: its inputs, the byte after them, its outputs, the byte after them.
