@@ -22,10 +22,14 @@ ghost use Rattle.row_shifts.specs.Stored.{CubesAt, addedBy};
 // The cubes of the rows given: one for each pair i up to j.
 pub const CUBES: usize = GIVEN_ROWS * (GIVEN_ROWS + 1) / 2;
 
-// A short list, and its cubes.
+// Those of a short list, and of one that is not long.
 pub const FEW_ROWS: usize = 16;
 
 pub const FEW_CUBES: usize = FEW_ROWS * (FEW_ROWS + 1) / 2;
+
+pub const SOME_ROWS: usize = 64;
+
+pub const SOME_CUBES: usize = SOME_ROWS * (SOME_ROWS + 1) / 2;
 
 // Puts the cube of the rows i and j at a place of the three slices.
 pub fn put_cube(
@@ -221,6 +225,24 @@ pub fn shifts_of_rows(
             &mut few_masks,
             &mut few_values,
             &mut few_weights,
+            ts,
+            places,
+            out,
+        );
+        return;
+    }
+    if masks.len() <= SOME_ROWS {
+        let mut some_masks = [0u32; SOME_CUBES];
+        let mut some_values = [0u32; SOME_CUBES];
+        let mut some_weights = [0u32; SOME_CUBES];
+        shifts_in_room(
+            n,
+            masks,
+            values,
+            words,
+            &mut some_masks,
+            &mut some_values,
+            &mut some_weights,
             ts,
             places,
             out,

@@ -1,4 +1,5 @@
--- `row_shifts::shifts_of_rows` meets its contract: the room is enough for the cubes, of a short list and of any. Assumes nothing.
+-- `row_shifts::shifts_of_rows` meets its contract: the room is enough for the cubes, of a short list, of one that is
+-- not long, and of any. Assumes nothing.
 use native.Mathlib.Omega.{arith}
 use Rattle.block.specs.Limits.{givenRows}
 use Rattle.row_shifts.specs.Looped.{roomy-few}
@@ -38,14 +39,35 @@ slice-aggregate-shifts-in-room-6 c = search needs
 
 shifts-in-room-requires-2 : tie.Need-shifts-in-room-requires-2
 shifts-in-room-requires-2 c κs =
-    let s = c .before .before .before .before .before .before .before .before .before .before in
-    (s .pre .0, (s .pre .1 .0, (roomy-few _ givenRows 8256 8256 8256 (s .pre .0 .1 .few) (omega arith, omega arith, omega arith), s .pre .1 .1)))
+    let short = c .before .before .before .before in
+    let s = short .before .before .before .before .before .before .before in
+    (s .pre .0, (s .pre .1 .0, (roomy-few _ 64 2080 2080 2080 (short .if2 .taken) (omega arith, omega arith, omega arith), s .pre .1 .1)))
 
 same-length-2 : tie.Need-same-length-2
 same-length-2 c = search needs
 
 returns-2 : tie.Need-returns-2
 returns-2 c = search needs
+
+slice-aggregate-shifts-in-room-7 : tie.Need-slice-aggregate-shifts-in-room-7
+slice-aggregate-shifts-in-room-7 c = search needs
+
+slice-aggregate-shifts-in-room-8 : tie.Need-slice-aggregate-shifts-in-room-8
+slice-aggregate-shifts-in-room-8 c = search needs
+
+slice-aggregate-shifts-in-room-9 : tie.Need-slice-aggregate-shifts-in-room-9
+slice-aggregate-shifts-in-room-9 c = search needs
+
+shifts-in-room-requires-3 : tie.Need-shifts-in-room-requires-3
+shifts-in-room-requires-3 c κs =
+    let s = c .before .before .before .before .before .before .before .before .before .before .before in
+    (s .pre .0, (s .pre .1 .0, (roomy-few _ givenRows 8256 8256 8256 (s .pre .0 .1 .few) (omega arith, omega arith, omega arith), s .pre .1 .1)))
+
+same-length-3 : tie.Need-same-length-3
+same-length-3 c = search needs
+
+returns-3 : tie.Need-returns-3
+returns-3 c = search needs
 
 pub shifts-of-rows-spec : {M : Type 1} → statement M
 shifts-of-rows-spec =
@@ -62,4 +84,10 @@ shifts-of-rows-spec =
     slice-aggregate-shifts-in-room-6
     shifts-in-room-requires-2
     same-length-2
-    returns-2)
+    returns-2
+    slice-aggregate-shifts-in-room-7
+    slice-aggregate-shifts-in-room-8
+    slice-aggregate-shifts-in-room-9
+    shifts-in-room-requires-3
+    same-length-3
+    returns-3)
