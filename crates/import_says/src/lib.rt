@@ -1,7 +1,9 @@
 // What a bulk import says beside the line of a list: why a file can't be read or written, what became of an older sheet, and what an
 // import that was cut short left. All functions here are inner.
+use file_facts::Facts;
 use import_paths::PATH_ROOM;
 use import_sheets::Standing;
+use import_sheets::standing_at;
 use saying::say;
 ghost use Prim.Native.Nat.{_≤_};
 ghost use lib.ListN.{length};
@@ -123,6 +125,23 @@ pub fn say_kept(name: &[u8], ending: &[u8], what: Standing)
     say_beside(name, ending, 1);
     say_standing(what);
     say(b"\n");
+}
+
+// Says what keeps a list's sheet from being written, where something does.
+pub fn say_block(name: &[u8], list: Facts) -> bool
+    requires { ⌜ length (now name) ≤ nameMost ⌝ }
+{
+    let sheet = standing_at(name, list, b".sheet");
+    if import_sheets::is_kept(sheet.kind) {
+        say_kept(name, b".sheet", sheet);
+        return true;
+    }
+    let before = standing_at(name, list, b".sheet.before");
+    if import_sheets::is_kept(before.kind) {
+        say_kept(name, b".sheet.before", before);
+        return true;
+    }
+    false
 }
 
 // Says that an import before this one was cut short, and whether that was before or after it wrote this list's sheet.

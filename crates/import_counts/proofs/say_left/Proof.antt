@@ -1,9 +1,9 @@
--- `bulk_import::say_left` ends: j goes up to the number of lists that are named. Assumes nothing.
+-- `import_counts::say_left` ends: j goes up to the number of lists that are named. Assumes nothing.
 use Prim.Native.Nat.{_≤_, _-_}
 use native.Mathlib.Omega.{arith}
 use borrow.Author.Needs.{needs}
-use Rattle.bulk_import.proofs.say_left.Statement.{statement}
-use Rattle.bulk_import.proofs.say_left.Tie as tie
+use Rattle.import_counts.proofs.say_left.Statement.{statement}
+use Rattle.import_counts.proofs.say_left.Tie as tie
 
 abbrev Inv-loop : tie.InvT-loop
 Inv-loop left count kept j₀ t5 t6 j = (kept ≤ 1000) × (kept ≤ count)
