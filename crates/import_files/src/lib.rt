@@ -1,13 +1,13 @@
-// Files of a bulk import: a list is read, its sheet is written whole or not at all, an older sheet is set aside. What the system does
-// no contract says, so these functions promise no more than that they are safe and end; the gate runs them (crate run_imports). All
-// functions here are inner. An error is the system's number for it, 0 for none.
+// Files of a bulk import: a list is read, its sheet is written whole or not at all, what stands beside it is renamed or removed. What the
+// system does no contract says, so these functions promise no more than that they are safe and end; the gate runs them (crate
+// run_imports). All functions here are inner. An error is the system's number for it, 0 for none.
 use import_paths::PATH_ROOM;
 use import_paths::put_path;
 ghost use Prim.Native.Nat.{_≤_};
 ghost use lib.ListN.{length};
 ghost use Rattle.io.specs.Counts.{Counts};
 ghost use Rattle.libc.specs.Io.{Ended};
-ghost use Rattle.import_paths.specs.Room.{nameMost};
+ghost use Rattle.import_paths.specs.Room.{nameMost, endingMost};
 
 // How many names are tried for one file.
 pub const NAMES_TRIED: usize = 1000;
@@ -128,14 +128,16 @@ pub fn settle_file(name: &[u8], k: usize, filled: i32) -> i32
     error
 }
 
-// Writes the sheet beside its list as FILE.sheet: to a new name first, then renamed.
-pub fn write_sheet(name: &[u8], sheet: &[u8]) -> i32
+// Writes the sheet beside its list as FILE.sheet, with the list's permissions: to a new name first, then renamed.
+pub fn write_sheet(name: &[u8], sheet: &[u8], mode: u32) -> i32
     requires { ⌜ length (now name) ≤ nameMost ⌝ }
 {
     let made = make_file(name);
     if made.error != 0 {
         return made.error;
     }
+    // before there is anything in it to read; a file system that has no permissions keeps its own
+    libc::fchmod(made.fd, mode & 0o777);
     let filled = fill_file(made.fd, sheet);
     settle_file(name, made.k, filled)
 }
@@ -152,14 +154,40 @@ pub fn is_free(path: &[u8; PATH_ROOM]) -> bool
     false
 }
 
-// Whether this is the name of a folder, which is no older sheet.
-pub fn is_folder(path: &[u8]) -> bool {
-    let fd = os::open_update(path);
-    if fd < 0 {
-        return os::errno() == libc::EISDIR;
+// Whether something stands beside the list under this ending.
+pub fn is_there(name: &[u8], ending: &[u8]) -> bool
+    requires { ⌜ length (now name) ≤ nameMost ⌝ }
+    requires { ⌜ length (now ending) ≤ endingMost ⌝ }
+{
+    let mut path = [0u8; PATH_ROOM];
+    put_path(&mut path, name, ending, 1);
+    !is_free(&path)
+}
+
+// Gives what stands beside the list under one ending another. What stood there is replaced.
+pub fn rename_beside(name: &[u8], from: &[u8], to: &[u8]) -> i32
+    requires { ⌜ length (now name) ≤ nameMost ⌝ }
+    requires { ⌜ length (now from) ≤ endingMost ⌝ }
+    requires { ⌜ length (now to) ≤ endingMost ⌝ }
+{
+    let mut old = [0u8; PATH_ROOM];
+    let mut new = [0u8; PATH_ROOM];
+    let m = put_path(&mut old, name, from, 1);
+    let n = put_path(&mut new, name, to, 1);
+    if os::rename(&old[..m], &new[..n]) < 0 {
+        return reason();
     }
-    libc::close(fd);
-    false
+    0
+}
+
+// Removes what stands beside the list under this ending, as far as the system lets it.
+pub fn remove_beside(name: &[u8], ending: &[u8])
+    requires { ⌜ length (now name) ≤ nameMost ⌝ }
+    requires { ⌜ length (now ending) ≤ endingMost ⌝ }
+{
+    let mut path = [0u8; PATH_ROOM];
+    let length = put_path(&mut path, name, ending, 1);
+    os::unlink(&path[..length]);
 }
 
 // An older sheet set aside: the number of its name now, 0 where there was none, or why it stands where it stood.
@@ -189,20 +217,4 @@ pub fn rename_older(name: &[u8], path: &[u8]) -> Aside
         error: libc::EEXIST,
         k,
     }
-}
-
-// Sets an older sheet of the list aside, so that it does not look current.
-pub fn set_aside(name: &[u8]) -> Aside
-    requires { ⌜ length (now name) ≤ nameMost ⌝ }
-{
-    let none = Aside { error: 0, k: 0 };
-    let mut path = [0u8; PATH_ROOM];
-    let length = put_path(&mut path, name, b".sheet", 1);
-    if is_free(&path) {
-        return none;
-    }
-    if is_folder(&path[..length]) {
-        return none;
-    }
-    rename_older(name, &path[..length])
 }

@@ -17,6 +17,10 @@ pathRoom = 4096
 abbrev pub nameMost : ℕ
 nameMost = 4060
 
+-- the longest ending, with which such a name and its number are still a path
+abbrev pub endingMost : ℕ
+endingMost = 15
+
 -- the number of a name, whichever it is
 abbrev pub countRoom : ℕ
 countRoom = 20

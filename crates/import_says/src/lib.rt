@@ -1,10 +1,13 @@
-// What a bulk import says beside the line of a list: why a file can't be read or written, and what became of an older sheet. All
-// functions here are inner.
+// What a bulk import says beside the line of a list: why a file can't be read or written, what became of an older sheet, and what an
+// import that was cut short left. All functions here are inner.
+use file_facts::Facts;
 use import_paths::PATH_ROOM;
+use import_sheets::Standing;
+use import_sheets::standing_at;
 use saying::say;
 ghost use Prim.Native.Nat.{_≤_};
 ghost use lib.ListN.{length};
-ghost use Rattle.import_paths.specs.Room.{nameMost};
+ghost use Rattle.import_paths.specs.Room.{nameMost, endingMost};
 
 // Says a name, as it is shown; of a longer one the first 4,096 bytes.
 pub fn say_name(name: &[u8]) {
@@ -53,6 +56,16 @@ pub fn say_why(error: i32) {
     say(b")");
 }
 
+// Says the name beside a list with this ending and number.
+pub fn say_beside(name: &[u8], ending: &[u8], k: usize)
+    requires { ⌜ length (now name) ≤ nameMost ⌝ }
+    requires { ⌜ length (now ending) ≤ endingMost ⌝ }
+{
+    let mut path = [0u8; PATH_ROOM];
+    let length = import_paths::put_path(&mut path, name, ending, k);
+    say_name(&path[..length]);
+}
+
 // Says what became of an older sheet: nothing where there was none.
 pub fn say_aside(name: &[u8], error: i32, k: usize)
     requires { ⌜ length (now name) ≤ nameMost ⌝ }
@@ -63,9 +76,82 @@ pub fn say_aside(name: &[u8], error: i32, k: usize)
         return;
     }
     if k != 0 {
-        let mut path = [0u8; PATH_ROOM];
-        let length = import_paths::put_path(&mut path, name, b".sheet.old", k);
         say(b"; the older sheet is now ");
-        say_name(&path[..length]);
+        say_beside(name, b".sheet.old", k);
     }
+}
+
+// Says that a file can't be read.
+pub fn say_unread(name: &[u8], error: i32) {
+    say_name(name);
+    say(b" can't be read");
+    say_why(error);
+}
+
+// Says that a list is none that could be read to its end.
+pub fn say_waited_for(name: &[u8]) {
+    say_name(name);
+    say(b" can't be read: it is a pipe, a device or a socket, and no file");
+}
+
+// Says that a sheet can't be written.
+pub fn say_unwritten(name: &[u8], error: i32) {
+    say_name(name);
+    say(b" can't be written");
+    say_why(error);
+}
+
+// Says what stands in a sheet's place.
+pub fn say_standing(what: Standing) {
+    if what.kind == import_sheets::ITSELF {
+        say(b" is the list itself");
+        return;
+    }
+    if what.kind == import_sheets::UNREADABLE {
+        say(b" can't be read");
+        say_why(what.error);
+        return;
+    }
+    say(b" is no sheet");
+}
+
+// Says that a sheet can't be written for what stands in its place, which is left there.
+pub fn say_kept(name: &[u8], ending: &[u8], what: Standing)
+    requires { ⌜ length (now name) ≤ nameMost ⌝ }
+    requires { ⌜ length (now ending) ≤ endingMost ⌝ }
+{
+    say_name(name);
+    say(b" can't be written: ");
+    say_beside(name, ending, 1);
+    say_standing(what);
+    say(b"\n");
+}
+
+// Says what keeps a list's sheet from being written, where something does.
+pub fn say_block(name: &[u8], list: Facts) -> bool
+    requires { ⌜ length (now name) ≤ nameMost ⌝ }
+{
+    let sheet = standing_at(name, list, b".sheet");
+    if import_sheets::is_kept(sheet.kind) {
+        say_kept(name, b".sheet", sheet);
+        return true;
+    }
+    let before = standing_at(name, list, b".sheet.before");
+    if import_sheets::is_kept(before.kind) {
+        say_kept(name, b".sheet.before", before);
+        return true;
+    }
+    false
+}
+
+// Says that an import before this one was cut short, and whether that was before or after it wrote this list's sheet.
+pub fn say_cut_short(name: &[u8], written: bool) {
+    say_name(name);
+    say(b": an earlier import was cut short ");
+    if written {
+        say(b"after");
+    } else {
+        say(b"before");
+    }
+    say(b" it wrote this list's sheet\n");
 }

@@ -8,10 +8,13 @@ use Rattle.bulk_import.proofs.import_all.Statement.{statement}
 use Rattle.bulk_import.proofs.import_all.Tie as tie
 
 abbrev Inv-loop : tie.InvT-loop
-Inv-loop watched count counts₀ i₀ t6 counts i = (1 ≤ i) × (5 ≡ length counts)
+Inv-loop watched count counts₀ left₀ missing₀ i₀ t8 counts left missing i = (1 ≤ i) × (7 ≡ length counts)
 
 abbrev μ-loop : tie.MeasureT-loop
-μ-loop watched count counts₀ i₀ t6 counts i = count - i
+μ-loop watched count counts₀ left₀ missing₀ i₀ t8 counts left missing i = count - i
+
+start-all-requires : tie.Need-start-all-requires Inv-loop μ-loop
+start-all-requires c κs = search needs
 
 is-watched-requires : tie.Need-is-watched-requires Inv-loop μ-loop
 is-watched-requires c κs = search needs
@@ -40,8 +43,17 @@ mul-counts c = search needs
 array-write-counts : tie.Need-array-write-counts Inv-loop μ-loop
 array-write-counts c = search needs
 
+is-left-requires : tie.Need-is-left-requires Inv-loop μ-loop
+is-left-requires c κs = search needs
+
+keep-left-requires : tie.Need-keep-left-requires Inv-loop μ-loop
+keep-left-requires c κs = search needs
+
+sync-after-requires : tie.Need-sync-after-requires Inv-loop μ-loop
+sync-after-requires c κs = search needs
+
 sub-show-progress : tie.Need-sub-show-progress Inv-loop μ-loop
-sub-show-progress c = search needs
+sub-show-progress c = omega arith
 
 show-progress-requires : tie.Need-show-progress-requires Inv-loop μ-loop
 show-progress-requires c κs = search needs
@@ -55,20 +67,8 @@ loop-less c = omega arith
 loop-again : tie.Need-loop-again Inv-loop μ-loop
 loop-again c = search needs
 
-array-read-say-counts : tie.Need-array-read-say-counts Inv-loop μ-loop
-array-read-say-counts c = search needs
-
-array-read-say-counts-2 : tie.Need-array-read-say-counts-2 Inv-loop μ-loop
-array-read-say-counts-2 c = search needs
-
-array-read-say-counts-3 : tie.Need-array-read-say-counts-3 Inv-loop μ-loop
-array-read-say-counts-3 c = search needs
-
-array-read-say-counts-4 : tie.Need-array-read-say-counts-4 Inv-loop μ-loop
-array-read-say-counts-4 c = search needs
-
-array-read-say-counts-5 : tie.Need-array-read-say-counts-5 Inv-loop μ-loop
-array-read-say-counts-5 c = search needs
+say-left-requires : tie.Need-say-left-requires Inv-loop μ-loop
+say-left-requires c κs = search needs
 
 say-counts-requires : tie.Need-say-counts-requires Inv-loop μ-loop
 say-counts-requires c κs = search needs
@@ -91,6 +91,7 @@ import-all-spec =
     (tie.spec
     Inv-loop
     μ-loop
+    start-all-requires
     is-watched-requires
     arg-count-requires
     loop-holds
@@ -100,16 +101,15 @@ import-all-spec =
     wrapping-add-usize-requires
     mul-counts
     array-write-counts
+    is-left-requires
+    keep-left-requires
+    sync-after-requires
     sub-show-progress
     show-progress-requires
     add-i
     loop-less
     loop-again
-    array-read-say-counts
-    array-read-say-counts-2
-    array-read-say-counts-3
-    array-read-say-counts-4
-    array-read-say-counts-5
+    say-left-requires
     say-counts-requires
     slice-aggregate-write-all
     write-all-requires

@@ -37,26 +37,17 @@ array-share-prefix-sheet c =
     let a = done .before .before .before .before .before .args in
     sheet-fits (now (a .name)) (now (a .text)) _ _ _ (done .import-text .ensures .answer) (done .import-text .ensures .sheet) (c .if1 .left)
 
-slice-aggregate-write-sheet : tie.Need-slice-aggregate-write-sheet
-slice-aggregate-write-sheet c =
+slice-aggregate-put-sheet : tie.Need-slice-aggregate-put-sheet
+slice-aggregate-put-sheet c =
     let done = c .before .before .before in
     let a = done .before .before .before .before .before .args in
     simp length-take (omega (arith, sheet-fits (now (a .name)) (now (a .text)) _ _ _ (done .import-text .ensures .answer) (done .import-text .ensures .sheet) (c .before .if1 .left)))
 
-write-sheet-requires : tie.Need-write-sheet-requires
-write-sheet-requires c κs = search needs
+put-sheet-requires : tie.Need-put-sheet-requires
+put-sheet-requires c κs = search needs
 
-say-name-requires : tie.Need-say-name-requires
-say-name-requires c κs = search needs
-
-slice-aggregate-say-2 : tie.Need-slice-aggregate-say-2
-slice-aggregate-say-2 c = search needs
-
-say-requires-2 : tie.Need-say-requires-2
-say-requires-2 c κs = search needs
-
-say-why-requires : tie.Need-say-why-requires
-say-why-requires c κs = search needs
+say-unwritten-requires : tie.Need-say-unwritten-requires
+say-unwritten-requires c κs = search needs
 
 end-line-requires-2 : tie.Need-end-line-requires-2
 end-line-requires-2 c κs = search needs
@@ -66,24 +57,21 @@ returns-2 c = search needs
 
 array-share-prefix-line-2 : tie.Need-array-share-prefix-line-2
 array-share-prefix-line-2 c =
-    let done = c .before .before .before .before .before in
+    let done = c .before .before .before .before .before .before .before in
     let a = done .before .before .before .before .before .args in
     line-fits (now (a .name)) (now (a .text)) _ _ _ (done .import-text .ensures .answer) (done .import-text .ensures .line)
 
-slice-aggregate-say-3 : tie.Need-slice-aggregate-say-3
-slice-aggregate-say-3 c =
-    let done = c .before .before .before .before .before .before in
+slice-aggregate-say-2 : tie.Need-slice-aggregate-say-2
+slice-aggregate-say-2 c =
+    let done = c .before .before .before .before .before .before .before .before in
     let a = done .before .before .before .before .before .args in
     simp length-take (omega (arith, line-fits (now (a .name)) (now (a .text)) _ _ _ (done .import-text .ensures .answer) (done .import-text .ensures .line)))
 
-say-requires-3 : tie.Need-say-requires-3
-say-requires-3 c κs = search needs
+say-requires-2 : tie.Need-say-requires-2
+say-requires-2 c κs = search needs
 
-slice-aggregate-say-4 : tie.Need-slice-aggregate-say-4
-slice-aggregate-say-4 c = search needs
-
-say-requires-4 : tie.Need-say-requires-4
-say-requires-4 c κs = search needs
+say-became-requires : tie.Need-say-became-requires
+say-became-requires c κs = search needs
 
 returns-3 : tie.Need-returns-3
 returns-3 c = search needs
@@ -99,17 +87,13 @@ import-list-spec =
     end-line-requires
     returns
     array-share-prefix-sheet
-    slice-aggregate-write-sheet
-    write-sheet-requires
-    say-name-requires
-    slice-aggregate-say-2
-    say-requires-2
-    say-why-requires
+    slice-aggregate-put-sheet
+    put-sheet-requires
+    say-unwritten-requires
     end-line-requires-2
     returns-2
     array-share-prefix-line-2
-    slice-aggregate-say-3
-    say-requires-3
-    slice-aggregate-say-4
-    say-requires-4
+    slice-aggregate-say-2
+    say-requires-2
+    say-became-requires
     returns-3)

@@ -1,12 +1,12 @@
--- `bulk_import::before_digits` meets its contract: the end goes down, and is its own measure. Assumes nothing.
+-- `import_names::before_digits` meets its contract: the end goes down, and is its own measure. Assumes nothing.
 use mathlib.Core.Path.{sym}
 use Prim.Native.Nat.{_≤_}
 use native.Mathlib.Omega.{arith}
 use denote.Ref.{now}
 use lib.ListN.{length}
 use lib.Seq.{length-take-le}
-use Rattle.bulk_import.proofs.before_digits.Statement.{statement}
-use Rattle.bulk_import.proofs.before_digits.Tie as tie
+use Rattle.import_names.proofs.before_digits.Statement.{statement}
+use Rattle.import_names.proofs.before_digits.Tie as tie
 
 abbrev Inv-loop : tie.InvT-loop
 Inv-loop name end₀ end = end ≤ length name

@@ -1,11 +1,11 @@
--- `bulk_import::is_repeated` ends: j goes up to i. Assumes nothing.
+-- `import_folders::is_repeated` ends: j goes up to i. Assumes nothing.
 use mathlib.Core.Path.{_≡_}
 use Prim.Native.Nat.{_-_}
 use native.Mathlib.Omega.{arith}
 use lib.ListN.{length}
 use borrow.Author.Needs.{needs}
-use Rattle.bulk_import.proofs.is_repeated.Statement.{statement}
-use Rattle.bulk_import.proofs.is_repeated.Tie as tie
+use Rattle.import_folders.proofs.is_repeated.Statement.{statement}
+use Rattle.import_folders.proofs.is_repeated.Tie as tie
 
 abbrev Inv-loop : tie.InvT-loop
 Inv-loop i name earlier₀ j₀ earlier j = 4096 ≡ length earlier
@@ -31,11 +31,11 @@ errno-requires c κs = search needs
 array-share-prefix-earlier : tie.Need-array-share-prefix-earlier Inv-loop μ-loop
 array-share-prefix-earlier c = search needs
 
-slice-aggregate-is-same : tie.Need-slice-aggregate-is-same Inv-loop μ-loop
-slice-aggregate-is-same c = search needs
+slice-aggregate-is-one-name : tie.Need-slice-aggregate-is-one-name Inv-loop μ-loop
+slice-aggregate-is-one-name c = search needs
 
-is-same-requires : tie.Need-is-same-requires Inv-loop μ-loop
-is-same-requires c κs = search needs
+is-one-name-requires : tie.Need-is-one-name-requires Inv-loop μ-loop
+is-one-name-requires c κs = search needs
 
 returns : tie.Need-returns Inv-loop μ-loop
 returns c = search needs
@@ -64,8 +64,8 @@ is-repeated-spec =
     arg-requires
     errno-requires
     array-share-prefix-earlier
-    slice-aggregate-is-same
-    is-same-requires
+    slice-aggregate-is-one-name
+    is-one-name-requires
     returns
     add-j
     loop-less
