@@ -10,14 +10,14 @@ use libc::STDOUT_FILENO;
 ghost use Rattle.io.specs.Counts.{Counts};
 
 // What was read: how many bytes, and whether a read failed.
-pub struct Input {
-    pub failed: bool,
-    pub length: usize,
+struct Input {
+    failed: bool,
+    length: usize,
 }
 
 // Reads until the text ends, as much of it as fits. `io::read_full` does not tell an end from a read that failed, and to ask by one read
 // more would have a person at a terminal end the text twice.
-pub fn read_input(text: &mut [u8]) -> Input
+fn read_input(text: &mut [u8]) -> Input
     ensures { λ r. ⌜ Counts (r .length) (now (text .exit)) ⌝ }
 {
     let mut done = 0;
@@ -42,7 +42,7 @@ pub fn read_input(text: &mut [u8]) -> Input
 }
 
 // Prints what the text gives.
-pub fn print_answer(text: &[u8]) {
+fn print_answer(text: &[u8]) {
     let mut out = [0u8; SHEET_ROOM];
     let count = printing::print_text(text, &mut out);
     if !io::write_all(STDOUT_FILENO, &out[..count]) {
