@@ -1,22 +1,10 @@
--- `irwystl::main` is safe: what is printed lies at the front of the room, so that its count is within it. Assumes nothing.
+-- `irwystl::print_answer` is safe: what is printed lies at the front of the room, so that its count is within it. Assumes nothing.
 use mathlib.Core.Path.{ap}
 use native.Mathlib.Omega.{arith}
 use lib.ListN.{length, length-append, length-take}
 use borrow.Author.Needs.{needs}
-use Rattle.irwystl.proofs.main.Statement.{statement}
-use Rattle.irwystl.proofs.main.Tie as tie
-
-slice-aggregate-read-full : tie.Need-slice-aggregate-read-full
-slice-aggregate-read-full c = search needs
-
-read-full-requires : tie.Need-read-full-requires
-read-full-requires c κs = search needs
-
-array-share-prefix-input : tie.Need-array-share-prefix-input
-array-share-prefix-input c = search needs
-
-slice-aggregate-print-text : tie.Need-slice-aggregate-print-text
-slice-aggregate-print-text c = search needs
+use Rattle.irwystl.proofs.print_answer.Statement.{statement}
+use Rattle.irwystl.proofs.print_answer.Tie as tie
 
 print-text-requires : tie.Need-print-text-requires
 print-text-requires c κs = search needs
@@ -43,14 +31,10 @@ returns c = search needs
 returns-2 : tie.Need-returns-2
 returns-2 c = search needs
 
-pub main-spec : {M : Type 1} → statement M
-main-spec =
+pub print-answer-spec : {M : Type 1} → statement M
+print-answer-spec =
     tie.close
     (tie.spec
-    slice-aggregate-read-full
-    read-full-requires
-    array-share-prefix-input
-    slice-aggregate-print-text
     print-text-requires
     array-share-prefix-out
     slice-aggregate-write-all
