@@ -1,5 +1,5 @@
-// The names beside a list's file: FILE.sheet, the new name that a sheet is first written to, and the names that an older sheet is set
-// aside under. A wrong name would overwrite another file, so every byte is promised. All functions here are inner.
+// The names beside a list's file: FILE.sheet, the new name that a sheet is first written to, and the names that an older sheet waits and is
+// set aside under. A wrong name would overwrite another file, so every byte is promised. All functions here are inner.
 ghost use mathlib.Core.Path.{_≡_};
 ghost use Prim.Native.Nat.{_+_, _≤_, _<_};
 ghost use lib.ListN.{length, take};
