@@ -34,7 +34,7 @@ fn find_basis_in(
 }
 
 // T, sigma and both measures of a list of disjoint rows. Room is cleared at each call, which takes longer than the work of a short list if
-// it is room for every number below 2^16; and with a weight limit of 3, the program's, few numbers are in the walk.
+// it is room for every number below 2^16; and with few inputs, or with a weight limit of 3, the program's, few numbers are in the walk.
 pub fn find_basis(
     n: usize,
     w: usize,
@@ -49,6 +49,21 @@ pub fn find_basis(
     requires { ⌜ Disjoint n (rowsOf (now masks) (now values) (now words)) ⌝ }
     ensures { λ r. ⌜ Found (ofRows (rowsOf (now (masks .entry)) (now (values .entry)) (now (words .entry)))) n w (now (basis .entry)) (now (sigma .entry)) (now (basis .exit)) (now (sigma .exit)) r ⌝ }
 {
+    if n <= 8 {
+        let mut small_candidates = [0u32; 256];
+        let mut small_shifts = [0u32; 256];
+        return find_basis_in(
+            n,
+            w,
+            masks,
+            values,
+            words,
+            &mut small_candidates,
+            &mut small_shifts,
+            basis,
+            sigma,
+        );
+    }
     if w <= 3 {
         let mut few_candidates = [0u32; 698];
         let mut few_shifts = [0u32; 698];
