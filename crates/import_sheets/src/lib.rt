@@ -31,17 +31,13 @@ pub struct Standing {
     pub error: i32,
 }
 
-// Whether a byte is a digit.
-pub fn is_digit(b: u8) -> bool {
-    b'0' <= b && b <= b'9'
-}
-
 // Whether a text is a number and the end of its line.
 pub fn is_number_line(text: &[u8]) -> bool {
     let mut i = 0;
     while i < text.len() {
-        if !is_digit(text[i]) {
-            return 0 < i && text[i] == b'\n';
+        let b = read_bytes::byte(text, i);
+        if !read_bytes::is_digit(b) {
+            return 0 < i && b == 10;
         }
         i += 1;
     }
