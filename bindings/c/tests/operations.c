@@ -10,7 +10,7 @@
 #include <string.h>
 
 #define MOST 8192
-#define LONGEST_LINE 16384
+#define LONGEST_LINE 65536
 #define HELD 0xABCD1234u
 #define HELD_ENTRY 0xABCD
 

@@ -21,9 +21,10 @@ span c (suc k) t = span c k t || span c k (bitXor t (c k))
 unfoldable pub candidate : ℕ → (ℕ → ℕ) → ℕ → ℕ → Bool
 candidate w c k t = leb 1 (ones t) && (leb (ones t) w && not (span c k t))
 
--- the order of candidates: a stands before b where its R is greater; among equals the smaller number
+-- the order of candidates (02, Ticket 1: "Among candidates with equal R the one with fewer one-bits is now taken, then the smaller
+-- number"): a stands before b where its R is greater; at equal R where it has fewer one-bits; at as many where it is the smaller number
 unfoldable pub before : (ℕ → ℕ) → ℕ → ℕ → Bool
-before r a b = ltb (r b) (r a) || (eqb (r a) (r b) && ltb a b)
+before r a b = ltb (r b) (r a) || (eqb (r a) (r b) && (ltb (ones a) (ones b) || (eqb (ones a) (ones b) && ltb a b)))
 
 -- of b, the best so far or 0 for none, and t, the one to keep under an order
 unfoldable pub better : (ℕ → ℕ → Bool) → (ℕ → Bool) → ℕ → ℕ → ℕ

@@ -38,17 +38,20 @@ pub fn stride(w: usize, t: u32) -> usize
     1
 }
 
-// Whether a stands before b in the order of candidates, by the values of the two: the greater value, among equals the smaller number.
+// Whether a stands before b in the order of candidates, by the values of the two: the greater value, at equal values fewer one-bits, at
+// as many the smaller number.
 pub fn is_before(value: u32, a: u32, other: u32, b: u32) -> bool
     ensures { λ found. ⌜ ((r : ℕ → ℕ) → r a ≡ value → r b ≡ other → found ≡ before r a b) ⌝ }
 {
-    if other < value {
-        return true;
+    if value != other {
+        return other < value;
     }
-    if value == other {
-        return a < b;
+    let ones = u32::count_ones(a);
+    let others = u32::count_ones(b);
+    if ones != others {
+        return ones < others;
     }
-    false
+    a < b
 }
 
 // Whether t is no XOR of the k numbers that the matrix s sends to 1, 2, 4, ..: whether s sends it to something at position k or above.

@@ -1,5 +1,5 @@
 -- The choice among the numbers below m that pass a test, under any strict total order: what it is, that there is at most one, and
--- that `best` makes it; the laws of `better` and `best` that a search cites; and what the choice says of R. Not here: the order
+-- that `best` makes it; the laws of `better` and `best` that a search cites; and what the choice says of R and of one-bits. Not here: the order
 -- (`Order`), and that some number passes (crate matrix_laws, `Candidate`). Assumes nothing.
 use mathlib.Core.Path.{_≡_, refl, sym, ap, _∙_}
 use mathlib.Core.Bool.{Bool, true, false, cond, _&&_, _||_, or-true, and-false, false≢true}
@@ -8,6 +8,7 @@ use Prim.Native.Nat.{ℕ, zero, suc, _≤_, _<_}
 use native.Mathlib.Decide.{ℕ-discrete}
 use native.Mathlib.Omega.{arith}
 use borrow.Author.Tests.{eq-eqb, ne-eqb, eqb-false}
+use lib.Count.{ones}
 use lib.Dec.{eqb}
 use Rattle.sums.specs.Laws.{below-suc}
 use Rattle.block.specs.Basis.{before, better, best}
@@ -160,7 +161,7 @@ best-agree order early ok (suc m) h =
     (better-agree order early ok (best early ok m) m
     (λ p n. h m (best early ok m) (omega arith) (best-lt early ok m (suc m) (omega arith) (omega arith)) p (best-passes early ok m n)))
 
--- ---- the choice by R
+-- ---- the choice by R, then by one-bits, then by the number
 
 module _ (r : ℕ → ℕ) (ok : ℕ → Bool) (m b : ℕ) (c : Choice (before r) ok m b) where
   -- it has the greatest R of those that pass
@@ -169,12 +170,20 @@ module _ (r : ℕ → ℕ) (ok : ℕ → Bool) (m b : ℕ) (c : Choice (before r
     where
       go : Dec (t ≡ b) → r t ≤ r b
       go (yes e) = omega (arith, ap r e)
-      go (no n) = before-true r b t (c .leads t l h n) .0
+      go (no n) = before-true r b t (c .leads t l h n) .value
 
-  -- and is the smallest number of those with that R
-  pub choice-smallest : (t : ℕ) → t < m → ok t ≡ true → r t ≡ r b → b ≤ t
-  choice-smallest t l h e = go (ℕ-discrete t b)
+  -- the fewest one-bits of those with that R
+  pub choice-fewest : (t : ℕ) → t < m → ok t ≡ true → r t ≡ r b → ones b ≤ ones t
+  choice-fewest t l h e = go (ℕ-discrete t b)
+    where
+      go : Dec (t ≡ b) → ones b ≤ ones t
+      go (yes d) = omega (arith, ap ones d)
+      go (no n) = before-true r b t (c .leads t l h n) .weight (sym e)
+
+  -- and is the smallest number of those with as many
+  pub choice-smallest : (t : ℕ) → t < m → ok t ≡ true → r t ≡ r b → ones t ≡ ones b → b ≤ t
+  choice-smallest t l h e o = go (ℕ-discrete t b)
     where
       go : Dec (t ≡ b) → b ≤ t
       go (yes d) = omega arith
-      go (no n) = omega (arith, before-true r b t (c .leads t l h n) .1 (sym e))
+      go (no n) = omega (arith, before-true r b t (c .leads t l h n) .number (sym e) (sym o))

@@ -1,11 +1,12 @@
--- What makes a test on two numbers a strict total order; orders by keys; and that the order of candidates is such an order. Not here:
--- the choice under an order (`Choice`). Assumes nothing.
+-- What makes a test on two numbers a strict total order, and one that puts a greater R first; orders by keys; and that the order of
+-- candidates is such an order. Not here: the choice under an order (`Choice`). Assumes nothing.
 use mathlib.Core.Path.{_≡_, refl, sym, ap, _∙_}
 use mathlib.Core.Bool.{Bool, true, false, _&&_, _||_}
 use Prim.Native.Nat.{ℕ, _≤_, _<_}
 use native.Mathlib.Decide.{ℕ-discrete}
 use native.Mathlib.Omega.{arith}
 use borrow.Author.Tests.{eq-eqb, ne-eqb, lt-ltb, le-ltb, ltb-true, ltb-false}
+use lib.Count.{ones}
 use lib.Dec.{eqb, ltb}
 use Rattle.block.specs.Basis.{before}
 
@@ -14,6 +15,10 @@ pub record Strict (order : ℕ → ℕ → Bool) : Type 0 where
   pub asymmetric : (a b : ℕ) → order a b ≡ true → order b a ≡ false
   pub transitive : (a b c : ℕ) → order a b ≡ true → order b c ≡ true → order a c ≡ true
   pub total : (a b : ℕ) → (a ≡ b → ⊥) → order a b ≡ false → order b a ≡ true
+
+-- it puts a greater R first
+abbrev pub GreaterFirst : (ℕ → ℕ → Bool) → (ℕ → ℕ) → Type 0
+GreaterFirst order r = (a b : ℕ) → r b < r a → order a b ≡ true
 
 -- nothing stands before itself
 strict-self : (order : ℕ → ℕ → Bool) → Strict order → (a : ℕ) → order a a ≡ false
@@ -24,7 +29,7 @@ strict-self order s a = go (order a a) refl
     go false e = e
 
 -- the smaller number first
-ltb-strict : Strict ltb
+pub ltb-strict : Strict ltb
 ltb-strict =
     record {
       asymmetric = λ a b h. le-ltb b a (omega (arith, ltb-true a b h));
@@ -33,10 +38,10 @@ ltb-strict =
     }
 
 -- the greater number first
-abbrev more : ℕ → ℕ → Bool
+abbrev pub more : ℕ → ℕ → Bool
 more a b = ltb b a
 
-more-strict : Strict more
+pub more-strict : Strict more
 more-strict =
     record {
       asymmetric = λ a b h. ltb-strict .asymmetric b a h;
@@ -47,7 +52,7 @@ more-strict =
 -- ---- orders by keys
 
 -- a stands before b where its key does; among equal keys as `order` has it
-abbrev byKey : (ℕ → ℕ → Bool) → (ℕ → ℕ) → (ℕ → ℕ → Bool) → ℕ → ℕ → Bool
+abbrev pub byKey : (ℕ → ℕ → Bool) → (ℕ → ℕ) → (ℕ → ℕ → Bool) → ℕ → ℕ → Bool
 byKey less key order a b = less (key a) (key b) || (eqb (key a) (key b) && order a b)
 
 module _ (less : ℕ → ℕ → Bool) (sl : Strict less) (key : ℕ → ℕ) (order : ℕ → ℕ → Bool) where
@@ -64,11 +69,11 @@ module _ (less : ℕ → ℕ → Bool) (sl : Strict less) (key : ℕ → ℕ) (o
   key-equal a b e = rw (e, strict-self less sl (key b), eq-eqb (key b) (key b) refl)
 
   -- a key that stands before is enough
-  key-first : (a b : ℕ) → less (key a) (key b) ≡ true → byKey less key order a b ≡ true
+  pub key-first : (a b : ℕ) → less (key a) (key b) ≡ true → byKey less key order a b ≡ true
   key-first a b h = rw h
 
   -- an order by a key is strict and total
-  key-strict : Strict order → Strict (byKey less key order)
+  pub key-strict : Strict order → Strict (byKey less key order)
   key-strict s = record { asymmetric = asymmetric; transitive = transitive; total = total }
     where
       asymmetric : (a b : ℕ) → byKey less key order a b ≡ true → byKey less key order b a ≡ false
@@ -103,16 +108,36 @@ module _ (less : ℕ → ℕ → Bool) (sl : Strict less) (key : ℕ → ℕ) (o
       go (yes e) = (rw e (strict-self less sl (key b)), λ d. sym (key-equal a b d) ∙ h)
       go (no n) = (sl .asymmetric (key a) (key b) (sym (key-differs a b n) ∙ h), λ d. absurd (n d))
 
--- ---- the order of candidates: R is the key, the greater first, and then the smaller number
+-- ---- the order of candidates: R is the key, the greater first; then the one-bits, the fewer first; then the smaller number
+
+-- fewer one-bits first, and then the smaller number
+lighter-strict : Strict (byKey ltb ones ltb)
+lighter-strict = key-strict ltb ltb-strict ones ltb ltb-strict
 
 -- it is a strict total order, for every R
 pub before-strict : (r : ℕ → ℕ) → Strict (before r)
 unfolding before
-before-strict r = key-strict more more-strict r ltb ltb-strict
+before-strict r = key-strict more more-strict r (byKey ltb ones ltb) lighter-strict
 
--- what it says that a stands before b: the R of a is no smaller, and at equal R the number a is smaller
-pub before-true : (r : ℕ → ℕ) (a b : ℕ) → before r a b ≡ true → (r b ≤ r a) × (r a ≡ r b → a < b)
+-- it puts a greater R first
+pub before-greater : (r : ℕ → ℕ) → GreaterFirst (before r) r
+unfolding before
+before-greater r a b h = key-first more more-strict r (byKey ltb ones ltb) a b (lt-ltb (r b) (r a) h)
+
+-- what it says that a stands before b
+pub record Ahead (r : ℕ → ℕ) (a b : ℕ) : Type 0 where
+  pub value : r b ≤ r a
+  pub weight : r a ≡ r b → ones a ≤ ones b
+  pub number : r a ≡ r b → ones a ≡ ones b → a < b
+
+pub before-true : (r : ℕ → ℕ) (a b : ℕ) → before r a b ≡ true → Ahead r a b
 unfolding before
 before-true r a b h =
-    let t = key-true more more-strict r ltb a b h in
-    (ltb-false (r a) (r b) (t .0), λ e. ltb-true a b (t .1 e))
+    let t = key-true more more-strict r (byKey ltb ones ltb) a b h in
+    let u : r a ≡ r b → (ltb (ones b) (ones a) ≡ false) × (ones a ≡ ones b → ltb a b ≡ true) =
+    λ e. key-true ltb ltb-strict ones ltb a b (t .1 e) in
+    record {
+      value = ltb-false (r a) (r b) (t .0);
+      weight = λ e. ltb-false (ones b) (ones a) (u e .0);
+      number = λ e o. ltb-true a b (u e .1 o);
+    }

@@ -66,7 +66,7 @@ candidate-unit w n c k hw h ind =
     )
 
 -- 0 is none
-candidate-zero : (w : ℕ) (c : ℕ → ℕ) (k : ℕ) → candidate w c k 0 ≡ false
+pub candidate-zero : (w : ℕ) (c : ℕ → ℕ) (k : ℕ) → candidate w c k 0 ≡ false
 unfolding candidate ones onesIn
 candidate-zero w c k = refl
 

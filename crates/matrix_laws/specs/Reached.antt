@@ -70,14 +70,14 @@ pub record Coordinates (n : ℕ) (c : ℕ → ℕ) (k : ℕ) : Type 0 where
   pub sends : (j : ℕ) → j < k → reached n c k (c j) ≡ 2 ^ j
 
 -- only 0 has the coordinates 0
-kernel : (n : ℕ) (c : ℕ → ℕ) (k : ℕ) → Coordinates n c k → (t : ℕ) → reached n c k t ≡ 0 → t ≡ 0
-kernel n c k g t e =
+pub reached-kernel : (n : ℕ) (c : ℕ → ℕ) (k : ℕ) → Coordinates n c k → (t : ℕ) → reached n c k t ≡ 0 → t ≡ 0
+reached-kernel n c k g t e =
     sym (g .back t) ∙ ap (returned n c k) (e ∙ sym (linear-zero (reached n c k) (reached-linear n c k))) ∙ g .back 0
 
 spans : (n : ℕ) (c : ℕ → ℕ) (k : ℕ) → ((j : ℕ) → j < k → c j < 2 ^ n) → Coordinates n c k → (t : ℕ) → t < 2 ^ n
     → span c k t ≡ ltb (reached n c k t) (2 ^ k)
 spans n c k hc g t h =
-    span-linear (reached n c k) (reached-linear n c k) c n k (λ t l e. kernel n c k g t e) hc (g .sends) t h
+    span-linear (reached n c k) (reached-linear n c k) c n k (λ t l e. reached-kernel n c k g t e) hc (g .sends) t h
 
 -- one step more
 step : (n : ℕ) (c : ℕ → ℕ) (k : ℕ) → k < n → c k < 2 ^ n → Coordinates n c k → 2 ^ k ≤ reached n c k (c k) → Coordinates n c (suc k)

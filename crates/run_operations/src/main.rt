@@ -1,6 +1,7 @@
 // Cases of the operations on tables and lists, run: the arguments are files of data/, one case to a line with the answer due (crate
 // case_lines has the form). A case that is answered otherwise is said with what was answered; at the end stands how many were as due.
-// operations.txt comes from a program of another hand, ranges.txt has 01's blocks to try by hand and the ends of each range.
+// operations.txt and the two of the order come from a program of another hand, ranges.txt has 01's and 02's blocks to try by hand and
+// the ends of each range.
 use case_lines::HELD;
 use case_lines::HELD_ENTRY;
 use case_lines::NUMBERS;

@@ -109,8 +109,9 @@ fn imported(name: &[u8], text: &[u8]) -> (String, Vec<u8>, Vec<u8>) {
 fn drawn_imports() {
     let mut texts = 0;
     for seed in 0..draws() {
-        let (Case::Program { input: text } | Case::ReadText { text, .. }) = Case::new(seed) else {
-            continue;
+        let text = match Case::new(seed) {
+            Case::Program { input: text } | Case::ReadText { text, .. } => text,
+            _ => continue,
         };
         let due = String::from_utf8(Plain::program(&text[..text.len().min(8_192)])).unwrap();
         let name = drawn_name(&mut Random::new(seed));

@@ -1,6 +1,6 @@
 //! An implementation against cases with their answers: the files of `crates/run_operations/data`
 //! have one operation a line with its answer, `crates/run_texts/data` texts for the program with
-//! what it prints. `operations.txt` and most of the texts are worked out by a third program. Lent storage is looked at in full: what an answer does not write
+//! what it prints. `operations.txt`, those of the order and most of the texts are worked out by a third program. Lent storage is looked at in full: what an answer does not write
 //! holds what it held.
 
 use crate::inputs::LentRows;
@@ -204,7 +204,12 @@ fn written_out(line: &str) -> String {
 
 /// Every operation of `crates/run_operations/data` has the answer that stands beside it.
 pub fn check_operations<O: Operations>() {
-    for (name, cases) in [("operations.txt", 300), ("ranges.txt", 96)] {
+    for (name, cases) in [
+        ("operations.txt", 300),
+        ("order_lists.txt", 106),
+        ("order_tables.txt", 87),
+        ("ranges.txt", 98),
+    ] {
         let path = from_here("../../crates/run_operations/data").join(name);
         let text = fs::read_to_string(path).unwrap();
         let mut count = 0;
@@ -236,5 +241,5 @@ pub fn check_lists<O: Operations>() {
             count += 1;
         }
     }
-    assert_eq!(count, 91);
+    assert_eq!(count, 151);
 }

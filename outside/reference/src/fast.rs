@@ -45,6 +45,12 @@ impl Span {
     }
 }
 
+/// Whether t, a later candidate than the best so far, takes its place: a
+/// greater R, or fewer one-bits at equal R.
+fn is_before(t: u32, r: u64, best: (u32, u64)) -> bool {
+    r > best.1 || r == best.1 && t.count_ones() < best.0.count_ones()
+}
+
 /// The n chosen numbers with their R, from the candidates and their R, smallest
 /// candidate first.
 fn basis(n: usize, candidates: &[(u32, u64)]) -> Vec<(u32, u64)> {
@@ -53,7 +59,7 @@ fn basis(n: usize, candidates: &[(u32, u64)]) -> Vec<(u32, u64)> {
     for _ in 0..n {
         let mut best: Option<(u32, u64)> = None;
         for &(t, r) in candidates {
-            if best.map_or(true, |(_, greatest)| r > greatest) && span.rest(t) != 0 {
+            if best.map_or(true, |best| is_before(t, r, best)) && span.rest(t) != 0 {
                 best = Some((t, r));
             }
         }

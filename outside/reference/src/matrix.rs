@@ -1,6 +1,8 @@
 //! The basis and the matrix (01, The basis and the matrix). T is given by its
 //! columns, sigma by its rows, lowest index first.
 
+use std::cmp::Reverse;
+
 /// The position of the highest one-bit of a number that is not 0.
 pub(crate) fn highest(number: u32) -> usize {
     31 - number.leading_zeros() as usize
@@ -12,9 +14,10 @@ pub fn candidates(n: usize, w: usize) -> impl Iterator<Item = u32> {
     (1..1u32 << n).filter(move |t| t.count_ones() as usize <= w)
 }
 
-/// The numbers chosen in n steps, from the candidates with their R, smallest
-/// candidate first. At each step the greatest R among those that are not an
-/// XOR of some set of the chosen; among equals the smallest number.
+/// The numbers chosen in n steps, from the candidates with their R. At each
+/// step the greatest R among those that are not an XOR of some set of the
+/// chosen; among candidates with equal R the one with fewer one-bits, then the
+/// smaller number (02, Ticket 1).
 pub fn basis(n: usize, candidates: &[(u32, u64)]) -> Vec<u32> {
     let mut chosen = Vec::new();
     // Every XOR of some set of the chosen numbers.
@@ -22,13 +25,9 @@ pub fn basis(n: usize, candidates: &[(u32, u64)]) -> Vec<u32> {
     let mut is_sum = vec![false; 1 << n];
     is_sum[0] = true;
     for _ in 0..n {
-        let mut best: Option<(u32, u64)> = None;
-        for &(t, r) in candidates {
-            if !is_sum[t as usize] && best.map_or(true, |(_, greatest)| r > greatest) {
-                best = Some((t, r));
-            }
-        }
-        let (t, _) = best.expect("unit numbers are candidates");
+        let left = candidates.iter().filter(|(t, _)| !is_sum[*t as usize]);
+        let first = left.min_by_key(|&&(t, r)| (Reverse(r), t.count_ones(), t));
+        let &(t, _) = first.expect("unit numbers are candidates");
         chosen.push(t);
         for i in 0..sums.len() {
             let sum = sums[i] ^ t;
