@@ -29,6 +29,8 @@ fn operations() -> Table {
     let one_word = list(16, 128, &[3, 16], 128, |random| {
         worded(rows(random, 16, 15, 128), 1)
     });
+    // R is the same at every t, so that the one-bits decide each comparison.
+    let whole = LentRows::new(&[Row::default()]);
     let rows_12 = rows(&mut Random::new(12), 12, 12, 512);
     let table_12 = table(&mut Random::new(3), 12, 12);
     Table {
@@ -50,6 +52,14 @@ fn operations() -> Table {
             Call::new(
                 "row method, the same rows, w 16",
                 row_method(16, 16, &one_word),
+            ),
+            Call::new(
+                "row method, one row over all points, w 3",
+                row_method(16, 3, &whole),
+            ),
+            Call::new(
+                "row method, the same row, w 16",
+                row_method(16, 16, &whole),
             ),
             Call::new("single value, 128 rows, 16 inputs", row_value(&few_words)),
             Call::new("table method, 12 inputs, w 12", table_method(&table_12, 12)),

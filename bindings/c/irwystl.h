@@ -128,8 +128,8 @@ irwystl_value_answer irwystl_table_value(size_t n, size_t k, size_t t, const uin
 
 /*
  * T, sigma, the smaller table and both measures of a table of 2^n entries, with weight limit w: the numbers chosen for T have at most w
- * one-bits. basis gets T's n columns, sigma its n rows, smaller 2^n entries: each is room for at least that many. Refuses with 1, 2, 3 (w),
- * 4, 5, 6. Promise: tables::table_method.
+ * one-bits. The greatest R is taken first, at equal R the number with the fewest one-bits, then the smallest. basis gets T's n columns, sigma
+ * its n rows, smaller 2^n entries: each is room for at least that many. Refuses with 1, 2, 3 (w), 4, 5, 6. Promise: tables::table_method.
  */
 irwystl_table_method_answer irwystl_table_method(size_t n, size_t k, size_t w, const uint16_t *table, size_t table_length,
                                                  uint32_t *basis, size_t basis_length, uint32_t *sigma, size_t sigma_length,

@@ -111,8 +111,9 @@ pub fn table_value(n: usize, k: usize, t: usize, table: &[u16]) -> Result<u64, R
 }
 
 /// T, sigma, the smaller table and both measures of a table of 2^n entries, with
-/// weight limit w. `basis` and `sigma` are room for n numbers each, `smaller` for
-/// 2^n entries. Refuses with 1, 2, 3 (w), 4, 5 and 6.
+/// weight limit w. The greatest R is taken first, at equal R the number with the
+/// fewest one-bits, then the smallest. `basis` and `sigma` are room for n numbers
+/// each, `smaller` for 2^n entries. Refuses with 1, 2, 3 (w), 4, 5 and 6.
 ///
 /// ```
 /// let [mut basis, mut sigma] = [[0; 2]; 2];
