@@ -148,9 +148,9 @@ irwystl_answer irwystl_restore_table(size_t n, size_t k, const uint32_t *sigma, 
 irwystl_value_answer irwystl_records_row_value(size_t n, size_t k, size_t t, const irwystl_row *rows, size_t rows_length);
 
 /*
- * T, sigma, the smaller rows and both measures of a list of 1 to 128 rows, with weight limit w. basis and sigma are room for at least n
- * numbers each, smaller for at least IRWYSTL_SMALLER_ROWS rows, of which the first `count` are written. Refuses with 1, 2, 3 (w), 4, 5, 6,
- * 7, 9. Promise: records::row_method.
+ * T, sigma, the smaller rows and both measures of a list of 1 to 128 rows, with weight limit w; T is chosen as for a table. basis and sigma
+ * are room for at least n numbers each, smaller for at least IRWYSTL_SMALLER_ROWS rows, of which the first `count` are written. Refuses
+ * with 1, 2, 3 (w), 4, 5, 6, 7, 9. Promise: records::row_method.
  */
 irwystl_row_method_answer irwystl_records_row_method(size_t n, size_t k, size_t w, const irwystl_row *rows, size_t rows_length,
                                                      uint32_t *basis, size_t basis_length, uint32_t *sigma, size_t sigma_length,

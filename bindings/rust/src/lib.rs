@@ -198,9 +198,9 @@ pub fn row_value(n: usize, k: usize, t: usize, rows: &[Row]) -> Result<u64, Refu
 }
 
 /// T, sigma, the smaller rows and both measures of a list of 1 to 128 rows, with
-/// weight limit w. `basis` and `sigma` are room for n numbers each, `smaller` for
-/// [`SMALLER_ROWS`] rows, of which the first `count` are written. Refuses with 1,
-/// 2, 3 (w), 4, 5, 6, 7 and 9.
+/// weight limit w; T is chosen as for a table. `basis` and `sigma` are room for n
+/// numbers each, `smaller` for [`SMALLER_ROWS`] rows, of which the first `count`
+/// are written. Refuses with 1, 2, 3 (w), 4, 5, 6, 7 and 9.
 ///
 /// ```
 /// use irwystl::{row_method, Row, SMALLER_ROWS};

@@ -1,7 +1,7 @@
 -- How many numbers can be independent: n independent numbers of n bits give every number of n bits, so no more than n are; and no more
 -- than k are where each is an XOR of some of k independent ones. Assumes nothing.
-use mathlib.Core.Path.{_≡_, refl, sym, ap, ap₂, _∙_}
-use mathlib.Core.Bool.{Bool, true, false, _||_, false≢true}
+use mathlib.Core.Path.{_≡_, sym, ap, ap₂, _∙_}
+use mathlib.Core.Bool.{Bool, true, _||_, false≢true}
 use Prim.Native.Nat.{ℕ, zero, suc, _+_, _-_, _^_, _≤_, _<_}
 use native.Mathlib.Decide.{ℕ-discrete, decLt}
 use native.Mathlib.Nat.{add-zero, add-suc}
@@ -26,12 +26,12 @@ span-more c j k t l h =
     sym (ap (λ (m : ℕ). span c m t) e) ∙ span-behind c j (k - j) t h
 
 -- n independent numbers of n bits give every number of n bits
-pub span-all : (c : ℕ → ℕ) (n : ℕ) → Independent c n n → (t : ℕ) → t < 2 ^ n → span c n t ≡ true
+span-all : (c : ℕ → ℕ) (n : ℕ) → Independent c n n → (t : ℕ) → t < 2 ^ n → span c n t ≡ true
 span-all c n i t h =
     reached-span n c n (omega arith) i t h ∙ lt-ltb (reached n c n t) (2 ^ n) (reaches n c n (omega arith) i .keeps t h)
 
 -- so no more than n are independent
-pub independent-few : (c : ℕ → ℕ) (n m : ℕ) → Independent c n m → m ≤ n
+independent-few : (c : ℕ → ℕ) (n m : ℕ) → Independent c n m → m ≤ n
 independent-few c n m i = go (decLt n m)
   where
     go : Dec (n < m) → m ≤ n

@@ -26,7 +26,7 @@ abbrev pub TakenBy : (ℕ → ℕ → Bool) → ℕ → ℕ → (ℕ → ℕ) �
 TakenBy order n w c k = (j : ℕ) → j < k → Choice order (candidate w c j) (2 ^ n) (c j)
 
 -- a number with 1 to w one-bits is a candidate unless it is an XOR of some of those before
-pub candidate-when : (w : ℕ) (c : ℕ → ℕ) (k t : ℕ) → 1 ≤ ones t → ones t ≤ w → span c k t ≡ false → candidate w c k t ≡ true
+candidate-when : (w : ℕ) (c : ℕ → ℕ) (k t : ℕ) → 1 ≤ ones t → ones t ≤ w → span c k t ≡ false → candidate w c k t ≡ true
 unfolding candidate
 candidate-when w c k t a b e = rw (le-leb 1 (ones t) a, le-leb (ones t) w b, e)
 
@@ -43,7 +43,7 @@ module _ (order : ℕ → ℕ → Bool) (n w : ℕ) where
         leads = λ t l p m. q .leads t l (candidate-cong w c d j h t ∙ p) m;
       }
 
-  pub taken-cong : (c d : ℕ → ℕ) (k : ℕ) → ((j : ℕ) → j < k → c j ≡ d j) → TakenBy order n w c k → TakenBy order n w d k
+  taken-cong : (c d : ℕ → ℕ) (k : ℕ) → ((j : ℕ) → j < k → c j ≡ d j) → TakenBy order n w c k → TakenBy order n w d k
   taken-cong c d k h g j l = rw (← h j l) (choice-cong c d j (c j) (λ i u. h i (omega arith)) (g j l))
 
   -- they are independent
@@ -89,7 +89,7 @@ basis-ordered f n w hw =
 
 module _ (order : ℕ → ℕ → Bool) (s : Strict order) (r : ℕ → ℕ) (h : GreaterFirst order r) (n w : ℕ) (c : ℕ → ℕ) (g : TakenBy order n w c n) where
   -- each number has the greatest R of the candidates that those before it leave
-  pub taken-greatest : (k t : ℕ) → k < n → t < 2 ^ n → candidate w c k t ≡ true → r t ≤ r (c k)
+  taken-greatest : (k t : ℕ) → k < n → t < 2 ^ n → candidate w c k t ≡ true → r t ≤ r (c k)
   taken-greatest k t l b e = go (ℕ-discrete t (c k)) (decLt (r (c k)) (r t))
     where
       go : Dec (t ≡ c k) → Dec (r (c k) < r t) → r t ≤ r (c k)
@@ -108,7 +108,7 @@ module _ (order : ℕ → ℕ → Bool) (s : Strict order) (r : ℕ → ℕ) (h 
       go false e = e
 
   -- so R never rises from step to step
-  pub taken-falls : (j k : ℕ) → j ≤ k → k < n → r (c k) ≤ r (c j)
+  taken-falls : (j k : ℕ) → j ≤ k → k < n → r (c k) ≤ r (c j)
   taken-falls j k l b = taken-greatest j (c k) (omega arith) (g k b .below) (earlier-candidate j k l b)
 
 -- of the numbers taken under two such orders, none of the second has a greater R than the one of the same step of the first: were it so, the
