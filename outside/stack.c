@@ -1,8 +1,8 @@
 /*
  * How much stack each operation takes: called in a thread whose stack was filled with one byte, and counted down to the lowest byte that
  * changed. The code has no recursion and its arrays have fixed lengths, so what a call takes goes by the functions that it reaches; each
- * operation is called on a list or table that it answers. Prints a line an operation, and ends with 1 where one takes more than MOST or is
- * refused.
+ * operation is called on a list or table that it answers, of either type. Prints a line an operation and type, and ends with 1 where one
+ * takes more than MOST or is refused.
  */
 #define _GNU_SOURCE
 #include <pthread.h>
@@ -23,37 +23,37 @@ static uint32_t masks[ROWS], values[ROWS], words[ROWS], basis[16], sigma[16];
 static uint32_t smaller_masks[IRWYSTL_SMALLER_ROWS], smaller_values[IRWYSTL_SMALLER_ROWS], smaller_words[IRWYSTL_SMALLER_ROWS];
 static uint16_t table[POINTS], made[POINTS];
 static uint8_t text[8192], out[IRWYSTL_SHEET_ROOM], line[IRWYSTL_LINE_ROOM];
-static size_t text_length;
+static size_t text_length, type;
 
 #define FLAT masks, ROWS, values, ROWS, words, ROWS
 
 static uint32_t nothing(void) { return 0; }
-static uint32_t table_value(void) { return irwystl_table_value(12, 7, 5, table, POINTS).number; }
-static uint32_t table_method(void) { return irwystl_table_method(12, 7, 12, table, POINTS, basis, 16, sigma, 16, made, POINTS).number; }
-static uint32_t restore_table(void) { return irwystl_restore_table(12, 7, sigma, 12, table, POINTS, made, POINTS).number; }
-static uint32_t row_value(void) { return irwystl_row_value(16, 7, 5, FLAT).number; }
+static uint32_t table_value(void) { return irwystl_table_value(12, 7, type, 5, table, POINTS).number; }
+static uint32_t table_method(void) { return irwystl_table_method(12, 7, type, 12, table, POINTS, basis, 16, sigma, 16, made, POINTS).number; }
+static uint32_t restore_table(void) { return irwystl_restore_table(12, 7, type, sigma, 12, table, POINTS, made, POINTS).number; }
+static uint32_t row_value(void) { return irwystl_row_value(16, 7, type, 5, FLAT).number; }
 static uint32_t row_method(void) {
-  return irwystl_row_method(16, 7, 16, FLAT, basis, 16, sigma, 16, smaller_masks, IRWYSTL_SMALLER_ROWS, smaller_values, IRWYSTL_SMALLER_ROWS,
-                            smaller_words, IRWYSTL_SMALLER_ROWS).number;
+  return irwystl_row_method(16, 7, type, 16, FLAT, basis, 16, sigma, 16, smaller_masks, IRWYSTL_SMALLER_ROWS, smaller_values,
+                            IRWYSTL_SMALLER_ROWS, smaller_words, IRWYSTL_SMALLER_ROWS).number;
 }
-static uint32_t fill_table(void) { return irwystl_fill_table(12, 7, FLAT, made, POINTS).number; }
+static uint32_t fill_table(void) { return irwystl_fill_table(12, 7, type, FLAT, made, POINTS).number; }
 static uint32_t write_text(void) {
-  irwystl_text_answer r = irwystl_write_text(16, 7, FLAT, text, sizeof text);
+  irwystl_text_answer r = irwystl_write_text(16, 7, type, 1, FLAT, text, sizeof text);
   text_length = r.count;
   return r.number;
 }
 static uint32_t read_text(void) {
   return irwystl_read_text(text, text_length, smaller_masks, ROWS, smaller_values, ROWS, smaller_words, ROWS).number;
 }
-static uint32_t sheet(void) { return irwystl_sheet(16, 7, 16, FLAT, out, sizeof out).number; }
-static uint32_t records_row_value(void) { return irwystl_records_row_value(16, 7, 5, rows, ROWS).number; }
+static uint32_t sheet(void) { return irwystl_sheet(16, 7, type, 16, FLAT, out, sizeof out).number; }
+static uint32_t records_row_value(void) { return irwystl_records_row_value(16, 7, type, 5, rows, ROWS).number; }
 static uint32_t records_row_method(void) {
-  return irwystl_records_row_method(16, 7, 16, rows, ROWS, basis, 16, sigma, 16, smaller, IRWYSTL_SMALLER_ROWS).number;
+  return irwystl_records_row_method(16, 7, type, 16, rows, ROWS, basis, 16, sigma, 16, smaller, IRWYSTL_SMALLER_ROWS).number;
 }
-static uint32_t records_fill_table(void) { return irwystl_records_fill_table(12, 7, rows, ROWS, made, POINTS).number; }
-static uint32_t records_write_text(void) { return irwystl_records_write_text(16, 7, rows, ROWS, out, sizeof out).number; }
+static uint32_t records_fill_table(void) { return irwystl_records_fill_table(12, 7, type, rows, ROWS, made, POINTS).number; }
+static uint32_t records_write_text(void) { return irwystl_records_write_text(16, 7, type, 1, rows, ROWS, out, sizeof out).number; }
 static uint32_t records_read_text(void) { return irwystl_records_read_text(text, text_length, smaller, ROWS).number; }
-static uint32_t records_sheet(void) { return irwystl_records_sheet(16, 7, 16, rows, ROWS, out, sizeof out).number; }
+static uint32_t records_sheet(void) { return irwystl_records_sheet(16, 7, type, 16, rows, ROWS, out, sizeof out).number; }
 static uint32_t print_text(void) { return irwystl_print_text(text, text_length, out) == 0 || out[0] != 's'; }
 static uint32_t import_text(void) { return irwystl_import_text((const uint8_t *)"name", 4, text, text_length, out, line).number; }
 
@@ -119,10 +119,12 @@ int main(void) {
   for (i = 0; i < POINTS; i++) table[i] = (uint16_t)((i * 37 + 11) % 128);
   taken(&none);
   start = taken(&none);
-  for (i = 0; i < sizeof calls / sizeof *calls; i++) {
-    size_t bytes = taken(&calls[i]);
-    if (bytes == 0 || bytes > MOST || calls[i].number != 0) failed = 1;
-    printf("%-20s %7zu bytes%s\n", calls[i].name, bytes < start ? 0 : bytes - start, calls[i].number != 0 ? ", refused" : "");
-  }
+  for (type = IRWYSTL_FR; type <= IRWYSTL_FD; type++)
+    for (i = 0; i < sizeof calls / sizeof *calls; i++) {
+      size_t bytes = taken(&calls[i]);
+      if (bytes == 0 || bytes > MOST || calls[i].number != 0) failed = 1;
+      printf("%-20s %s %7zu bytes%s\n", calls[i].name, type == IRWYSTL_FR ? "fr" : "fd", bytes < start ? 0 : bytes - start,
+             calls[i].number != 0 ? ", refused" : "");
+    }
   return failed;
 }

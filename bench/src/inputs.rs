@@ -2,7 +2,8 @@
 
 use crate::calls::Call;
 use reference::inputs::{hidden_rows, rows, table, text, Case, LentRows, Random};
-use reference::{Fast, Operations, Row, SHEET_ROOM, SMALLER_ROWS};
+use reference::{Fast, Operations, Row, TextHead, FD, FR, SHEET_ROOM, SMALLER_ROWS};
+use std::ops::Range;
 
 /// Calls whose times are shown together.
 pub struct Table {
@@ -14,6 +15,7 @@ pub struct Table {
 pub fn tables() -> Vec<Table> {
     vec![
         operations(),
+        by_type(),
         text_parts(),
         by_rows(),
         by_inputs(),
@@ -21,13 +23,13 @@ pub fn tables() -> Vec<Table> {
     ]
 }
 
-/// Each operation on large inputs.
+/// Each operation on large inputs of type fr.
 fn operations() -> Table {
-    let few_words = list(16, 128, &[3, 16], 256, |random| {
+    let few_words = list(16, 128, &[FR], &[3, 16], 256, |random| {
         hidden_rows(random, 16, 15, 128)
     });
-    let one_word = list(16, 128, &[3, 16], 128, |random| {
-        worded(rows(random, 16, 15, 128), 1)
+    let one_word = list(16, 128, &[FR], &[3, 16], 128, |random| {
+        worded(rows(random, 16, 15, 128), 0..1)
     });
     // R is the same at every t, so that the one-bits decide each comparison.
     let whole = LentRows::new(&[Row::default()]);
@@ -38,70 +40,120 @@ fn operations() -> Table {
         calls: vec![
             Call::new(
                 "row method, 128 rows, 16 inputs, w 3",
-                row_method(16, 3, &few_words),
+                row_method(16, FR, 3, &few_words),
             ),
-            Call::on_records("the same on records", row_method(16, 3, &few_words)),
+            Call::on_records("the same on records", row_method(16, FR, 3, &few_words)),
             Call::new(
                 "row method, the same rows, w 16",
-                row_method(16, 16, &few_words),
+                row_method(16, FR, 16, &few_words),
             ),
             Call::new(
                 "row method, 128 rows of one word, w 3",
-                row_method(16, 3, &one_word),
+                row_method(16, FR, 3, &one_word),
             ),
             Call::new(
                 "row method, the same rows, w 16",
-                row_method(16, 16, &one_word),
+                row_method(16, FR, 16, &one_word),
             ),
             Call::new(
                 "row method, one row over all points, w 3",
-                row_method(16, 3, &whole),
+                row_method(16, FR, 3, &whole),
             ),
             Call::new(
                 "row method, the same row, w 16",
-                row_method(16, 16, &whole),
+                row_method(16, FR, 16, &whole),
             ),
-            Call::new("single value, 128 rows, 16 inputs", row_value(&few_words)),
+            Call::new(
+                "single value, 128 rows, 16 inputs",
+                row_value(FR, &few_words),
+            ),
             Call::new("table method, 12 inputs, w 12", table_method(&table_12, 12)),
             Call::new(
                 "table method, the same table, w 3",
                 table_method(&table_12, 3),
             ),
             Call::new("single value, table of 12 inputs", table_value(&table_12)),
-            Call::new("filling, 512 rows, 12 inputs", fill(&rows_12)),
+            Call::new("filling, 512 rows, 12 inputs", fill(FR, &rows_12)),
             Call::new("restoring, 12 inputs", restore(&table_12)),
             Call::all("300 row texts to sheets", texts(300)),
         ],
     }
 }
 
+/// Lists of either type, with more and more different words; each has missing
+/// points, and no row of word 0. Then the other operations on lists.
+fn by_type() -> Table {
+    let both = |name: &str, case: &dyn Fn(usize) -> Case| {
+        [(FR, "fr"), (FD, "fd")].map(|(block_type, word)| {
+            let name = format!("{name}, {word}");
+            Call::new(name, case(block_type))
+        })
+    };
+    let rows_of = |words: u32| {
+        list(16, 128, &[FR, FD], &[3], 128, |random| {
+            worded(rows_with_missing(random), 1..words + 1)
+        })
+    };
+    let [one, eight, each] = [1, 8, 128].map(rows_of);
+    let mut rows_12 = rows(&mut Random::new(12), 12, 12, 512);
+    rows_12.truncate(480);
+    let calls = [
+        both("row method, rows of 1 word", &|y| {
+            row_method(16, y, 3, &one)
+        }),
+        both("row method, 8 words", &|y| row_method(16, y, 3, &eight)),
+        both("row method, 128 words", &|y| row_method(16, y, 3, &each)),
+        both("single value, 8 words", &|y| row_value(y, &eight)),
+        both("filling, 480 rows, 12 inputs", &|y| fill(y, &rows_12)),
+    ];
+    Table {
+        title: "lists by type, 128 rows, 16 inputs, w 3",
+        calls: calls.into_iter().flatten().collect(),
+    }
+}
+
+/// 128 rows of 16 inputs that leave points out.
+fn rows_with_missing(random: &mut Random) -> Vec<Row> {
+    let rows = rows(random, 16, 15, 128);
+    let covered: u32 = rows
+        .iter()
+        .map(|row| 1 << (16 - row.mask.count_ones()))
+        .sum();
+    match covered {
+        65_536 => rows_with_missing(random),
+        _ => rows,
+    }
+}
+
 /// What the way from 300 row texts to sheets is made of.
 fn text_parts() -> Table {
-    let read: Vec<(usize, usize, LentRows)> = (0..300).map(read).collect();
-    let each = |case: fn(&(usize, usize, LentRows)) -> Case| read.iter().map(case).collect();
+    let read: Vec<(TextHead, LentRows)> = (0..300).map(read).collect();
+    let each = |case: fn(&(TextHead, LentRows)) -> Case| read.iter().map(case).collect();
     Table {
         title: "300 row texts, part by part",
         calls: vec![
             Call::all("reading them", (0..300).map(reading).collect()),
             Call::all(
                 "single value of each list, at 1",
-                each(|(n, k, rows)| Case::RowValue {
-                    n: *n,
-                    k: *k,
+                each(|(head, rows)| Case::RowValue {
+                    n: head.n,
+                    k: head.k,
+                    block_type: head.block_type,
                     t: 1,
                     rows: rows.clone(),
                 }),
             ),
             Call::all(
                 "row method on each list",
-                each(|(n, _, rows)| row_method(*n, 3.min(*n), rows)),
+                each(|(head, rows)| row_method(head.n, head.block_type, 3.min(head.n), rows)),
             ),
             Call::all(
                 "sheet of each list",
-                each(|(n, k, rows)| Case::Sheet {
-                    n: *n,
-                    k: *k,
-                    w: 3.min(*n),
+                each(|(head, rows)| Case::Sheet {
+                    n: head.n,
+                    k: head.k,
+                    block_type: head.block_type,
+                    w: 3.min(head.n),
                     rows: rows.clone(),
                     bytes: vec![0; SHEET_ROOM],
                 }),
@@ -115,7 +167,7 @@ fn by_rows() -> Table {
     let call = |count| {
         Call::new(
             format!("{count} rows"),
-            row_method(16, 3, &plain(16, count, &[3])),
+            row_method(16, FR, 3, &plain(16, count, &[3])),
         )
     };
     Table {
@@ -130,7 +182,7 @@ fn by_inputs() -> Table {
         let count = if n == 4 { 16 } else { 64 };
         Call::new(
             format!("{n} inputs, {count} rows"),
-            row_method(n, 3, &plain(n, count, &[3])),
+            row_method(n, FR, 3, &plain(n, count, &[3])),
         )
     };
     Table {
@@ -146,7 +198,7 @@ fn by_weight() -> Table {
     Table {
         title: "row method by weight limit, 128 rows, 16 inputs",
         calls: limits
-            .map(|w| Call::new(format!("w {w}"), row_method(16, w, &rows)))
+            .map(|w| Call::new(format!("w {w}"), row_method(16, FR, w, &rows)))
             .into(),
     }
 }
@@ -154,44 +206,51 @@ fn by_weight() -> Table {
 /// So many rows, with the words 0 to 7 in turn, so that lists of different
 /// lengths have the same share of pairs with equal words.
 fn plain(n: usize, count: usize, limits: &[usize]) -> LentRows {
-    list(n, count, limits, 1, |random| {
-        worded(rows(random, n, 15, count), 8)
+    list(n, count, &[FR], limits, 1, |random| {
+        worded(rows(random, n, 15, count), 0..8)
     })
 }
 
-/// The rows with the words below `words` in turn.
-fn worded(mut rows: Vec<Row>, words: u32) -> Vec<Row> {
-    for (row, word) in rows.iter_mut().zip((0..words).cycle()) {
+/// The rows with these words in turn.
+fn worded(mut rows: Vec<Row>, words: Range<u32>) -> Vec<Row> {
+    for (row, word) in rows.iter_mut().zip(words.cycle()) {
         row.word = word;
     }
     rows
 }
 
 /// The first list drawn that has so many rows, and for which the row method
-/// gives at least so many smaller rows with each of the weight limits.
+/// gives at least so many smaller rows under each of the types with each of the
+/// weight limits.
 fn list(
     n: usize,
     count: usize,
+    types: &[usize],
     limits: &[usize],
     least: u64,
     draw: impl Fn(&mut Random) -> Vec<Row>,
 ) -> LentRows {
-    let grows = |rows: &LentRows, w: usize| {
-        let answer = row_method(n, w, rows).run::<Fast>();
+    let grows = |rows: &LentRows, block_type: usize, w: usize| {
+        let answer = row_method(n, block_type, w, rows).run::<Fast>();
         answer.number == 0 && answer.results[2] >= least
+    };
+    let all_grow = |rows: &LentRows| {
+        let with_limits = |&y: &usize| limits.iter().all(|&w| grows(rows, y, w));
+        types.iter().all(with_limits)
     };
     (1..)
         .map(|seed| draw(&mut Random::new(seed)))
         .filter(|rows| rows.len() == count)
         .map(|rows| LentRows::new(&rows))
-        .find(|rows| limits.iter().all(|&w| grows(rows, w)))
+        .find(all_grow)
         .expect("some seed gives one")
 }
 
-fn row_method(n: usize, w: usize, rows: &LentRows) -> Case {
+fn row_method(n: usize, block_type: usize, w: usize, rows: &LentRows) -> Case {
     Case::RowMethod {
         n,
         k: 15,
+        block_type,
         w,
         rows: rows.clone(),
         smaller: LentRows::new(&[Row::default(); SMALLER_ROWS]),
@@ -200,10 +259,11 @@ fn row_method(n: usize, w: usize, rows: &LentRows) -> Case {
     }
 }
 
-fn row_value(rows: &LentRows) -> Case {
+fn row_value(block_type: usize, rows: &LentRows) -> Case {
     Case::RowValue {
         n: 16,
         k: 15,
+        block_type,
         t: 0b1010_0000,
         rows: rows.clone(),
     }
@@ -213,6 +273,7 @@ fn table_method(table: &[u16], w: usize) -> Case {
     Case::TableMethod {
         n: 12,
         k: 12,
+        block_type: FR,
         w,
         table: table.to_vec(),
         smaller: vec![0; table.len()],
@@ -225,15 +286,17 @@ fn table_value(table: &[u16]) -> Case {
     Case::TableValue {
         n: 12,
         k: 12,
+        block_type: FR,
         t: 0b1010_0000,
         table: table.to_vec(),
     }
 }
 
-fn fill(rows: &[Row]) -> Case {
+fn fill(block_type: usize, rows: &[Row]) -> Case {
     Case::Fill {
         n: 12,
         k: 12,
+        block_type,
         rows: LentRows::new(rows),
         table: vec![0; 1 << 12],
     }
@@ -243,10 +306,12 @@ fn fill(rows: &[Row]) -> Case {
 fn restore(table: &[u16]) -> Case {
     let mut smaller = vec![0; table.len()];
     let [mut columns, mut sigma] = [vec![0; 12], vec![0; 12]];
-    Fast::table_method(12, 12, 12, table, &mut smaller, &mut columns, &mut sigma);
+    let [t, s] = [&mut columns, &mut sigma];
+    Fast::table_method(12, 12, FR, 12, table, &mut smaller, t, s);
     Case::Restore {
         n: 12,
         k: 12,
+        block_type: FR,
         sigma,
         smaller,
         table: vec![0; table.len()],
@@ -275,12 +340,12 @@ fn reading(seed: u64) -> Case {
     }
 }
 
-/// What the text of a seed says: n, k and the rows.
-fn read(seed: u64) -> (usize, usize, LentRows) {
+/// What the text of a seed says: its headings and the rows.
+fn read(seed: u64) -> (TextHead, LentRows) {
     let mut room = LentRows::new(&[Row::default(); 128]);
     let head = Fast::read_text(&row_text(seed), room.room()).results;
     for slice in [&mut room.masks, &mut room.values, &mut room.words] {
         slice.truncate(head.rows);
     }
-    (head.n, head.k, room)
+    (head, room)
 }

@@ -5,10 +5,11 @@
  * shortest use is irwystl_print_text, at the end: row text in, sheet out.
  *
  * Words. A block has n inputs and k outputs. A point is a number below 2^n, input x0 its lowest bit. A row fixes some inputs and gives one
- * word, a number below 2^k; a point under no row has no output. A full table has 2^n entries, the word at each point, or IRWYSTL_NO_OUTPUT.
- * R(t) counts the points x such that x and x XOR t both have an output and the words are equal; the measure of a block is the sum of R at
- * 1, 2, 4, .. 2^(n-1). The smaller block at z is the block at T z, and the block at x is the smaller block at sigma x. T comes as n
- * numbers, its columns, and sigma as n numbers, its rows: bit j of sigma x is the parity of (row j AND x).
+ * word, a number below 2^k. What a point under no row means goes by the block's type: under IRWYSTL_FR it has no output, under IRWYSTL_FD
+ * it has word 0. A full table has 2^n entries, the word at each point, or, under IRWYSTL_FR alone, IRWYSTL_NO_OUTPUT. R(t) counts the
+ * points x such that x and x XOR t both have an output and the words are equal; the measure of a block is the sum of R at 1, 2, 4, ..
+ * 2^(n-1). The smaller block at z is the block at T z, and the block at x is the smaller block at sigma x; it has the block's type. T comes
+ * as n numbers, its columns, and sigma as n numbers, its rows: bit j of sigma x is the parity of (row j AND x).
  *
  * Every call. Any numbers and any contents may come in: each call answers, or refuses with a number (enum irwystl_number) and two places.
  * Each pointer must be valid for its length in elements, and not null even where that is 0; what is written must not overlap anything else
@@ -37,10 +38,15 @@ extern "C" {
 #define IRWYSTL_MOST_OUTPUTS 15
 #define IRWYSTL_MOST_ROWS 128     /* rows given; for irwystl_fill_table 512 */
 #define IRWYSTL_SMALLER_ROWS 512  /* the room for smaller rows, however few they are */
-#define IRWYSTL_TEXT_ROOM 4246    /* the bytes of the longest row text: the room for any */
+#define IRWYSTL_TEXT_ROOM 4255    /* the bytes of the longest row text: the room for any */
 #define IRWYSTL_SHEET_ROOM 17518  /* the bytes of the longest sheet: the room for any */
 #define IRWYSTL_LINE_ROOM 4176    /* the bytes of the longest line of an import: the room for any */
 #define IRWYSTL_NO_OUTPUT 65535   /* the table entry of a point without an output */
+
+/* ---- types: what a point under no row means */
+
+#define IRWYSTL_FR 1 /* it has no output */
+#define IRWYSTL_FD 2 /* it has word 0; the type of a row text without a type line */
 
 /* ---- numbers that come back */
 
@@ -48,7 +54,7 @@ enum irwystl_number {
   IRWYSTL_ANSWERED = 0,
   IRWYSTL_INPUTS = 1,    /* n is out of range */
   IRWYSTL_OUTPUTS = 2,   /* k is out of range */
-  IRWYSTL_LIMIT = 3,     /* the weight limit w is not 1 to n, or t is not below 2^n */
+  IRWYSTL_LIMIT = 3,     /* w is not 1 to n, t not below 2^n, the type no type; or the line of IRWYSTL_FR is left out in writing */
   IRWYSTL_COUNT = 4,     /* no row or too many, flat rows of unequal length, a table without 2^n entries, a matrix without n rows */
   IRWYSTL_ROOM = 5,      /* the room lent for a result is too short */
   IRWYSTL_RECORD = 6,    /* row, entry or matrix row b, counted from 0, is malformed; a is 1 for a matrix row, else 0 */
@@ -108,9 +114,11 @@ typedef struct irwystl_read_answer {
   uint32_t number;
   size_t a;
   size_t b;
-  size_t n;     /* the inputs that the text tells */
-  size_t k;     /* its outputs */
-  size_t count; /* how many rows it has */
+  size_t n;         /* the inputs that the text tells */
+  size_t k;         /* its outputs */
+  size_t type;      /* its type: IRWYSTL_FD where there is no type line */
+  size_t type_line; /* whether the type line stands in it: 1 or 0 */
+  size_t count;     /* how many rows it has */
 } irwystl_read_answer;
 
 typedef struct irwystl_import_answer {
@@ -121,67 +129,70 @@ typedef struct irwystl_import_answer {
   size_t length; /* the bytes of the line, with a refusal too */
 } irwystl_import_answer;
 
-/* ---- full tables, of 1 to 12 inputs */
+/* ---- full tables, of 1 to 12 inputs; type is IRWYSTL_FR or IRWYSTL_FD, here and below */
 
-/* R(t) of a table of 2^n entries. Refuses with 1, 2, 3 (t), 4, 6. Promise: tables::table_value. */
-irwystl_value_answer irwystl_table_value(size_t n, size_t k, size_t t, const uint16_t *table, size_t table_length);
+/* R(t) of a table of 2^n entries. Refuses with 1, 2, 3 (type, t), 4, 6. Promise: tables::table_value. */
+irwystl_value_answer irwystl_table_value(size_t n, size_t k, size_t type, size_t t, const uint16_t *table, size_t table_length);
 
 /*
  * T, sigma, the smaller table and both measures of a table of 2^n entries, with weight limit w: the numbers chosen for T have at most w
  * one-bits. The greatest R is taken first, at equal R the number with the fewest one-bits, then the smallest. basis gets T's n columns, sigma
- * its n rows, smaller 2^n entries: each is room for at least that many. Refuses with 1, 2, 3 (w), 4, 5, 6. Promise: tables::table_method.
+ * its n rows, smaller 2^n entries: each is room for at least that many. Refuses with 1, 2, 3 (type, w), 4, 5, 6. Promise:
+ * tables::table_method.
  */
-irwystl_table_method_answer irwystl_table_method(size_t n, size_t k, size_t w, const uint16_t *table, size_t table_length,
+irwystl_table_method_answer irwystl_table_method(size_t n, size_t k, size_t type, size_t w, const uint16_t *table, size_t table_length,
                                                  uint32_t *basis, size_t basis_length, uint32_t *sigma, size_t sigma_length,
                                                  uint16_t *smaller, size_t smaller_length);
 
 /*
- * The original table from sigma, n numbers, and the smaller table, 2^n entries. table is room for at least 2^n. Refuses with 1, 2, 4, 5,
- * 6 (the matrix, then the table), 8. Promise: tables::restore_table.
+ * The original table from sigma, n numbers, and the smaller table, 2^n entries. table is room for at least 2^n. Refuses with 1, 2,
+ * 3 (type), 4, 5, 6 (the matrix, then the table), 8. Promise: tables::restore_table.
  */
-irwystl_answer irwystl_restore_table(size_t n, size_t k, const uint32_t *sigma, size_t sigma_length, const uint16_t *smaller,
+irwystl_answer irwystl_restore_table(size_t n, size_t k, size_t type, const uint32_t *sigma, size_t sigma_length, const uint16_t *smaller,
                                      size_t smaller_length, uint16_t *table, size_t table_length);
 
 /* ---- lists of rows as records, of 1 to 16 inputs; rows_length counts records */
 
-/* R(t) of a list of 1 to 128 rows. Refuses with 1, 2, 3 (t), 4, 6, 7. Promise: records::row_value. */
-irwystl_value_answer irwystl_records_row_value(size_t n, size_t k, size_t t, const irwystl_row *rows, size_t rows_length);
+/* R(t) of a list of 1 to 128 rows. Refuses with 1, 2, 3 (type, t), 4, 6, 7. Promise: records::row_value. */
+irwystl_value_answer irwystl_records_row_value(size_t n, size_t k, size_t type, size_t t, const irwystl_row *rows, size_t rows_length);
 
 /*
  * T, sigma, the smaller rows and both measures of a list of 1 to 128 rows, with weight limit w; T is chosen as for a table. basis and sigma
  * are room for at least n numbers each, smaller for at least IRWYSTL_SMALLER_ROWS rows, of which the first `count` are written. Refuses
- * with 1, 2, 3 (w), 4, 5, 6, 7, 9. Promise: records::row_method.
+ * with 1, 2, 3 (type, w), 4, 5, 6, 7, 9. Promise: records::row_method.
  */
-irwystl_row_method_answer irwystl_records_row_method(size_t n, size_t k, size_t w, const irwystl_row *rows, size_t rows_length,
-                                                     uint32_t *basis, size_t basis_length, uint32_t *sigma, size_t sigma_length,
-                                                     irwystl_row *smaller, size_t smaller_length);
+irwystl_row_method_answer irwystl_records_row_method(size_t n, size_t k, size_t type, size_t w, const irwystl_row *rows,
+                                                     size_t rows_length, uint32_t *basis, size_t basis_length, uint32_t *sigma,
+                                                     size_t sigma_length, irwystl_row *smaller, size_t smaller_length);
 
 /*
- * The full table of a list of 1 to 512 rows and at most 12 inputs. table is room for at least 2^n entries. Refuses with 1, 2, 4, 5, 6, 7.
- * Promise: records::fill_table.
+ * The full table of a list of 1 to 512 rows and at most 12 inputs; at points under no row it has IRWYSTL_NO_OUTPUT or 0, by the type.
+ * table is room for at least 2^n entries. Refuses with 1, 2, 3 (type), 4, 5, 6, 7. Promise: records::fill_table.
  */
-irwystl_answer irwystl_records_fill_table(size_t n, size_t k, const irwystl_row *rows, size_t rows_length, uint16_t *table,
+irwystl_answer irwystl_records_fill_table(size_t n, size_t k, size_t type, const irwystl_row *rows, size_t rows_length, uint16_t *table,
                                           size_t table_length);
 
 /*
- * A list of 1 to 128 rows as row text. out is room for at least IRWYSTL_TEXT_ROOM bytes. Whether rows share a point is not looked at.
- * Refuses with 1, 2, 4, 5, 6. Promise: records::write_text.
+ * A list of 1 to 128 rows as row text, without the type line where type_line is 0, else with it; what irwystl_records_read_text answers
+ * gives the text that was read. Under IRWYSTL_FR the line has to stand, for a text without it is of the other type. out is room for at
+ * least IRWYSTL_TEXT_ROOM bytes. Whether rows share a point is not looked at. Refuses with 1, 2, 3 (type, or IRWYSTL_FR with type_line 0),
+ * 4, 5, 6. Promise: records::write_text.
  */
-irwystl_text_answer irwystl_records_write_text(size_t n, size_t k, const irwystl_row *rows, size_t rows_length, uint8_t *out,
-                                               size_t out_length);
+irwystl_text_answer irwystl_records_write_text(size_t n, size_t k, size_t type, size_t type_line, const irwystl_row *rows,
+                                               size_t rows_length, uint8_t *out, size_t out_length);
 
 /*
  * The rows of a row text: any bytes. rows is room for as many as the text tells, at most IRWYSTL_MOST_ROWS. Whether rows share a point is
- * not looked at. Refuses with 10 (a heading), 1, 2, 4, 5, 10 (any other line). Promise: records::read_numbers.
+ * not looked at. Refuses with 10 (a heading, the type line among them), 1, 2, 4, 5, 10 (any other line). Promise: records::read_numbers.
  */
 irwystl_read_answer irwystl_records_read_text(const uint8_t *text, size_t text_length, irwystl_row *rows, size_t rows_length);
 
 /*
- * The sheet of a list of 1 to 128 rows with weight limit w. out is room for at least IRWYSTL_SHEET_ROOM bytes. Refuses with 1, 2, 3 (w),
- * 4, 5, 6, 7, 9. Promise: records::sheet.
+ * The sheet of a list of 1 to 128 rows with weight limit w; the type does not stand on it. out is room for at least IRWYSTL_SHEET_ROOM
+ * bytes. Refuses with 1, 2, 3 (type, w), 4, 5, 6, 7, 9. Promise: records::sheet.
  */
-irwystl_text_answer irwystl_records_sheet(size_t n, size_t k, size_t w, const irwystl_row *rows, size_t rows_length, uint8_t *out,
-                                          size_t out_length);
+irwystl_text_answer irwystl_records_sheet(size_t n, size_t k, size_t type, size_t w, const irwystl_row *rows, size_t rows_length,
+                                          uint8_t *out, size_t out_length);
 
 /*
  * ---- the same on rows in three flat arrays: row i is masks[i], values[i] and words[i]. Given arrays of unequal length are refused with 4.
@@ -189,36 +200,37 @@ irwystl_text_answer irwystl_records_sheet(size_t n, size_t k, size_t w, const ir
  */
 
 /* Promise: lists::row_value. */
-irwystl_value_answer irwystl_row_value(size_t n, size_t k, size_t t, const uint32_t *masks, size_t masks_length, const uint32_t *values,
-                                       size_t values_length, const uint32_t *words, size_t words_length);
+irwystl_value_answer irwystl_row_value(size_t n, size_t k, size_t type, size_t t, const uint32_t *masks, size_t masks_length,
+                                       const uint32_t *values, size_t values_length, const uint32_t *words, size_t words_length);
 
 /* Promise: lists::row_method. */
-irwystl_row_method_answer irwystl_row_method(size_t n, size_t k, size_t w, const uint32_t *masks, size_t masks_length,
+irwystl_row_method_answer irwystl_row_method(size_t n, size_t k, size_t type, size_t w, const uint32_t *masks, size_t masks_length,
                                              const uint32_t *values, size_t values_length, const uint32_t *words, size_t words_length,
                                              uint32_t *basis, size_t basis_length, uint32_t *sigma, size_t sigma_length,
                                              uint32_t *smaller_masks, size_t smaller_masks_length, uint32_t *smaller_values,
                                              size_t smaller_values_length, uint32_t *smaller_words, size_t smaller_words_length);
 
 /* Promise: lists::fill_table. */
-irwystl_answer irwystl_fill_table(size_t n, size_t k, const uint32_t *masks, size_t masks_length, const uint32_t *values,
+irwystl_answer irwystl_fill_table(size_t n, size_t k, size_t type, const uint32_t *masks, size_t masks_length, const uint32_t *values,
                                   size_t values_length, const uint32_t *words, size_t words_length, uint16_t *table,
                                   size_t table_length);
 
 /* Promise: writing::write_text. */
-irwystl_text_answer irwystl_write_text(size_t n, size_t k, const uint32_t *masks, size_t masks_length, const uint32_t *values,
-                                       size_t values_length, const uint32_t *words, size_t words_length, uint8_t *out,
-                                       size_t out_length);
+irwystl_text_answer irwystl_write_text(size_t n, size_t k, size_t type, size_t type_line, const uint32_t *masks, size_t masks_length,
+                                       const uint32_t *values, size_t values_length, const uint32_t *words, size_t words_length,
+                                       uint8_t *out, size_t out_length);
 
 /* Promise: reading::read_text, its answer in numbers. */
 irwystl_read_answer irwystl_read_text(const uint8_t *text, size_t text_length, uint32_t *masks, size_t masks_length, uint32_t *values,
                                       size_t values_length, uint32_t *words, size_t words_length);
 
 /* Promise: sheets::sheet. */
-irwystl_text_answer irwystl_sheet(size_t n, size_t k, size_t w, const uint32_t *masks, size_t masks_length, const uint32_t *values,
-                                  size_t values_length, const uint32_t *words, size_t words_length, uint8_t *out, size_t out_length);
+irwystl_text_answer irwystl_sheet(size_t n, size_t k, size_t type, size_t w, const uint32_t *masks, size_t masks_length,
+                                  const uint32_t *values, size_t values_length, const uint32_t *words, size_t words_length, uint8_t *out,
+                                  size_t out_length);
 
-/* ---- from row text to its sheet, with weight limit 3, or n where the block has n < 3 inputs. Any bytes may come in; at most 8,192 of
- * them are looked at, and no longer text is accepted. */
+/* ---- from row text to its sheet, with weight limit 3, or n where the block has n < 3 inputs, and the type that the text tells:
+ * IRWYSTL_FD without a type line. Any bytes may come in; at most 8,192 of them are looked at, and no longer text is accepted. */
 
 /*
  * Writes to the front of out what the program prints, and returns how many bytes that is: the sheet, which begins with the word sheet, or

@@ -1,7 +1,8 @@
 /*
- * The operations on tables, lists and matrices, called through irwystl.h, on the cases of the files that are named: one a line, in the form
- * of outside/CASES.md. An operation on rows is called with records and with flat arrays. Lent storage holds a pattern before each call and
- * is looked at in full after it. Says which cases have another answer than the one due; the status is 0 where all have theirs.
+ * The operations on tables, lists and matrices, and on row texts, called through irwystl.h, on the cases of the files that are named: one a
+ * line, in the form of outside/CASES.md. An operation on rows is called with records and with flat arrays. Lent storage holds a pattern
+ * before each call and is looked at in full after it. Says which cases have another answer than the one due; the status is 0 where all
+ * have theirs.
  */
 #include "irwystl.h"
 
@@ -10,15 +11,23 @@
 #include <string.h>
 
 #define MOST 8192
+#define MOST_BYTES 32768
 #define LONGEST_LINE 65536
 #define HELD 0xABCD1234u
 #define HELD_ENTRY 0xABCD
+#define HELD_BYTE 0xAB
 
 /* A list of a line: numbers in the first field, or the three fields of rows. */
 typedef struct list {
   uint32_t fields[3][MOST];
   size_t length;
 } list;
+
+/* A text of a line. */
+typedef struct text {
+  uint8_t bytes[MOST_BYTES];
+  size_t length;
+} text;
 
 static const char *file;
 static unsigned long line_number, cases, wrong;
@@ -45,6 +54,23 @@ static uint64_t number(void) {
 static uint64_t next(void) {
   at += strspn(at, " ");
   return number();
+}
+
+/* Passes over a word, after a gap, where it stands there. */
+static int is_word(const char *word) {
+  size_t length = strlen(word);
+  at += strspn(at, " ");
+  if (strncmp(at, word, length) != 0 || strchr(" \n", at[length]) == NULL) return 0;
+  at += length;
+  return 1;
+}
+
+/* The next type, after a gap: a word, or its number. */
+static size_t next_type(void) {
+  if (is_word("fr")) return IRWYSTL_FR;
+  if (is_word("fd")) return IRWYSTL_FD;
+  if (is_word("other")) return 3;
+  return next();
 }
 
 /* One item of a list, so many times as it says. */
@@ -80,6 +106,27 @@ static void next_list(list *l) {
   }
 }
 
+/* The byte that a text of a line has next: / is LF, _ a space, %HH the byte HH. */
+static uint8_t next_byte(void) {
+  char digits[3] = {0, 0, 0};
+  char first = *at++;
+  if (first == '/') return '\n';
+  if (first == '_') return ' ';
+  if (first != '%') return (uint8_t)first;
+  for (size_t i = 0; i < 2 && *at != '\0'; i++) digits[i] = *at++;
+  return (uint8_t)strtoul(digits, NULL, 16);
+}
+
+/* The next text, after a gap; - alone is the empty one. */
+static void next_text(text *t) {
+  t->length = 0;
+  if (is_word("-")) return;
+  while (strchr(" \n", *at) == NULL) {
+    if (t->length == MOST_BYTES) fail("a text is longer than this program takes");
+    t->bytes[t->length++] = next_byte();
+  }
+}
+
 static void arrow(void) {
   at += strspn(at, " ");
   if (strncmp(at, "=> ", 3) != 0) fail("no => where it is due");
@@ -93,6 +140,8 @@ static list given, second, expected;
 static irwystl_row rows[MOST], smaller_rows[MOST];
 static uint16_t table[MOST], other_table[MOST];
 static uint32_t basis[MOST], sigma[MOST], smaller[3][MOST];
+static text given_text, expected_text;
+static uint8_t out[MOST_BYTES];
 
 static void as_table(const list *l, uint16_t *entries) {
   for (size_t i = 0; i < l->length; i++) entries[i] = (uint16_t)l->fields[0][i];
@@ -106,11 +155,13 @@ static void as_rows(const list *l) {
   }
 }
 
-static size_t room(void) {
+static size_t room_within(size_t most) {
   uint64_t length = next();
-  if (length > MOST) fail("a room is longer than this program takes");
+  if (length > most) fail("a room is longer than this program takes");
   return (size_t)length;
 }
+
+static size_t room(void) { return room_within(MOST); }
 
 /* Puts the pattern into everything that is lent, and goes back to the answer due. */
 static void lend(void) {
@@ -121,6 +172,7 @@ static void lend(void) {
     smaller_rows[i] = held;
     other_table[i] = HELD_ENTRY;
   }
+  memset(out, HELD_BYTE, sizeof out);
   at = due;
 }
 
@@ -168,6 +220,17 @@ static void are_flat(void) {
   for (size_t field = 0; field < 3; field++) are(smaller[field], field);
 }
 
+static void is_type(size_t got) {
+  if (got != next_type()) differs = 1;
+}
+
+/* The text due stands at the front, and beyond it the pattern. */
+static void is_text(void) {
+  next_text(&expected_text);
+  for (size_t i = 0; i < MOST_BYTES; i++)
+    if (out[i] != (i < expected_text.length ? expected_text.bytes[i] : HELD_BYTE)) differs = 1;
+}
+
 static void ended(void) {
   at += strspn(at, " \r\n");
   if (*at != '\0') fail("more in the line than the case has");
@@ -178,11 +241,11 @@ static void ended(void) {
 #define FLAT given.fields[0], given.length, given.fields[1], given.length, given.fields[2], given.length
 
 static void table_value(void) {
-  size_t n = next(), k = next(), t = next();
+  size_t n = next(), k = next(), type = next_type(), t = next();
   next_list(&given);
   as_table(&given, table);
   arrow();
-  irwystl_value_answer r = irwystl_table_value(n, k, t, table, given.length);
+  irwystl_value_answer r = irwystl_table_value(n, k, type, t, table, given.length);
   answered(r.number, r.a, r.b);
   is(r.value);
 }
@@ -194,23 +257,23 @@ static void is_value(irwystl_value_answer r) {
 }
 
 static void row_value(void) {
-  size_t n = next(), k = next(), t = next();
+  size_t n = next(), k = next(), type = next_type(), t = next();
   next_list(&given);
   as_rows(&given);
   arrow();
-  is_value(irwystl_records_row_value(n, k, t, rows, given.length));
-  is_value(irwystl_row_value(n, k, t, FLAT));
+  is_value(irwystl_records_row_value(n, k, type, t, rows, given.length));
+  is_value(irwystl_row_value(n, k, type, t, FLAT));
 }
 
 static void table_method(void) {
-  size_t n = next(), k = next(), w = next();
+  size_t n = next(), k = next(), type = next_type(), w = next();
   size_t table_room = room(), basis_room = room(), sigma_room = room();
   next_list(&given);
   as_table(&given, table);
   arrow();
   lend();
   irwystl_table_method_answer r =
-      irwystl_table_method(n, k, w, table, given.length, basis, basis_room, sigma, sigma_room, other_table, table_room);
+      irwystl_table_method(n, k, type, w, table, given.length, basis, basis_room, sigma, sigma_room, other_table, table_room);
   answered(r.number, r.a, r.b);
   is(r.before);
   is(r.after);
@@ -229,16 +292,16 @@ static void is_method(irwystl_row_method_answer r) {
 }
 
 static void row_method(void) {
-  size_t n = next(), k = next(), w = next();
+  size_t n = next(), k = next(), type = next_type(), w = next();
   size_t rows_room = room(), basis_room = room(), sigma_room = room();
   next_list(&given);
   as_rows(&given);
   arrow();
   lend();
-  is_method(irwystl_records_row_method(n, k, w, rows, given.length, basis, basis_room, sigma, sigma_room, smaller_rows, rows_room));
+  is_method(irwystl_records_row_method(n, k, type, w, rows, given.length, basis, basis_room, sigma, sigma_room, smaller_rows, rows_room));
   are_records();
   lend();
-  is_method(irwystl_row_method(n, k, w, FLAT, basis, basis_room, sigma, sigma_room, smaller[0], rows_room, smaller[1], rows_room,
+  is_method(irwystl_row_method(n, k, type, w, FLAT, basis, basis_room, sigma, sigma_room, smaller[0], rows_room, smaller[1], rows_room,
                                smaller[2], rows_room));
   are_flat();
 }
@@ -249,24 +312,73 @@ static void is_filled(irwystl_answer r) {
 }
 
 static void fill(void) {
-  size_t n = next(), k = next(), table_room = room();
+  size_t n = next(), k = next(), type = next_type(), table_room = room();
   next_list(&given);
   as_rows(&given);
   arrow();
   lend();
-  is_filled(irwystl_records_fill_table(n, k, rows, given.length, other_table, table_room));
+  is_filled(irwystl_records_fill_table(n, k, type, rows, given.length, other_table, table_room));
   lend();
-  is_filled(irwystl_fill_table(n, k, FLAT, other_table, table_room));
+  is_filled(irwystl_fill_table(n, k, type, FLAT, other_table, table_room));
 }
 
 static void restore(void) {
-  size_t n = next(), k = next(), table_room = room();
+  size_t n = next(), k = next(), type = next_type(), table_room = room();
   next_list(&given);
   next_list(&second);
   as_table(&second, table);
   arrow();
   lend();
-  is_filled(irwystl_restore_table(n, k, given.fields[0], given.length, table, second.length, other_table, table_room));
+  is_filled(irwystl_restore_table(n, k, type, given.fields[0], given.length, table, second.length, other_table, table_room));
+}
+
+static void is_head(irwystl_read_answer r) {
+  answered(r.number, r.a, r.b);
+  is(r.n);
+  is(r.k);
+  is_type(r.type);
+  is(r.type_line);
+  is(r.count);
+}
+
+static void read_text(void) {
+  size_t rows_room = room();
+  next_text(&given_text);
+  arrow();
+  lend();
+  is_head(irwystl_records_read_text(given_text.bytes, given_text.length, smaller_rows, rows_room));
+  are_records();
+  lend();
+  is_head(irwystl_read_text(given_text.bytes, given_text.length, smaller[0], rows_room, smaller[1], rows_room, smaller[2], rows_room));
+  are_flat();
+}
+
+static void is_written(irwystl_text_answer r) {
+  answered(r.number, r.a, r.b);
+  is(r.count);
+  is_text();
+}
+
+static void write_text(void) {
+  size_t n = next(), k = next(), type = next_type(), line = next(), bytes_room = room_within(MOST_BYTES);
+  next_list(&given);
+  as_rows(&given);
+  arrow();
+  lend();
+  is_written(irwystl_records_write_text(n, k, type, line, rows, given.length, out, bytes_room));
+  lend();
+  is_written(irwystl_write_text(n, k, type, line, FLAT, out, bytes_room));
+}
+
+static void sheet(void) {
+  size_t n = next(), k = next(), type = next_type(), w = next(), bytes_room = room_within(MOST_BYTES);
+  next_list(&given);
+  as_rows(&given);
+  arrow();
+  lend();
+  is_written(irwystl_records_sheet(n, k, type, w, rows, given.length, out, bytes_room));
+  lend();
+  is_written(irwystl_sheet(n, k, type, w, FLAT, out, bytes_room));
 }
 
 /* ---- the files */
@@ -275,7 +387,8 @@ static const struct {
   const char *name;
   void (*run)(void);
 } operations[] = {{"table_value", table_value}, {"row_value", row_value}, {"table_method", table_method},
-                  {"row_method", row_method},   {"fill", fill},           {"restore", restore}};
+                  {"row_method", row_method},   {"fill", fill},           {"restore", restore},
+                  {"read", read_text},          {"write", write_text},    {"sheet", sheet}};
 
 static void run_line(const char *line) {
   size_t length = strcspn(line, " ");

@@ -131,13 +131,15 @@ static void with_records(void) {
   irwystl_read_answer r = irwystl_records_read_text(text.at, text.length, rows, IRWYSTL_MOST_ROWS);
   if (r.number != 0) {
     is_refusal("irwystl_records_read_text", r.number, r.a, r.b);
-    if (r.n != 0 || r.k != 0 || r.count != 0) differs("irwystl_records_read_text");
+    if (r.n != 0 || r.k != 0 || r.type != 0 || r.type_line != 0 || r.count != 0) differs("irwystl_records_read_text");
     return;
   }
   lend(&out);
-  is_text("irwystl_records_write_text", irwystl_records_write_text(r.n, r.k, rows, r.count, out.at, IRWYSTL_TEXT_ROOM));
+  is_text("irwystl_records_write_text",
+          irwystl_records_write_text(r.n, r.k, r.type, r.type_line, rows, r.count, out.at, IRWYSTL_TEXT_ROOM));
   lend(&out);
-  is_sheet("irwystl_records_sheet", irwystl_records_sheet(r.n, r.k, limit_of(r.n), rows, r.count, out.at, IRWYSTL_SHEET_ROOM));
+  is_sheet("irwystl_records_sheet",
+           irwystl_records_sheet(r.n, r.k, r.type, limit_of(r.n), rows, r.count, out.at, IRWYSTL_SHEET_ROOM));
 }
 
 static void with_flat_arrays(void) {
@@ -145,13 +147,13 @@ static void with_flat_arrays(void) {
                                             IRWYSTL_MOST_ROWS);
   if (r.number != 0) {
     is_refusal("irwystl_read_text", r.number, r.a, r.b);
-    if (r.n != 0 || r.k != 0 || r.count != 0) differs("irwystl_read_text");
+    if (r.n != 0 || r.k != 0 || r.type != 0 || r.type_line != 0 || r.count != 0) differs("irwystl_read_text");
     return;
   }
   lend(&out);
-  is_text("irwystl_write_text", irwystl_write_text(r.n, r.k, FLAT, out.at, IRWYSTL_TEXT_ROOM));
+  is_text("irwystl_write_text", irwystl_write_text(r.n, r.k, r.type, r.type_line, FLAT, out.at, IRWYSTL_TEXT_ROOM));
   lend(&out);
-  is_sheet("irwystl_sheet", irwystl_sheet(r.n, r.k, limit_of(r.n), FLAT, out.at, IRWYSTL_SHEET_ROOM));
+  is_sheet("irwystl_sheet", irwystl_sheet(r.n, r.k, r.type, limit_of(r.n), FLAT, out.at, IRWYSTL_SHEET_ROOM));
 }
 
 /* NAME.sheet for NAME.txt */

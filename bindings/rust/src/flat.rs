@@ -6,7 +6,7 @@
 //! ```
 //! use irwystl::flat::{row_value, Rows};
 //! let rows = Rows { masks: &[2], values: &[0], words: &[1] };
-//! assert_eq!(row_value(2, 1, 0, rows), Ok(2));
+//! assert_eq!(row_value(2, 1, irwystl::FR, 0, rows), Ok(2));
 //! ```
 
 use crate::{raw, Headings, Refusal, Smaller};
@@ -27,11 +27,18 @@ pub struct Room<'a> {
     pub words: &'a mut [u32],
 }
 
-pub fn row_value(n: usize, k: usize, t: usize, rows: Rows<'_>) -> Result<u64, Refusal> {
+pub fn row_value(
+    n: usize,
+    k: usize,
+    block_type: usize,
+    t: usize,
+    rows: Rows<'_>,
+) -> Result<u64, Refusal> {
     unsafe {
         raw::irwystl_row_value(
             n,
             k,
+            block_type,
             t,
             rows.masks.as_ptr(),
             rows.masks.len(),
@@ -47,6 +54,7 @@ pub fn row_value(n: usize, k: usize, t: usize, rows: Rows<'_>) -> Result<u64, Re
 pub fn row_method(
     n: usize,
     k: usize,
+    block_type: usize,
     w: usize,
     rows: Rows<'_>,
     basis: &mut [u32],
@@ -57,6 +65,7 @@ pub fn row_method(
         raw::irwystl_row_method(
             n,
             k,
+            block_type,
             w,
             rows.masks.as_ptr(),
             rows.masks.len(),
@@ -79,11 +88,18 @@ pub fn row_method(
     .result()
 }
 
-pub fn fill_table(n: usize, k: usize, rows: Rows<'_>, table: &mut [u16]) -> Result<(), Refusal> {
+pub fn fill_table(
+    n: usize,
+    k: usize,
+    block_type: usize,
+    rows: Rows<'_>,
+    table: &mut [u16],
+) -> Result<(), Refusal> {
     unsafe {
         raw::irwystl_fill_table(
             n,
             k,
+            block_type,
             rows.masks.as_ptr(),
             rows.masks.len(),
             rows.values.as_ptr(),
@@ -97,11 +113,20 @@ pub fn fill_table(n: usize, k: usize, rows: Rows<'_>, table: &mut [u16]) -> Resu
     .result()
 }
 
-pub fn write_text(n: usize, k: usize, rows: Rows<'_>, out: &mut [u8]) -> Result<usize, Refusal> {
+pub fn write_text(
+    n: usize,
+    k: usize,
+    block_type: usize,
+    type_line: usize,
+    rows: Rows<'_>,
+    out: &mut [u8],
+) -> Result<usize, Refusal> {
     unsafe {
         raw::irwystl_write_text(
             n,
             k,
+            block_type,
+            type_line,
             rows.masks.as_ptr(),
             rows.masks.len(),
             rows.values.as_ptr(),
@@ -134,6 +159,7 @@ pub fn read_text(text: &[u8], rows: Room<'_>) -> Result<Headings, Refusal> {
 pub fn sheet(
     n: usize,
     k: usize,
+    block_type: usize,
     w: usize,
     rows: Rows<'_>,
     out: &mut [u8],
@@ -142,6 +168,7 @@ pub fn sheet(
         raw::irwystl_sheet(
             n,
             k,
+            block_type,
             w,
             rows.masks.as_ptr(),
             rows.masks.len(),

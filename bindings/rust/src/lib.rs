@@ -1,9 +1,11 @@
 //! Irwystl from Rust: the sheet of a logic block, and every operation behind it.
 //!
 //! A block has n inputs and k outputs. It comes as a list of [`Row`]s, as three
-//! flat slices ([`flat`]), as row text or as a full table: 2^n words, the entry of
-//! a point without an output [`NO_OUTPUT`]. The shortest use is [`sheet_of`], row
-//! text in and sheet out:
+//! flat slices ([`flat`]), as row text or as a full table of 2^n words. Its type
+//! says what a point under no row means: under [`FR`] it has no output, and the
+//! table's entry is [`NO_OUTPUT`]; under [`FD`], the type of a text without a type
+//! line, it has word 0. The shortest use is [`sheet_of`], row text in and sheet
+//! out:
 //!
 //! ```
 //! let text = b".i 3\n.o 2\n.p 4\n00- 01\n11- 01\n01- 10\n10- 10\n.e\n";
@@ -40,7 +42,7 @@ pub const MOST_ROWS: usize = 128;
 pub const SMALLER_ROWS: usize = 512;
 
 /// The bytes of the longest row text, and so the room for any.
-pub const TEXT_ROOM: usize = 4246;
+pub const TEXT_ROOM: usize = 4255;
 
 /// The bytes of the longest sheet, and so the room for any.
 pub const SHEET_ROOM: usize = 17518;
@@ -50,6 +52,13 @@ pub const LINE_ROOM: usize = 4176;
 
 /// The table entry of a point without an output.
 pub const NO_OUTPUT: u16 = 65535;
+
+/// The type of a block whose points under no row have no output.
+pub const FR: usize = 1;
+
+/// The type of a block whose points under no row have word 0, and of a row text
+/// without a type line.
+pub const FD: usize = 2;
 
 /// A row: the mask of its fixed inputs, their values (0 outside the mask), and
 /// its word. Input x0 is the lowest bit.
@@ -76,11 +85,15 @@ pub struct Smaller {
     pub count: usize,
 }
 
-/// What an accepted text tells: inputs, outputs and the number of rows.
+/// What an accepted text tells: inputs, outputs, the type, and the number of rows.
 #[derive(Clone, Copy, Debug, PartialEq, Eq)]
 pub struct Headings {
     pub n: usize,
     pub k: usize,
+    /// [`FR`] or [`FD`].
+    pub block_type: usize,
+    /// Whether the type line stands in the text: 1 or 0.
+    pub type_line: usize,
     pub count: usize,
 }
 
@@ -97,29 +110,41 @@ pub struct Imported {
 // for the whole call, with its length, and no room overlaps anything else: that is
 // all that the calls ask for.
 
-/// R(t) of a table of 2^n entries. Refuses with 1, 2, 3 (t), 4 and 6.
+/// R(t) of a table of 2^n entries. Refuses with 1, 2, 3 (the type, t), 4 and 6.
 ///
 /// ```
+/// use irwystl::{table_value, Refusal, FD, FR, NO_OUTPUT};
 /// // the XOR of two inputs: flipping both changes no word, flipping one each word
 /// let table = [0, 1, 1, 0];
-/// assert_eq!(irwystl::table_value(2, 1, 3, &table), Ok(4));
-/// assert_eq!(irwystl::table_value(2, 1, 1, &table), Ok(0));
-/// assert_eq!(irwystl::table_value(2, 1, 4, &table), Err(irwystl::Refusal::Limit));
+/// assert_eq!(table_value(2, 1, FR, 3, &table), Ok(4));
+/// assert_eq!(table_value(2, 1, FR, 1, &table), Ok(0));
+/// assert_eq!(table_value(2, 1, FR, 4, &table), Err(Refusal::Limit));
+/// // a point without an output is there under one type alone
+/// let table = [0, 1, 1, NO_OUTPUT];
+/// assert_eq!(table_value(2, 1, FR, 3, &table), Ok(2));
+/// assert_eq!(table_value(2, 1, FD, 3, &table), Err(Refusal::Record { index: 3 }));
 /// ```
-pub fn table_value(n: usize, k: usize, t: usize, table: &[u16]) -> Result<u64, Refusal> {
-    unsafe { raw::irwystl_table_value(n, k, t, table.as_ptr(), table.len()) }.result()
+pub fn table_value(
+    n: usize,
+    k: usize,
+    block_type: usize,
+    t: usize,
+    table: &[u16],
+) -> Result<u64, Refusal> {
+    unsafe { raw::irwystl_table_value(n, k, block_type, t, table.as_ptr(), table.len()) }.result()
 }
 
 /// T, sigma, the smaller table and both measures of a table of 2^n entries, with
 /// weight limit w. The greatest R is taken first, at equal R the number with the
 /// fewest one-bits, then the smallest. `basis` and `sigma` are room for n numbers
-/// each, `smaller` for 2^n entries. Refuses with 1, 2, 3 (w), 4, 5 and 6.
+/// each, `smaller` for 2^n entries. Refuses with 1, 2, 3 (the type, w), 4, 5 and 6.
 ///
 /// ```
+/// use irwystl::{table_method, FR};
 /// let [mut basis, mut sigma] = [[0; 2]; 2];
 /// let mut smaller = [0; 4];
 /// let table = [0, 1, 1, 0];
-/// let measures = irwystl::table_method(2, 1, 2, &table, &mut basis, &mut sigma, &mut smaller)?;
+/// let measures = table_method(2, 1, FR, 2, &table, &mut basis, &mut sigma, &mut smaller)?;
 /// assert_eq!((measures.before, measures.after), (0, 4));
 /// assert_eq!((basis, sigma), ([3, 1], [2, 3]));
 /// assert_eq!(smaller, [0, 0, 1, 1]);
@@ -128,6 +153,7 @@ pub fn table_value(n: usize, k: usize, t: usize, table: &[u16]) -> Result<u64, R
 pub fn table_method(
     n: usize,
     k: usize,
+    block_type: usize,
     w: usize,
     table: &[u16],
     basis: &mut [u32],
@@ -138,6 +164,7 @@ pub fn table_method(
         raw::irwystl_table_method(
             n,
             k,
+            block_type,
             w,
             table.as_ptr(),
             table.len(),
@@ -153,18 +180,19 @@ pub fn table_method(
 }
 
 /// The original table from sigma, n numbers, and the smaller table, 2^n entries.
-/// `table` is room for 2^n. Refuses with 1, 2, 4, 5, 6 (the matrix, then the table)
-/// and 8.
+/// `table` is room for 2^n. Refuses with 1, 2, 3 (the type), 4, 5, 6 (the matrix,
+/// then the table) and 8.
 ///
 /// ```
 /// let mut table = [0; 4];
-/// irwystl::restore_table(2, 1, &[2, 3], &[0, 0, 1, 1], &mut table)?;
+/// irwystl::restore_table(2, 1, irwystl::FR, &[2, 3], &[0, 0, 1, 1], &mut table)?;
 /// assert_eq!(table, [0, 1, 1, 0]);
 /// # Ok::<(), irwystl::Refusal>(())
 /// ```
 pub fn restore_table(
     n: usize,
     k: usize,
+    block_type: usize,
     sigma: &[u32],
     smaller: &[u16],
     table: &mut [u16],
@@ -173,6 +201,7 @@ pub fn restore_table(
         raw::irwystl_restore_table(
             n,
             k,
+            block_type,
             sigma.as_ptr(),
             sigma.len(),
             smaller.as_ptr(),
@@ -184,38 +213,51 @@ pub fn restore_table(
     .result()
 }
 
-/// R(t) of a list of 1 to 128 rows. Refuses with 1, 2, 3 (t), 4, 6 and 7.
+/// R(t) of a list of 1 to 128 rows. Refuses with 1, 2, 3 (the type, t), 4, 6 and 7.
 ///
 /// ```
-/// use irwystl::{row_value, Refusal, Row};
+/// use irwystl::{row_value, Refusal, Row, FD, FR};
 /// // 0- and -0: both cover 00
 /// let rows = [Row { mask: 2, values: 0, word: 1 }, Row { mask: 1, values: 0, word: 1 }];
-/// assert_eq!(row_value(2, 1, 0, &rows[..1]), Ok(2));
-/// assert_eq!(row_value(2, 1, 0, &rows), Err(Refusal::SharedPoint { first: 0, second: 1 }));
+/// // the points 10 and 11 are under no row: they have no output, or word 0
+/// assert_eq!(row_value(2, 1, FR, 0, &rows[..1]), Ok(2));
+/// assert_eq!(row_value(2, 1, FD, 0, &rows[..1]), Ok(4));
+/// let refused = row_value(2, 1, FR, 0, &rows);
+/// assert_eq!(refused, Err(Refusal::SharedPoint { first: 0, second: 1 }));
 /// ```
-pub fn row_value(n: usize, k: usize, t: usize, rows: &[Row]) -> Result<u64, Refusal> {
-    unsafe { raw::irwystl_records_row_value(n, k, t, rows.as_ptr(), rows.len()) }.result()
+pub fn row_value(
+    n: usize,
+    k: usize,
+    block_type: usize,
+    t: usize,
+    rows: &[Row],
+) -> Result<u64, Refusal> {
+    unsafe { raw::irwystl_records_row_value(n, k, block_type, t, rows.as_ptr(), rows.len()) }
+        .result()
 }
 
 /// T, sigma, the smaller rows and both measures of a list of 1 to 128 rows, with
 /// weight limit w; T is chosen as for a table. `basis` and `sigma` are room for n
 /// numbers each, `smaller` for [`SMALLER_ROWS`] rows, of which the first `count`
-/// are written. Refuses with 1, 2, 3 (w), 4, 5, 6, 7 and 9.
+/// are written. Refuses with 1, 2, 3 (the type, w), 4, 5, 6, 7 and 9.
 ///
 /// ```
-/// use irwystl::{row_method, Row, SMALLER_ROWS};
-/// // 01 and 10 have an output, the XOR of the two inputs
+/// use irwystl::{row_method, Row, FD, FR, SMALLER_ROWS};
+/// // 01 and 10 have word 1: the XOR of the two inputs, where 00 and 11 have word 0
 /// let rows = [Row { mask: 3, values: 1, word: 1 }, Row { mask: 3, values: 2, word: 1 }];
 /// let [mut basis, mut sigma] = [[0; 2]; 2];
 /// let mut smaller = [Row::default(); SMALLER_ROWS];
-/// let found = row_method(2, 1, 2, &rows, &mut basis, &mut sigma, &mut smaller)?;
+/// let found = row_method(2, 1, FR, 2, &rows, &mut basis, &mut sigma, &mut smaller)?;
 /// assert_eq!((found.before, found.after, found.count), (0, 2, 2));
 /// assert_eq!(basis, [3, 1]);
+/// let found = row_method(2, 1, FD, 2, &rows, &mut basis, &mut sigma, &mut smaller)?;
+/// assert_eq!((found.before, found.after, found.count), (0, 4, 2));
 /// # Ok::<(), irwystl::Refusal>(())
 /// ```
 pub fn row_method(
     n: usize,
     k: usize,
+    block_type: usize,
     w: usize,
     rows: &[Row],
     basis: &mut [u32],
@@ -226,6 +268,7 @@ pub fn row_method(
         raw::irwystl_records_row_method(
             n,
             k,
+            block_type,
             w,
             rows.as_ptr(),
             rows.len(),
@@ -241,48 +284,91 @@ pub fn row_method(
 }
 
 /// The full table of a list of 1 to 512 rows and at most 12 inputs. `table` is
-/// room for 2^n entries. Refuses with 1, 2, 4, 5, 6 and 7.
+/// room for 2^n entries. Refuses with 1, 2, 3 (the type), 4, 5, 6 and 7.
 ///
 /// ```
-/// use irwystl::{fill_table, Row, NO_OUTPUT};
+/// use irwystl::{fill_table, Row, FD, FR, NO_OUTPUT};
 /// let mut table = [0; 4];
-/// fill_table(2, 1, &[Row { mask: 2, values: 0, word: 1 }], &mut table)?;
+/// fill_table(2, 1, FR, &[Row { mask: 2, values: 0, word: 1 }], &mut table)?;
 /// assert_eq!(table, [1, 1, NO_OUTPUT, NO_OUTPUT]);
+/// fill_table(2, 1, FD, &[Row { mask: 2, values: 0, word: 1 }], &mut table)?;
+/// assert_eq!(table, [1, 1, 0, 0]);
 /// # Ok::<(), irwystl::Refusal>(())
 /// ```
-pub fn fill_table(n: usize, k: usize, rows: &[Row], table: &mut [u16]) -> Result<(), Refusal> {
-    let [given, room] = [rows.len(), table.len()];
-    unsafe { raw::irwystl_records_fill_table(n, k, rows.as_ptr(), given, table.as_mut_ptr(), room) }
-        .result()
+pub fn fill_table(
+    n: usize,
+    k: usize,
+    block_type: usize,
+    rows: &[Row],
+    table: &mut [u16],
+) -> Result<(), Refusal> {
+    unsafe {
+        raw::irwystl_records_fill_table(
+            n,
+            k,
+            block_type,
+            rows.as_ptr(),
+            rows.len(),
+            table.as_mut_ptr(),
+            table.len(),
+        )
+    }
+    .result()
 }
 
-/// A list of 1 to 128 rows as row text: the number of its bytes. `out` is room for
-/// [`TEXT_ROOM`] bytes. Whether rows share a point is not looked at. Refuses with
-/// 1, 2, 4, 5 and 6.
+/// A list of 1 to 128 rows as row text: the number of its bytes. The type line is
+/// left out where `type_line` is 0; under [`FR`] it has to stand, for a text
+/// without it is of type [`FD`]. With what [`read_text`] told, the text is the one
+/// that was read. `out` is room for [`TEXT_ROOM`] bytes. Whether rows share a point
+/// is not looked at. Refuses with 1, 2, 3 (the type, or its line), 4, 5 and 6.
 ///
 /// ```
-/// use irwystl::{write_text, Row, TEXT_ROOM};
+/// use irwystl::{write_text, Refusal, Row, FD, FR, TEXT_ROOM};
+/// let rows = [Row { mask: 2, values: 0, word: 1 }];
 /// let mut out = [0; TEXT_ROOM];
-/// let count = write_text(2, 1, &[Row { mask: 2, values: 0, word: 1 }], &mut out)?;
+/// let count = write_text(2, 1, FD, 0, &rows, &mut out)?;
 /// assert_eq!(&out[..count], b".i 2\n.o 1\n.p 1\n0- 1\n.e\n");
+/// let count = write_text(2, 1, FR, 1, &rows, &mut out)?;
+/// assert_eq!(&out[..count], b".i 2\n.o 1\n.type fr\n.p 1\n0- 1\n.e\n");
+/// assert_eq!(write_text(2, 1, FR, 0, &rows, &mut out), Err(Refusal::Limit));
 /// # Ok::<(), irwystl::Refusal>(())
 /// ```
-pub fn write_text(n: usize, k: usize, rows: &[Row], out: &mut [u8]) -> Result<usize, Refusal> {
-    let [given, room] = [rows.len(), out.len()];
-    unsafe { raw::irwystl_records_write_text(n, k, rows.as_ptr(), given, out.as_mut_ptr(), room) }
-        .result()
+pub fn write_text(
+    n: usize,
+    k: usize,
+    block_type: usize,
+    type_line: usize,
+    rows: &[Row],
+    out: &mut [u8],
+) -> Result<usize, Refusal> {
+    unsafe {
+        raw::irwystl_records_write_text(
+            n,
+            k,
+            block_type,
+            type_line,
+            rows.as_ptr(),
+            rows.len(),
+            out.as_mut_ptr(),
+            out.len(),
+        )
+    }
+    .result()
 }
 
 /// The rows of a row text. `rows` is room for as many as the text tells, at most
 /// [`MOST_ROWS`]. Whether rows share a point is not looked at. Refuses with 10 (a
-/// heading), 1, 2, 4, 5 and 10 (any other line).
+/// heading, the type line among them), 1, 2, 4, 5 and 10 (any other line).
 ///
 /// ```
-/// use irwystl::{read_text, Refusal, Row, MOST_ROWS};
+/// use irwystl::{read_text, Refusal, Row, FD, FR, MOST_ROWS};
 /// let mut rows = [Row::default(); MOST_ROWS];
 /// let told = read_text(b".i 2\n.o 1\n.p 1\n0- 1\n.e\n", &mut rows)?;
 /// assert_eq!((told.n, told.k, told.count), (2, 1, 1));
+/// assert_eq!((told.block_type, told.type_line), (FD, 0));
 /// assert_eq!(rows[0], Row { mask: 2, values: 0, word: 1 });
+/// let told = read_text(b".i 2\n.o 1\n.type fr\n.p 1\n0- 1\n.e\n", &mut rows)?;
+/// assert_eq!((told.block_type, told.type_line), (FR, 1));
 /// assert_eq!(read_text(b".i two\n", &mut rows), Err(Refusal::Line { line: 1 }));
 /// # Ok::<(), irwystl::Refusal>(())
 /// ```
@@ -293,25 +379,42 @@ pub fn read_text(text: &[u8], rows: &mut [Row]) -> Result<Headings, Refusal> {
 }
 
 /// The sheet of a list of 1 to 128 rows with weight limit w: the number of its
-/// bytes. `out` is room for [`SHEET_ROOM`] bytes. Refuses with 1, 2, 3 (w), 4, 5,
-/// 6, 7 and 9.
+/// bytes. The type does not stand on it. `out` is room for [`SHEET_ROOM`] bytes.
+/// Refuses with 1, 2, 3 (the type, w), 4, 5, 6, 7 and 9.
 ///
 /// ```
-/// use irwystl::{sheet, Row, SHEET_ROOM};
+/// use irwystl::{sheet, Row, FR, SHEET_ROOM};
 /// let mut out = [0; SHEET_ROOM];
-/// let count = sheet(2, 1, 2, &[Row { mask: 2, values: 0, word: 1 }], &mut out)?;
+/// let count = sheet(2, 1, FR, 2, &[Row { mask: 2, values: 0, word: 1 }], &mut out)?;
 /// assert!(out[..count].starts_with(b"sheet 1\nsize 3\n2\n1\n2\n"));
 /// # Ok::<(), irwystl::Refusal>(())
 /// ```
-pub fn sheet(n: usize, k: usize, w: usize, rows: &[Row], out: &mut [u8]) -> Result<usize, Refusal> {
-    let [given, room] = [rows.len(), out.len()];
-    unsafe { raw::irwystl_records_sheet(n, k, w, rows.as_ptr(), given, out.as_mut_ptr(), room) }
-        .result()
+pub fn sheet(
+    n: usize,
+    k: usize,
+    block_type: usize,
+    w: usize,
+    rows: &[Row],
+    out: &mut [u8],
+) -> Result<usize, Refusal> {
+    unsafe {
+        raw::irwystl_records_sheet(
+            n,
+            k,
+            block_type,
+            w,
+            rows.as_ptr(),
+            rows.len(),
+            out.as_mut_ptr(),
+            out.len(),
+        )
+    }
+    .result()
 }
 
 /// Writes what the program prints for a text to the front of `out`, and gives the
 /// number of its bytes: the sheet with weight limit 3, or n where the block has
-/// n < 3 inputs, or else one line "refused N A B".
+/// n < 3 inputs, of the type that the text tells, or else one line "refused N A B".
 ///
 /// ```
 /// let mut out = [0; irwystl::SHEET_ROOM];

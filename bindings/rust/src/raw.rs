@@ -59,6 +59,8 @@ pub struct ReadAnswer {
     pub b: usize,
     pub n: usize,
     pub k: usize,
+    pub block_type: usize,
+    pub type_line: usize,
     pub count: usize,
 }
 
@@ -115,8 +117,14 @@ impl TextAnswer {
 
 impl ReadAnswer {
     pub(crate) fn result(self) -> Result<Headings, Refusal> {
-        let [n, k, count] = [self.n, self.k, self.count];
-        result(self.number, self.a, self.b, Headings { n, k, count })
+        let told = Headings {
+            n: self.n,
+            k: self.k,
+            block_type: self.block_type,
+            type_line: self.type_line,
+            count: self.count,
+        };
+        result(self.number, self.a, self.b, told)
     }
 }
 
@@ -133,6 +141,7 @@ extern "C" {
     pub fn irwystl_table_value(
         n: usize,
         k: usize,
+        block_type: usize,
         t: usize,
         table: *const u16,
         table_length: usize,
@@ -141,6 +150,7 @@ extern "C" {
     pub fn irwystl_table_method(
         n: usize,
         k: usize,
+        block_type: usize,
         w: usize,
         table: *const u16,
         table_length: usize,
@@ -155,6 +165,7 @@ extern "C" {
     pub fn irwystl_restore_table(
         n: usize,
         k: usize,
+        block_type: usize,
         sigma: *const u32,
         sigma_length: usize,
         smaller: *const u16,
@@ -166,6 +177,7 @@ extern "C" {
     pub fn irwystl_records_row_value(
         n: usize,
         k: usize,
+        block_type: usize,
         t: usize,
         rows: *const Row,
         rows_length: usize,
@@ -174,6 +186,7 @@ extern "C" {
     pub fn irwystl_records_row_method(
         n: usize,
         k: usize,
+        block_type: usize,
         w: usize,
         rows: *const Row,
         rows_length: usize,
@@ -188,6 +201,7 @@ extern "C" {
     pub fn irwystl_records_fill_table(
         n: usize,
         k: usize,
+        block_type: usize,
         rows: *const Row,
         rows_length: usize,
         table: *mut u16,
@@ -197,6 +211,8 @@ extern "C" {
     pub fn irwystl_records_write_text(
         n: usize,
         k: usize,
+        block_type: usize,
+        type_line: usize,
         rows: *const Row,
         rows_length: usize,
         out: *mut u8,
@@ -213,6 +229,7 @@ extern "C" {
     pub fn irwystl_records_sheet(
         n: usize,
         k: usize,
+        block_type: usize,
         w: usize,
         rows: *const Row,
         rows_length: usize,
@@ -223,6 +240,7 @@ extern "C" {
     pub fn irwystl_row_value(
         n: usize,
         k: usize,
+        block_type: usize,
         t: usize,
         masks: *const u32,
         masks_length: usize,
@@ -235,6 +253,7 @@ extern "C" {
     pub fn irwystl_row_method(
         n: usize,
         k: usize,
+        block_type: usize,
         w: usize,
         masks: *const u32,
         masks_length: usize,
@@ -257,6 +276,7 @@ extern "C" {
     pub fn irwystl_fill_table(
         n: usize,
         k: usize,
+        block_type: usize,
         masks: *const u32,
         masks_length: usize,
         values: *const u32,
@@ -270,6 +290,8 @@ extern "C" {
     pub fn irwystl_write_text(
         n: usize,
         k: usize,
+        block_type: usize,
+        type_line: usize,
         masks: *const u32,
         masks_length: usize,
         values: *const u32,
@@ -294,6 +316,7 @@ extern "C" {
     pub fn irwystl_sheet(
         n: usize,
         k: usize,
+        block_type: usize,
         w: usize,
         masks: *const u32,
         masks_length: usize,

@@ -10,7 +10,9 @@ pub enum Refusal {
     Inputs,
     /// 2: the number of outputs k is out of range.
     Outputs,
-    /// 3: the weight limit w is not 1 to n, or t is not below 2^n.
+    /// 3: the weight limit w is not 1 to n, t is not below 2^n, the type is
+    /// neither [`FR`](crate::FR) nor [`FD`](crate::FD), or the line of
+    /// [`FR`](crate::FR) is left out in writing.
     Limit,
     /// 4: no row or too many, flat rows of unequal length, a table without 2^n
     /// entries, a matrix without n rows.
@@ -78,7 +80,7 @@ impl fmt::Display for Refusal {
         match self {
             Refusal::Inputs => write!(out, "the number of inputs is out of range"),
             Refusal::Outputs => write!(out, "the number of outputs is out of range"),
-            Refusal::Limit => write!(out, "the weight limit, or t, is out of range"),
+            Refusal::Limit => write!(out, "the weight limit, t or the type is out of range"),
             Refusal::Count => write!(out, "the number of rows or entries is out of range"),
             Refusal::Room => write!(out, "the room lent for a result is too short"),
             Refusal::Record { index } => {

@@ -7,7 +7,7 @@ use reference::data::{check_lists, check_operations};
 use reference::inputs::Case;
 use reference::{Answer, Flat, FlatRoom, Measures, Operations, Plain, Row, Smaller, TextHead};
 
-/// This crate as one more implementation of 01.
+/// This crate as one more implementation of 01 and 02.
 struct Safe;
 
 fn answer<R, S: Default>(outcome: Result<R, Refusal>, results: impl Fn(R) -> S) -> Answer<S> {
@@ -33,6 +33,8 @@ fn head_of(told: Headings) -> TextHead {
     TextHead {
         n: told.n,
         k: told.k,
+        block_type: told.block_type,
+        type_line: told.type_line,
         rows: told.count,
     }
 }
@@ -73,20 +75,23 @@ fn room_of(room: FlatRoom<'_>) -> Room<'_> {
 }
 
 impl Operations for Safe {
-    fn table_value(n: usize, k: usize, t: usize, table: &[u16]) -> Answer<u64> {
-        answer(irwystl::table_value(n, k, t, table), |value| value)
+    fn table_value(n: usize, k: usize, block_type: usize, t: usize, table: &[u16]) -> Answer<u64> {
+        answer(irwystl::table_value(n, k, block_type, t, table), |value| {
+            value
+        })
     }
 
     fn table_method(
         n: usize,
         k: usize,
+        block_type: usize,
         w: usize,
         table: &[u16],
         smaller: &mut [u16],
         columns: &mut [u32],
         sigma: &mut [u32],
     ) -> Answer<Measures> {
-        let found = irwystl::table_method(n, k, w, table, columns, sigma, smaller);
+        let found = irwystl::table_method(n, k, block_type, w, table, columns, sigma, smaller);
         answer(found, |found| Measures {
             before: found.before,
             after: found.after,
@@ -96,24 +101,40 @@ impl Operations for Safe {
     fn restore(
         n: usize,
         k: usize,
+        block_type: usize,
         sigma: &[u32],
         smaller: &[u16],
         table: &mut [u16],
     ) -> Answer<()> {
-        answer(irwystl::restore_table(n, k, sigma, smaller, table), |()| ())
+        answer(
+            irwystl::restore_table(n, k, block_type, sigma, smaller, table),
+            |()| (),
+        )
     }
 
-    fn row_value(n: usize, k: usize, t: usize, rows: Flat) -> Answer<u64> {
-        answer(flat::row_value(n, k, t, given(rows)), |value| value)
+    fn row_value(n: usize, k: usize, block_type: usize, t: usize, rows: Flat) -> Answer<u64> {
+        answer(flat::row_value(n, k, block_type, t, given(rows)), |value| {
+            value
+        })
     }
 
-    fn row_value_records(n: usize, k: usize, t: usize, rows: &[Row]) -> Answer<u64> {
-        answer(irwystl::row_value(n, k, t, &records(rows)), |value| value)
+    fn row_value_records(
+        n: usize,
+        k: usize,
+        block_type: usize,
+        t: usize,
+        rows: &[Row],
+    ) -> Answer<u64> {
+        answer(
+            irwystl::row_value(n, k, block_type, t, &records(rows)),
+            |value| value,
+        )
     }
 
     fn row_method(
         n: usize,
         k: usize,
+        block_type: usize,
         w: usize,
         rows: Flat,
         smaller: FlatRoom,
@@ -122,7 +143,7 @@ impl Operations for Safe {
     ) -> Answer<Smaller> {
         let room = room_of(smaller);
         answer(
-            flat::row_method(n, k, w, given(rows), columns, sigma, room),
+            flat::row_method(n, k, block_type, w, given(rows), columns, sigma, room),
             smaller_of,
         )
     }
@@ -130,6 +151,7 @@ impl Operations for Safe {
     fn row_method_records(
         n: usize,
         k: usize,
+        block_type: usize,
         w: usize,
         rows: &[Row],
         smaller: &mut [Row],
@@ -138,17 +160,29 @@ impl Operations for Safe {
     ) -> Answer<Smaller> {
         let rows = records(rows);
         let found = lent(smaller, |room| {
-            irwystl::row_method(n, k, w, &rows, columns, sigma, room)
+            irwystl::row_method(n, k, block_type, w, &rows, columns, sigma, room)
         });
         answer(found, smaller_of)
     }
 
-    fn fill(n: usize, k: usize, rows: Flat, table: &mut [u16]) -> Answer<()> {
-        answer(flat::fill_table(n, k, given(rows), table), |()| ())
+    fn fill(n: usize, k: usize, block_type: usize, rows: Flat, table: &mut [u16]) -> Answer<()> {
+        answer(
+            flat::fill_table(n, k, block_type, given(rows), table),
+            |()| (),
+        )
     }
 
-    fn fill_records(n: usize, k: usize, rows: &[Row], table: &mut [u16]) -> Answer<()> {
-        answer(irwystl::fill_table(n, k, &records(rows), table), |()| ())
+    fn fill_records(
+        n: usize,
+        k: usize,
+        block_type: usize,
+        rows: &[Row],
+        table: &mut [u16],
+    ) -> Answer<()> {
+        answer(
+            irwystl::fill_table(n, k, block_type, &records(rows), table),
+            |()| (),
+        )
     }
 
     fn read_text(text: &[u8], room: FlatRoom) -> Answer<TextHead> {
@@ -160,27 +194,55 @@ impl Operations for Safe {
         answer(told, head_of)
     }
 
-    fn write_text(n: usize, k: usize, rows: Flat, text: &mut [u8]) -> Answer<usize> {
-        answer(flat::write_text(n, k, given(rows), text), |count| count)
+    fn write_text(
+        n: usize,
+        k: usize,
+        block_type: usize,
+        type_line: usize,
+        rows: Flat,
+        text: &mut [u8],
+    ) -> Answer<usize> {
+        answer(
+            flat::write_text(n, k, block_type, type_line, given(rows), text),
+            |count| count,
+        )
     }
 
-    fn write_text_records(n: usize, k: usize, rows: &[Row], text: &mut [u8]) -> Answer<usize> {
-        let written = irwystl::write_text(n, k, &records(rows), text);
+    fn write_text_records(
+        n: usize,
+        k: usize,
+        block_type: usize,
+        type_line: usize,
+        rows: &[Row],
+        text: &mut [u8],
+    ) -> Answer<usize> {
+        let written = irwystl::write_text(n, k, block_type, type_line, &records(rows), text);
         answer(written, |count| count)
     }
 
-    fn sheet(n: usize, k: usize, w: usize, rows: Flat, bytes: &mut [u8]) -> Answer<usize> {
-        answer(flat::sheet(n, k, w, given(rows), bytes), |count| count)
+    fn sheet(
+        n: usize,
+        k: usize,
+        block_type: usize,
+        w: usize,
+        rows: Flat,
+        bytes: &mut [u8],
+    ) -> Answer<usize> {
+        answer(
+            flat::sheet(n, k, block_type, w, given(rows), bytes),
+            |count| count,
+        )
     }
 
     fn sheet_records(
         n: usize,
         k: usize,
+        block_type: usize,
         w: usize,
         rows: &[Row],
         bytes: &mut [u8],
     ) -> Answer<usize> {
-        let written = irwystl::sheet(n, k, w, &records(rows), bytes);
+        let written = irwystl::sheet(n, k, block_type, w, &records(rows), bytes);
         answer(written, |count| count)
     }
 

@@ -1,6 +1,6 @@
 -- What an answer of 0 says of a list of rows, by named fields; how it follows from each operation's checks, and that a list with those
--- facts is answered: here alone a proof knows in which order they are asked. Not here: tables (crate table_checks), and what 0 says of slices that hold the rows (crate
--- flat_rows). Assumes nothing.
+-- facts is answered: here alone a proof knows in which order they are asked. Not here: tables (crate table_checks), and what 0 says of
+-- slices that hold the rows (crate flat_rows). Assumes nothing.
 use mathlib.Core.Path.{_≡_, refl, _∙_}
 use mathlib.Core.Bool.{Bool, true, false, not}
 use mathlib.Core.List.{List, [], _∷_, _++_}
@@ -11,7 +11,8 @@ use lib.Dec.{ltb}
 use lib.ListN.{length}
 use Rattle.slices.specs.Least.{first-below}
 use Rattle.block.specs.Limits.{listInputs, tableInputs, outputs, givenRows, smallerRows}
-use Rattle.block.specs.Refusals.{Check, check, answer, verdict, outside, sizeChecks, badRow, rowAt, sharing}
+use Rattle.block.specs.Words.{fr, fd, missing}
+use Rattle.block.specs.Refusals.{Check, check, answer, verdict, outside, typedChecks, badRow, rowAt, sharing}
 use Rattle.block.specs.Lists.{countCheck, badRowCheck, rowChecks, rowValueVerdict, rowsAfter, passing, passingCheck, methodChecked, methodChecks, smallerList, fillVerdict}
 use Rattle.block.specs.declared.Row.{Row}
 use Rattle.refusal_laws.specs.Verdicts.{verdict-miss, verdict-none, none-passes, passes, Numbered}
@@ -35,15 +36,16 @@ pub record Passed (inputs most n k : ℕ) (rs : List Row) : Type 0 where
   pub disjoint : Disjoint n rs
 
 -- the row method, but for 9
-pub record MethodPassed (n k w : ℕ) (rs : List Row) (short : Bool) : Type 0 where
+pub record MethodPassed (n k y w : ℕ) (rs : List Row) (short : Bool) : Type 0 where
   pub list : Passed listInputs givenRows n k rs
+  pub typed : (fr ≤ y) × (y ≤ fd)
   pub weight : (1 ≤ w) × (w ≤ n)
   pub room : short ≡ false
 
 -- and 9: at most 512 smaller rows
-pub record MethodAnswered (n k w : ℕ) (rs : List Row) (short : Bool) : Type 0 where
-  pub passed : MethodPassed n k w rs short
-  pub few : length (smallerList n w rs) ≤ smallerRows
+pub record MethodAnswered (n k y w : ℕ) (rs : List Row) (short : Bool) : Type 0 where
+  pub passed : MethodPassed n k y w rs short
+  pub few : length (smallerList (missing y) n w rs) ≤ smallerRows
 
 -- greater limits hold too
 pub in-range-more : {inputs most n k : ℕ} {rs : List Row} (wider more : ℕ) → inputs ≤ wider → most ≤ more → InRange inputs most n k rs
@@ -90,12 +92,12 @@ rows-answer n k rs rest p =
 
 -- ---- a single shift value
 
-module _ (n k t : ℕ) (rs : List Row) where
+module _ (n k y t : ℕ) (rs : List Row) where
   pub value-ranges : (rest : List Check)
-      → verdict (sizeChecks listInputs n k (check (not (ltb t (2 ^ n))) 3 0 0 ∷ countCheck givenRows rs ∷ rest)) .number ≡ 0
+      → verdict (typedChecks listInputs n k y (check (not (ltb t (2 ^ n))) 3 0 0 ∷ countCheck givenRows rs ∷ rest)) .number ≡ 0
       → InRange listInputs givenRows n k rs × (t < 2 ^ n) × (verdict rest .number ≡ 0)
   value-ranges rest h =
-      let sizes = sizes-pass listInputs n k _ h in
+      let sizes = sizes-pass listInputs n k y _ h in
       let point = passes _ _ refl (sizes .1) in
       let count = passes _ _ refl (point .1) in (
         record { size = sizes .0 .0; columns = sizes .0 .1; count = inside 1 givenRows (length rs) (count .0) },
@@ -103,7 +105,7 @@ module _ (n k t : ℕ) (rs : List Row) where
         count .1,
       )
 
-  pub value-passed : rowValueVerdict n k t rs .number ≡ 0 → Passed listInputs givenRows n k rs × (t < 2 ^ n)
+  pub value-passed : rowValueVerdict n k y t rs .number ≡ 0 → Passed listInputs givenRows n k rs × (t < 2 ^ n)
   unfolding rowValueVerdict
   value-passed h =
       let r = value-ranges (rowChecks n k rs) h in
@@ -111,12 +113,12 @@ module _ (n k t : ℕ) (rs : List Row) where
 
 -- ---- filling
 
-module _ (n k : ℕ) (rs : List Row) (room : ℕ) where
+module _ (n k y : ℕ) (rs : List Row) (room : ℕ) where
   pub fill-ranges : (rest : List Check)
-      → verdict (sizeChecks tableInputs n k (countCheck smallerRows rs ∷ check (ltb room (2 ^ n)) 5 0 0 ∷ rest)) .number ≡ 0
+      → verdict (typedChecks tableInputs n k y (countCheck smallerRows rs ∷ check (ltb room (2 ^ n)) 5 0 0 ∷ rest)) .number ≡ 0
       → InRange tableInputs smallerRows n k rs × (2 ^ n ≤ room) × (verdict rest .number ≡ 0)
   fill-ranges rest h =
-      let sizes = sizes-pass tableInputs n k _ h in
+      let sizes = sizes-pass tableInputs n k y _ h in
       let count = passes _ _ refl (sizes .1) in
       let lent = passes _ _ refl (count .1) in (
         record { size = sizes .0 .0; columns = sizes .0 .1; count = inside 1 smallerRows (length rs) (count .0) },
@@ -124,19 +126,20 @@ module _ (n k : ℕ) (rs : List Row) (room : ℕ) where
         lent .1,
       )
 
-  pub fill-passed : fillVerdict n k rs room .number ≡ 0 → Passed tableInputs smallerRows n k rs × (2 ^ n ≤ room)
+  pub fill-passed : fillVerdict n k y rs room .number ≡ 0 → Passed tableInputs smallerRows n k rs × (2 ^ n ≤ room)
   unfolding fillVerdict
   fill-passed h =
       let r = fill-ranges (rowChecks n k rs) h in
       (rows-pass tableInputs smallerRows n k rs [] (r .0) (r .2) .0, r .1)
 
-  -- filling answers a list that passes, where there is room
-  pub fill-answers : Passed tableInputs smallerRows n k rs → 2 ^ n ≤ room → fillVerdict n k rs room ≡ answer 0 0 0
+  -- filling answers a list that passes, where there is room, under each type
+  pub fill-answers : Passed tableInputs smallerRows n k rs → (fr ≤ y) × (y ≤ fd) → 2 ^ n ≤ room → fillVerdict n k y rs room ≡ answer 0 0 0
   unfolding fillVerdict
-  fill-answers p h =
+  fill-answers p typed h =
       let r = p .range in
       verdict-miss _ _ (within 1 tableInputs n (r .size .0) (r .size .1))
       ∙ verdict-miss _ _ (within 1 outputs k (r .columns .0) (r .columns .1))
+      ∙ verdict-miss _ _ (within fr fd y (typed .0) (typed .1))
       ∙ verdict-miss _ _ (within 1 smallerRows (length rs) (r .count .0) (r .count .1))
       ∙ verdict-miss _ _ (le-ltb room (2 ^ n) h)
       ∙ rows-answer n k rs [] p
@@ -144,50 +147,51 @@ module _ (n k : ℕ) (rs : List Row) (room : ℕ) where
 
 -- ---- the row method, and the sheet; `short` says that the lent room is too short
 
-module _ (n k w : ℕ) (rs : List Row) (short : Bool) where
+module _ (n k y w : ℕ) (rs : List Row) (short : Bool) where
   pub method-ranges : (rest : List Check)
-      → verdict (sizeChecks listInputs n k (check (outside 1 n w) 3 0 0 ∷ countCheck givenRows rs ∷ check short 5 0 0 ∷ rest)) .number ≡ 0
-      → InRange listInputs givenRows n k rs × ((1 ≤ w) × (w ≤ n)) × (short ≡ false) × (verdict rest .number ≡ 0)
+      → verdict (typedChecks listInputs n k y (check (outside 1 n w) 3 0 0 ∷ countCheck givenRows rs ∷ check short 5 0 0 ∷ rest)) .number ≡ 0
+      → InRange listInputs givenRows n k rs × ((fr ≤ y) × (y ≤ fd)) × ((1 ≤ w) × (w ≤ n)) × (short ≡ false) × (verdict rest .number ≡ 0)
   method-ranges rest h =
-      let sizes = sizes-pass listInputs n k _ h in
+      let sizes = sizes-pass listInputs n k y _ h in
       let weight = passes _ _ refl (sizes .1) in
       let count = passes _ _ refl (weight .1) in
       let lent = passes _ _ refl (count .1) in (
         record { size = sizes .0 .0; columns = sizes .0 .1; count = inside 1 givenRows (length rs) (count .0) },
+        sizes .0 .2,
         inside 1 n w (weight .0),
         lent .0,
         lent .1,
       )
 
-  pub method-numbered : Numbered (methodChecked n k w rs short)
-  method-numbered = (refl, (refl, (refl, (refl, (refl, rows-numbered n k rs)))))
+  pub method-numbered : Numbered (methodChecked n k y w rs short)
+  method-numbered = (refl, (refl, (refl, (refl, (refl, (refl, rows-numbered n k rs))))))
 
-  checked-pass : (rest : List Check) → verdict (methodChecked n k w rs short ++ rest) .number ≡ 0
-      → MethodPassed n k w rs short × (verdict rest .number ≡ 0)
+  checked-pass : (rest : List Check) → verdict (methodChecked n k y w rs short ++ rest) .number ≡ 0
+      → MethodPassed n k y w rs short × (verdict rest .number ≡ 0)
   checked-pass rest h =
       let r = method-ranges (rowChecks n k rs ++ rest) h in
-      let p = rows-pass listInputs givenRows n k rs rest (r .0) (r .3) in
-      (record { list = p .0; weight = r .1; room = r .2 }, p .1)
+      let p = rows-pass listInputs givenRows n k rs rest (r .0) (r .4) in
+      (record { list = p .0; typed = r .1; weight = r .2; room = r .3 }, p .1)
 
   -- before 9
-  pub method-passed : verdict (methodChecked n k w rs short) .number ≡ 0 → MethodPassed n k w rs short
+  pub method-passed : verdict (methodChecked n k y w rs short) .number ≡ 0 → MethodPassed n k y w rs short
   method-passed h = checked-pass [] h .0
 
   -- where no step passes 512 rows, the smaller rows, which are those after step n, do not
-  few-rows : 1 ≤ n → n ≤ passing n w rs → length (smallerList n w rs) ≤ smallerRows
+  few-rows : 1 ≤ n → n ≤ passing (missing y) n w rs → length (smallerList (missing y) n w rs) ≤ smallerRows
   unfolding smallerList passing
   few-rows one h =
       let e : suc (n - 1) ≡ n = omega arith in
-      let b = first-below n (λ i. ltb smallerRows (length (rowsAfter n w (suc i) rs))) (n - 1) (omega arith) in
-      ltb-false smallerRows (length (rowsAfter n w n rs)) (rw e at b)
+      let b = first-below n (λ i. ltb smallerRows (length (rowsAfter (missing y) n w (suc i) rs))) (n - 1) (omega arith) in
+      ltb-false smallerRows (length (rowsAfter (missing y) n w n rs)) (rw e at b)
 
   -- with 9
-  pub method-answered : verdict (methodChecks n k w rs short) .number ≡ 0 → MethodAnswered n k w rs short
+  pub method-answered : verdict (methodChecks n k y w rs short) .number ≡ 0 → MethodAnswered n k y w rs short
   unfolding methodChecks
   method-answered h =
-      let p = checked-pass (passingCheck n w rs ∷ []) h in
+      let p = checked-pass (passingCheck (missing y) n w rs ∷ []) h in
       let last = passes _ _ refl (p .1) in
       record {
         passed = p .0;
-        few = few-rows (p .0 .list .range .size .0) (ltb-false (passing n w rs) n (last .0));
+        few = few-rows (p .0 .list .range .size .0) (ltb-false (passing (missing y) n w rs) n (last .0));
       }

@@ -26,9 +26,9 @@ smallerRows = 512
 abbrev pub rowBytes : ℕ → ℕ → ℕ
 rowBytes n k = n + 1 + k + 1
 
--- room for any row text: ".i 16", ".o 15", ".p 128", the rows and ".e", each with its LF
+-- room for any row text: ".i 16", ".o 15", ".type fr" (02, Ticket 2: 4,255), ".p 128", the rows and ".e", each with its LF
 abbrev pub textRoom : ℕ
-textRoom = 6 + 6 + 7 + givenRows * rowBytes listInputs outputs + 3
+textRoom = 6 + 6 + 9 + 7 + givenRows * rowBytes listInputs outputs + 3
 
 -- room for any sheet: "sheet 1"; "size 3" and three numbers; "measure 2" and two; "basis 16" and "sigma 16" with their rows;
 -- "table 512" and the smaller rows

@@ -9,7 +9,7 @@ use lib.Dec.{eqb, ltb}
 use lib.ListN.{length, getD}
 use Rattle.slices.specs.Places.{at, first, over}
 use Rattle.block.specs.Limits.{outputs}
-use Rattle.block.specs.Words.{none, row, under}
+use Rattle.block.specs.Words.{fr, fd, row, under}
 use Rattle.block.specs.Basis.{span}
 use Rattle.block.specs.declared.Row.{Row}
 use Rattle.block.specs.declared.Answer.{Answer}
@@ -52,17 +52,21 @@ stored v s l = cond (answered v) (over s l) l
 abbrev pub outside : ℕ → ℕ → ℕ → Bool
 outside lo hi x = ltb x lo || ltb hi x
 
--- the two checks that every operation begins with: n from 1 to most, k from 1 to 15
+-- the two checks of sizes: n from 1 to most, k from 1 to 15
 abbrev pub sizeChecks : ℕ → ℕ → ℕ → List Check → List Check
 sizeChecks most n k cs = check (outside 1 most n) 1 0 0 ∷ check (outside 1 outputs k) 2 0 0 ∷ cs
+
+-- the checks that every operation but reading begins with: the sizes, and the type (02, Ticket 2: "another type number .. is 3")
+abbrev pub typedChecks : ℕ → ℕ → ℕ → ℕ → List Check → List Check
+typedChecks most n k y cs = sizeChecks most n k (check (outside fr fd y) 3 0 0 ∷ cs)
 
 -- some number below m passes
 abbrev pub some : ℕ → (ℕ → Bool) → Bool
 some m p = ltb (first m p) m
 
--- 6: a table entry that is neither below 2^k nor no output
-abbrev pub badEntry : ℕ → ℕ → Bool
-badEntry k x = not (ltb x (2 ^ k)) && not (eqb x none)
+-- 6: a table entry that is neither below 2^k nor m, the word of a missing point (02, Ticket 2: under fd "65,535 is malformed in a table")
+abbrev pub badEntry : ℕ → ℕ → ℕ → Bool
+badEntry m k x = not (ltb x (2 ^ k)) && not (eqb x m)
 
 -- 6: a matrix row that is not below 2^n
 abbrev pub badNumber : ℕ → ℕ → Bool

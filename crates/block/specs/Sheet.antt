@@ -6,12 +6,12 @@ use Prim.Native.Nat.{ℕ, zero, suc, min}
 use lib.Dec.{ltb}
 use lib.ListN.{length, take}
 use Rattle.block.specs.Limits.{sheetRoom, givenRows, readBytes}
-use Rattle.block.specs.Words.{ofRows}
+use Rattle.block.specs.Words.{missing, ofRows}
 use Rattle.block.specs.Measure.{measure}
 use Rattle.block.specs.Basis.{basisOf, sigmaOf, smallerOf}
 use Rattle.block.specs.Refusals.{verdict, answered}
 use Rattle.block.specs.Lists.{methodChecks, smallerList}
-use Rattle.block.specs.Text.{decimal, bits, rowLines, withBytes, readVerdict, inputsIn, outputsIn, rowsIn}
+use Rattle.block.specs.Text.{decimal, bits, rowLines, withBytes, readVerdict, inputsIn, outputsIn, typeIn, rowsIn}
 use Rattle.block.specs.declared.Row.{Row}
 use Rattle.block.specs.declared.Answer.{Answer}
 use Rattle.block.specs.declared.TextAnswer.{TextAnswer}
@@ -59,18 +59,18 @@ sheetOf n k w earlier later cs ss rs =
     ++ section sigmaName n ++ matrixLines n ss
     ++ section tableName (length rs) ++ rowLines n k rs
 
--- the sheet of a list and a weight limit: what the row method answers
-unfoldable pub sheetText : ℕ → ℕ → ℕ → List Row → List ℕ
-sheetText n k w rs =
-    sheetOf n k w (measure (ofRows rs) n) (measure (smallerOf (ofRows rs) n w) n)
-    (basisOf (ofRows rs) n w) (sigmaOf (ofRows rs) n w) (smallerList n w rs)
+-- the sheet of a list and a weight limit: what the row method answers; m is the word of a missing point, and the sheet does not show it
+unfoldable pub sheetText : ℕ → ℕ → ℕ → ℕ → List Row → List ℕ
+sheetText m n k w rs =
+    sheetOf n k w (measure (ofRows m rs) n) (measure (smallerOf (ofRows m rs) n w) n)
+    (basisOf (ofRows m rs) n w) (sigmaOf (ofRows m rs) n w) (smallerList m n w rs)
 
 -- the refusals of the row method, 5 being the sheet's own room
-unfoldable pub sheetVerdict : ℕ → ℕ → ℕ → List Row → ℕ → Answer
-sheetVerdict n k w rs room = verdict (methodChecks n k w rs (ltb room sheetRoom))
+unfoldable pub sheetVerdict : ℕ → ℕ → ℕ → ℕ → List Row → ℕ → Answer
+sheetVerdict n k y w rs room = verdict (methodChecks n k y w rs (ltb room sheetRoom))
 
-unfoldable pub sheet : ℕ → ℕ → ℕ → List Row → ℕ → TextAnswer
-sheet n k w rs room = withBytes (sheetVerdict n k w rs room) (sheetText n k w rs)
+unfoldable pub sheet : ℕ → ℕ → ℕ → ℕ → List Row → ℕ → TextAnswer
+sheet n k y w rs room = withBytes (sheetVerdict n k y w rs room) (sheetText (missing y) n k w rs)
 
 -- ---- the program
 
@@ -83,12 +83,12 @@ refusalLine v =
 unfoldable pub orRefused : Answer → List ℕ → List ℕ
 orRefused v text = cond (answered v) text (refusalLine v)
 
--- what is printed for a list: weight limit 3, or n where n is below 3
-unfoldable pub printedList : ℕ → ℕ → List Row → List ℕ
-printedList n k rs = orRefused (sheetVerdict n k (min 3 n) rs sheetRoom) (sheetText n k (min 3 n) rs)
+-- what is printed for a list of type y: weight limit 3, or n where n is below 3
+unfoldable pub printedList : ℕ → ℕ → ℕ → List Row → List ℕ
+printedList n k y rs = orRefused (sheetVerdict n k y (min 3 n) rs sheetRoom) (sheetText (missing y) n k (min 3 n) rs)
 
--- what is printed for the text read, at most 8,192 bytes of it
+-- what is printed for the text read, at most 8,192 bytes of it, with the type that the text has
 unfoldable pub printed : List ℕ → List ℕ
 printed input =
     let text : List ℕ = take readBytes input in
-    orRefused (readVerdict text givenRows) (printedList (inputsIn text) (outputsIn text) (rowsIn text))
+    orRefused (readVerdict text givenRows) (printedList (inputsIn text) (outputsIn text) (typeIn text) (rowsIn text))

@@ -9,8 +9,8 @@ use Rattle.bits.specs.Digits.{bit}
 use Rattle.slices.specs.Places.{tab, first}
 use Rattle.sums.specs.Sums.{one}
 use Rattle.block.specs.Limits.{listInputs, givenRows, textRoom}
-use Rattle.block.specs.Words.{row}
-use Rattle.block.specs.Refusals.{Check, check, verdict, carried, outside, sizeChecks}
+use Rattle.block.specs.Words.{fr, fd, row}
+use Rattle.block.specs.Refusals.{Check, check, verdict, carried, outside, sizeChecks, typedChecks}
 use Rattle.block.specs.Lists.{countCheck, badRowCheck}
 use Rattle.block.specs.declared.Row.{Row}
 use Rattle.block.specs.declared.Answer.{Answer}
@@ -59,15 +59,25 @@ headLine letter v = 46 ∷ letter ∷ 32 ∷ decimal v ++ (10 ∷ [])
 abbrev pub endLine : List ℕ
 endLine = 46 ∷ 101 ∷ 10 ∷ []
 
-unfoldable pub textOf : ℕ → ℕ → List Row → List ℕ
-textOf n k rs = headLine 105 n ++ headLine 111 k ++ headLine 112 (length rs) ++ rowLines n k rs ++ endLine
+-- ".type fr" or ".type fd" (02, Ticket 2)
+abbrev pub typeLine : ℕ → List ℕ
+typeLine y = 46 ∷ 116 ∷ 121 ∷ 112 ∷ 101 ∷ 32 ∷ 102 ∷ cond (eqb y fr) 114 100 ∷ 10 ∷ []
 
--- ---- writing: 1, 2, 4, 5 (4,246 bytes), 6
+-- the type line where it is to stand: z is 0 where it is not
+abbrev pub typeLines : ℕ → ℕ → List ℕ
+typeLines y z = cond (eqb z 0) [] (typeLine y)
 
-unfoldable pub writeVerdict : ℕ → ℕ → List Row → ℕ → Answer
-writeVerdict n k rs room =
-    verdict (sizeChecks listInputs n k (
-    countCheck givenRows rs
+unfoldable pub textOf : ℕ → ℕ → ℕ → ℕ → List Row → List ℕ
+textOf n k y z rs =
+    headLine 105 n ++ headLine 111 k ++ typeLines y z ++ headLine 112 (length rs) ++ rowLines n k rs ++ endLine
+
+-- ---- writing: 1, 2, 3 (y; 02, Ticket 2: "or fr with no line for the writer"), 4, 5 (4,255 bytes), 6
+
+unfoldable pub writeVerdict : ℕ → ℕ → ℕ → ℕ → List Row → ℕ → Answer
+writeVerdict n k y z rs room =
+    verdict (typedChecks listInputs n k y (
+    check (eqb y fr && eqb z 0) 3 0 0
+    ∷ countCheck givenRows rs
     ∷ check (ltb room textRoom) 5 0 0
     ∷ badRowCheck n k rs
     ∷ []))
@@ -76,8 +86,8 @@ writeVerdict n k rs room =
 abbrev pub withBytes : Answer → List ℕ → TextAnswer
 withBytes v text = record { number = v .number; a = v .a; b = v .b; count = carried v (length text) }
 
-unfoldable pub writeText : ℕ → ℕ → List Row → ℕ → TextAnswer
-writeText n k rs room = withBytes (writeVerdict n k rs room) (textOf n k rs)
+unfoldable pub writeText : ℕ → ℕ → ℕ → ℕ → List Row → ℕ → TextAnswer
+writeText n k y z rs room = withBytes (writeVerdict n k y z rs room) (textOf n k y z rs)
 
 -- ---- the lines of a text
 
@@ -157,6 +167,16 @@ rowOn n k l =
     (spelled 2 (λ b. one (eqb b 49)) 0 (take n l))
     (spelled 2 (λ b. one (eqb b 49)) 0 (take k (drop (n + 1) l)))
 
+-- ---- the type line, which may follow .o (02, Ticket 2): "with no such line fd holds"
+
+-- 1 where the third line is a type line, and else 0
+unfoldable pub typeLineIn : List ℕ → ℕ
+typeLineIn text = one (equal (lineAt text 2) (typeLine fr) || equal (lineAt text 2) (typeLine fd))
+
+-- the type of a text
+unfoldable pub typeIn : List ℕ → ℕ
+typeIn text = cond (equal (lineAt text 2) (typeLine fr)) fr fd
+
 -- ---- the headings: ".i n", ".o k", ".p rows"
 
 -- their letters, in the order of their lines
@@ -167,16 +187,21 @@ headLetters = 105 ∷ 111 ∷ 112 ∷ []
 abbrev pub headCount : ℕ
 headCount = length headLetters
 
--- line i, from 0, has the form of heading i
+-- the line, from 0, of heading i, and of the body's first line where i is `headCount`: those after .o stand one further where the type
+-- line does
+unfoldable pub headPlace : List ℕ → ℕ → ℕ
+headPlace text i = cond (ltb i 2) i (i + typeLineIn text)
+
+-- a line has the form of heading i
 abbrev pub headDue : ℕ → List ℕ → Bool
 headDue i l = headForm (getD headLetters i 0) l
 
 -- the least heading, from 0, that lacks its form; `headCount` where there is none
 unfoldable pub headFault : List ℕ → ℕ
-headFault text = first headCount (λ i. not (headDue i (lineAt text i)))
+headFault text = first headCount (λ i. not (headDue i (lineAt text (headPlace text i))))
 
 abbrev pub headNumber : List ℕ → ℕ → ℕ
-headNumber text i = valueOf (numberPart (lineAt text i))
+headNumber text i = valueOf (numberPart (lineAt text (headPlace text i)))
 
 -- n, k and the number of rows that the headings say
 abbrev pub inputsIn : List ℕ → ℕ
@@ -191,7 +216,7 @@ countIn text = headNumber text 2
 -- ---- the body: the lines after the headings, counted from its own first line
 
 abbrev pub body : List ℕ → List (List ℕ)
-body text = drop headCount (lines text)
+body text = drop (headPlace text headCount) (lines text)
 
 -- line i of the body, from 0, has the form due there: p rows, ".e", and nothing more
 unfoldable pub bodyDue : ℕ → ℕ → ℕ → ℕ → List ℕ → Bool
@@ -207,23 +232,20 @@ rowsOn n k p ls = tab p (λ i. rowOn n k (lineIn ls i))
 
 -- ---- reading: 10 for a heading; 1, 2, 4, 5 (the .p count of rows); 10 for the body
 
--- the text's first line and the body's, as lines are answered
+-- lines are answered counted from 1
 abbrev pub firstLine : ℕ
 firstLine = 1
 
-abbrev pub bodyLine : ℕ
-bodyLine = firstLine + headCount
-
--- 10: a fault among m lines, of which the first has the number `line`; m where there is none
-abbrev pub formCheck : ℕ → ℕ → ℕ → Check
-formCheck line m fault = check (ltb fault m) 10 (line + fault) 0
-
 abbrev pub headCheck : List ℕ → Check
-headCheck text = formCheck firstLine headCount (headFault text)
+headCheck text = check (ltb (headFault text) headCount) 10 (firstLine + headPlace text (headFault text)) 0
+
+-- the least faulty line of the text's body, from 0; countIn text + 2 where there is none
+abbrev pub textFault : List ℕ → ℕ
+textFault text = bodyFault (inputsIn text) (outputsIn text) (countIn text) (body text)
 
 abbrev pub bodyCheck : List ℕ → Check
 bodyCheck text =
-    formCheck bodyLine (countIn text + 2) (bodyFault (inputsIn text) (outputsIn text) (countIn text) (body text))
+    check (ltb (textFault text) (countIn text + 2)) 10 (firstLine + headPlace text headCount + textFault text) 0
 
 abbrev pub readChecks : List ℕ → ℕ → List Check
 readChecks text room =
@@ -237,13 +259,23 @@ readChecks text room =
 unfoldable pub readVerdict : List ℕ → ℕ → Answer
 readVerdict text room = verdict (readChecks text room)
 
--- an answer with n, k and the number of rows
-abbrev pub withHeadings : Answer → ℕ → ℕ → ℕ → ReadAnswer
-withHeadings v n k p =
-    record { number = v .number; a = v .a; b = v .b; n = carried v n; k = carried v k; count = carried v p }
+-- an answer with n, k, the type, whether its line stands there, and the number of rows
+abbrev pub withHeadings : Answer → ℕ → ℕ → ℕ → ℕ → ℕ → ReadAnswer
+withHeadings v n k y z p =
+    record {
+      number = v .number;
+      a = v .a;
+      b = v .b;
+      n = carried v n;
+      k = carried v k;
+      «block_type» = carried v y;
+      «type_line» = carried v z;
+      count = carried v p;
+    }
 
 unfoldable pub readText : List ℕ → ℕ → ReadAnswer
-readText text room = withHeadings (readVerdict text room) (inputsIn text) (outputsIn text) (countIn text)
+readText text room =
+    withHeadings (readVerdict text room) (inputsIn text) (outputsIn text) (typeIn text) (typeLineIn text) (countIn text)
 
 -- the rows that a text says
 unfoldable pub rowsIn : List ℕ → List Row
@@ -259,5 +291,25 @@ kindNumber Room = 5
 kindNumber Form = 10
 
 abbrev pub numbers : Reading → ReadAnswer
-numbers (Accepted h) = record { number = 0; a = 0; b = 0; n = h .n; k = h .k; count = h .count }
-numbers (Refused r) = record { number = kindNumber (r .kind); a = r .a; b = r .b; n = 0; k = 0; count = 0 }
+numbers (Accepted h) =
+    record {
+      number = 0;
+      a = 0;
+      b = 0;
+      n = h .n;
+      k = h .k;
+      «block_type» = h .«block_type»;
+      «type_line» = h .«type_line»;
+      count = h .count;
+    }
+numbers (Refused r) =
+    record {
+      number = kindNumber (r .kind);
+      a = r .a;
+      b = r .b;
+      n = 0;
+      k = 0;
+      «block_type» = 0;
+      «type_line» = 0;
+      count = 0;
+    }

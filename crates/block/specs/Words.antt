@@ -13,7 +13,19 @@ use Rattle.block.specs.declared.Row.{Row}
 abbrev pub none : ℕ
 none = 65535
 
--- a full table as a block: entry x is the word at x; outside its entries a table has no output
+-- the types of a block, by number (02, Ticket 2, gives them by name); 0 is neither
+abbrev pub fr : ℕ
+fr = 1
+
+abbrev pub fd : ℕ
+fd = 2
+
+-- what a type makes of a missing point, one under no row (02, Ticket 2: type fd "reads such a point as word 0; only type fr leaves it
+-- open"): no output for fr, word 0 for fd
+abbrev pub missing : ℕ → ℕ
+missing y = cond (eqb y fr) none 0
+
+-- a full table as a block, of either type: entry x is the word at x; outside its entries a table has no output
 abbrev pub ofTable : List ℕ → ℕ → ℕ
 ofTable table x = getD table x none
 
@@ -21,14 +33,10 @@ ofTable table x = getD table x none
 abbrev pub under : Row → ℕ → Bool
 under r x = eqb (bitAnd (r .mask) x) (r .values)
 
--- the word at x: of the first row that x lies under, or `missing` where it lies under none
-unfoldable pub wordAt : ℕ → List Row → ℕ → ℕ
-wordAt missing [] x = missing
-wordAt missing (r ∷ rs) x = cond (under r x) (r .word) (wordAt missing rs x)
-
--- a list of rows as a block: a point under no row has no output
-abbrev pub ofRows : List Row → ℕ → ℕ
-ofRows rs = wordAt none rs
+-- a list of rows as a block: the word at x is that of the first row that x lies under, or m where it lies under none
+unfoldable pub ofRows : ℕ → List Row → ℕ → ℕ
+ofRows m [] x = m
+ofRows m (r ∷ rs) x = cond (under r x) (r .word) (ofRows m rs x)
 
 abbrev pub row : ℕ → ℕ → ℕ → Row
 row m v w = record { mask = m; values = v; word = w }

@@ -18,12 +18,20 @@ pub const LIST_POINTS: usize = 65536;
 
 pub const TABLE_POINTS: usize = 4096;
 
-pub const TEXT_ROOM: usize = 4246;
+pub const TEXT_ROOM: usize = 4255;
 
 pub const SHEET_ROOM: usize = 17518;
 
 // the bytes that the program reads
 pub const READ_BYTES: usize = 8192;
+
+// ---- the types of a block, those of specs/Words.antt: what a point under no row means
+
+// it has no output
+pub const FR: usize = 1;
+
+// it has word 0
+pub const FD: usize = 2;
 
 // ---- rows and answers
 
@@ -94,7 +102,7 @@ pub struct SheetWork {
     pub count: usize,
 }
 
-// The answer of the text reader in numbers: n, k and the number of rows.
+// The answer of the text reader in numbers: n, k, the type, whether its line stands in the text (1, or 0), and the number of rows.
 #[repr(C)]
 pub struct ReadAnswer {
     pub number: u32,
@@ -102,6 +110,8 @@ pub struct ReadAnswer {
     pub b: usize,
     pub n: usize,
     pub k: usize,
+    pub block_type: usize,
+    pub type_line: usize,
     pub count: usize,
 }
 
@@ -121,10 +131,12 @@ pub struct Refusal {
     pub b: usize,
 }
 
-// What an accepted text says: n, k and the number of rows.
+// What an accepted text says: n, k, the type, whether its line stands there (1, or 0), and the number of rows.
 pub struct Headings {
     pub n: usize,
     pub k: usize,
+    pub block_type: usize,
+    pub type_line: usize,
     pub count: usize,
 }
 

@@ -1,6 +1,7 @@
-// Cases, one to a line, as `OP ARGUMENTS => NUMBER A B RESULTS`: lists are comma-separated, a row is mask:value:word, and - is an empty
-// list. A number repeated is written once, as 5*4096. What an operation answers is gathered as numbers in the order of the line, and
-// compared with those due. All functions here are inner: a program that runs cases calls them.
+// Cases, one to a line, as `OP n k TYPE ARGUMENTS => NUMBER A B RESULTS`: the type is fr, fd or other, or a type number; lists are
+// comma-separated, a row is mask:value:word, and - is an empty list. A number repeated is written once, as 5*4096. What an operation answers
+// is gathered as numbers in the order of the line, and compared with those due. All functions here are inner: a program that runs cases
+// calls them.
 ghost use mathlib.Core.Path.{_≡_};
 ghost use Prim.Native.Nat.{_≤_, _<_};
 ghost use lib.ListN.{length};
@@ -60,41 +61,26 @@ pub fn read_number(text: &[u8], from: usize, first: u64) -> Numeral
     Numeral { value, next }
 }
 
+// The place after a word that ends at a place: over the space there.
+pub fn after_word(text: &[u8], stop: usize) -> usize
+    requires { ⌜ stop ≤ length (now text) ⌝ }
+    ensures { λ r. ⌜ r ≤ length (now (text .entry)) ⌝ }
+{
+    if stop < text.len() {
+        return stop + 1;
+    }
+    stop
+}
+
 // Reads a number that is a word of its own, and passes over the space after it.
 pub fn read_word(text: &[u8], from: usize) -> Numeral
     requires { ⌜ from ≤ length (now text) ⌝ }
     ensures { λ r. ⌜ r .next ≤ length (now (text .entry)) ⌝ }
 {
     let r = read_number(text, from, 0);
-    if r.next < text.len() {
-        return Numeral {
-            value: r.value,
-            next: r.next + 1,
-        };
-    }
-    r
-}
-
-// Three numbers, each a word of its own, and the place after them: n, k and t, w or a room; or the rooms of a method.
-pub struct Three {
-    pub first: usize,
-    pub second: usize,
-    pub third: usize,
-    pub next: usize,
-}
-
-pub fn read_three(text: &[u8], from: usize) -> Three
-    requires { ⌜ from ≤ length (now text) ⌝ }
-    ensures { λ r. ⌜ r .next ≤ length (now (text .entry)) ⌝ }
-{
-    let first = read_word(text, from);
-    let second = read_word(text, first.next);
-    let third = read_word(text, second.next);
-    Three {
-        first: first.value as usize,
-        second: second.value as usize,
-        third: third.value as usize,
-        next: third.next,
+    Numeral {
+        value: r.value,
+        next: after_word(text, r.next),
     }
 }
 
@@ -111,6 +97,71 @@ pub fn word_end(text: &[u8], from: usize) -> usize
         at += 1;
     }
     at
+}
+
+// The number of a type: that of fr, of fd, or one that is neither's. A number stands for itself.
+pub fn type_of(word: &[u8]) -> usize {
+    if saying::is_same(word, b"fr") {
+        return 1;
+    }
+    if saying::is_same(word, b"fd") {
+        return 2;
+    }
+    if saying::is_same(word, b"other") {
+        return 3;
+    }
+    read_number(word, 0, 0).value as usize
+}
+
+// What every case begins with: n, k, the type, and t, w or a room; and the place after them.
+pub struct Given {
+    pub n: usize,
+    pub k: usize,
+    pub block_type: usize,
+    pub last: usize,
+    pub next: usize,
+}
+
+pub fn read_given(text: &[u8], from: usize) -> Given
+    requires { ⌜ from ≤ length (now text) ⌝ }
+    ensures { λ r. ⌜ r .next ≤ length (now (text .entry)) ⌝ }
+{
+    let n = read_word(text, from);
+    let k = read_word(text, n.next);
+    let from_type = k.next;
+    let stop = word_end(text, from_type);
+    let block_type = type_of(&text[from_type..stop]);
+    let last = read_word(text, after_word(text, stop));
+    Given {
+        n: n.value as usize,
+        k: k.value as usize,
+        block_type,
+        last: last.value as usize,
+        next: last.next,
+    }
+}
+
+// The rooms of a method, and the place after them.
+pub struct Rooms {
+    pub smaller: usize,
+    pub basis: usize,
+    pub sigma: usize,
+    pub next: usize,
+}
+
+pub fn read_rooms(text: &[u8], from: usize) -> Rooms
+    requires { ⌜ from ≤ length (now text) ⌝ }
+    ensures { λ r. ⌜ r .next ≤ length (now (text .entry)) ⌝ }
+{
+    let smaller = read_word(text, from);
+    let basis = read_word(text, smaller.next);
+    let sigma = read_word(text, basis.next);
+    Rooms {
+        smaller: smaller.value as usize,
+        basis: basis.value as usize,
+        sigma: sigma.value as usize,
+        next: sigma.next,
+    }
 }
 
 // Stores a number so many times from a place on, as far as there is room.

@@ -1,5 +1,6 @@
--- The blocks that 01 marks P (01, Blocks to try by hand), as one statement over a table: each question has the numbers that stand
--- beside it. Every question goes through the answer that an operation's contract cites. Assumes nothing.
+-- The blocks that 01 marks P (01, Blocks to try by hand), read as fr, and blocks with missing points under both types (02, Ticket 2), as
+-- one statement over a table: each question has the numbers that stand beside it. Every question goes through the answer that an
+-- operation's contract cites. Assumes nothing.
 use mathlib.Core.Path.{_≡_, refl, ap₂}
 use mathlib.Core.Bool.{Bool, true, cond, _&&_}
 use mathlib.Core.List.{List, [], _∷_, _++_}
@@ -10,13 +11,13 @@ use Rattle.bits.specs.Digits.{parity}
 use Rattle.slices.specs.Places.{tab, first}
 use Rattle.slices.specs.Tests.{and-left, and-right}
 use Rattle.sums.specs.Sums.{sum, count}
-use Rattle.block.specs.Words.{wordAt, ofTable, ofRows, row}
+use Rattle.block.specs.Words.{fr, fd, missing, ofTable, ofRows, row}
 use Rattle.block.specs.Measure.{same, shift, measure}
 use Rattle.block.specs.Basis.{span, candidate, before, better, best, next, chosen, columns, apply, inverse, basisOf, sigmaOf, smallerOf}
 use Rattle.block.specs.Rows.{highest, partner, exchange, rest, shear, reached, splitRow, splitRows, moved}
 use Rattle.block.specs.Refusals.{verdict, answered, badRow, share, second, sharing, dependent}
 use Rattle.block.specs.Tables.{tableValueVerdict, tableValue, tableMethodVerdict, tableMethod, smallerTable, restoreVerdict, restored}
-use Rattle.block.specs.Lists.{rowValueVerdict, rowValue, rowsAfter, passing, methodChecks, rowMethodVerdict, rowMethod, smallerList}
+use Rattle.block.specs.Lists.{rowValueVerdict, rowValue, rowsAfter, passing, methodChecks, rowMethodVerdict, rowMethod, smallerList, fillVerdict, filled}
 use Rattle.block.specs.Text.{equal}
 use Rattle.block.specs.declared.Row.{Row}
 use Rattle.block.specs.declared.Answer.{Answer}
@@ -32,11 +33,12 @@ equal-same (x ∷ xs) (y ∷ ys) h =
 
 -- a question to one operation; the lent room is just what it asks for
 pub data Question : Type 0 where
-  tableValues : ℕ → ℕ → ℕ → List ℕ → Question
-  tableMethods : ℕ → ℕ → ℕ → List ℕ → Question
-  rowValues : ℕ → ℕ → ℕ → List Row → Question
-  rowMethods : ℕ → ℕ → ℕ → List Row → Question
-  restores : ℕ → ℕ → List ℕ → List ℕ → Question
+  tableValues : ℕ → ℕ → ℕ → ℕ → List ℕ → Question
+  tableMethods : ℕ → ℕ → ℕ → ℕ → List ℕ → Question
+  rowValues : ℕ → ℕ → ℕ → ℕ → List Row → Question
+  rowMethods : ℕ → ℕ → ℕ → ℕ → List Row → Question
+  fills : ℕ → ℕ → ℕ → List Row → Question
+  restores : ℕ → ℕ → ℕ → List ℕ → List ℕ → Question
 
 -- a result beside an answer, nothing beside a refusal
 abbrev pub with : Answer → List ℕ → List ℕ
@@ -48,22 +50,25 @@ flat [] = []
 flat (r ∷ rs) = r .mask ∷ r .values ∷ r .word ∷ flat rs
 
 -- number, A, B; then the value; or the measures, T, sigma and the smaller table; or the measures, the count, T, sigma and the smaller
--- rows; or the restored table
+-- rows; or the filled table; or the restored one
 pub ask : Question → List ℕ
-ask (tableValues n k t table) = let r = tableValue n k t table in r .number ∷ r .a ∷ r .b ∷ r .value ∷ []
-ask (tableMethods n k w table) =
-    let r = tableMethod n k w table n n (2 ^ n) in
+ask (tableValues n k y t table) = let r = tableValue n k y t table in r .number ∷ r .a ∷ r .b ∷ r .value ∷ []
+ask (tableMethods n k y w table) =
+    let r = tableMethod n k y w table n n (2 ^ n) in
     r .number ∷ r .a ∷ r .b ∷ r .before ∷ r .after
-    ∷ with (tableMethodVerdict n k w table n n (2 ^ n))
+    ∷ with (tableMethodVerdict n k y w table n n (2 ^ n))
     (basisOf (ofTable table) n w ++ sigmaOf (ofTable table) n w ++ smallerTable (ofTable table) n w)
-ask (rowValues n k t rs) = let r = rowValue n k t rs in r .number ∷ r .a ∷ r .b ∷ r .value ∷ []
-ask (rowMethods n k w rs) =
-    let r = rowMethod n k w rs n n 512 in
+ask (rowValues n k y t rs) = let r = rowValue n k y t rs in r .number ∷ r .a ∷ r .b ∷ r .value ∷ []
+ask (rowMethods n k y w rs) =
+    let r = rowMethod n k y w rs n n 512 in
     r .number ∷ r .a ∷ r .b ∷ r .before ∷ r .after ∷ r .count
-    ∷ with (rowMethodVerdict n k w rs n n 512)
-    (basisOf (ofRows rs) n w ++ sigmaOf (ofRows rs) n w ++ flat (smallerList n w rs))
-ask (restores n k sigma table) =
-    let v = restoreVerdict n k sigma table (2 ^ n) in
+    ∷ with (rowMethodVerdict n k y w rs n n 512)
+    (basisOf (ofRows (missing y) rs) n w ++ sigmaOf (ofRows (missing y) rs) n w ++ flat (smallerList (missing y) n w rs))
+ask (fills n k y rs) =
+    let v = fillVerdict n k y rs (2 ^ n) in
+    v .number ∷ v .a ∷ v .b ∷ with v (filled (missing y) n rs)
+ask (restores n k y sigma table) =
+    let v = restoreVerdict n k y sigma table (2 ^ n) in
     v .number ∷ v .a ∷ v .b ∷ with v (restored n sigma table)
 
 pub record Case : Type 0 where
@@ -100,28 +105,47 @@ rowsG = row 3 0 1 ∷ row 7 6 1 ∷ row 7 2 0 ∷ row 7 1 2 ∷ row 7 7 2 ∷ ro
 pub rowsH : List Row
 rowsH = row 2 0 0 ∷ row 1 0 0 ∷ []
 
--- the cases a to j
+-- "00 01", "11 10": the points 01 and 10 are missing
+pub rowsM : List Row
+rowsM = row 3 0 1 ∷ row 3 3 2 ∷ []
+
+-- a table without an output at 01
+pub tableM : List ℕ
+tableM = 0 ∷ 65535 ∷ 1 ∷ 0 ∷ []
+
+-- the cases a to j, read as fr; then missing points under both types, and a number that is no type
 pub table : List Case
 table =
-    case (tableValues 2 1 0 tableA) (0 ∷ 0 ∷ 0 ∷ 4 ∷ [])
-    ∷ case (tableValues 2 1 1 tableA) (0 ∷ 0 ∷ 0 ∷ 0 ∷ [])
-    ∷ case (tableValues 2 1 2 tableA) (0 ∷ 0 ∷ 0 ∷ 0 ∷ [])
-    ∷ case (tableValues 2 1 3 tableA) (0 ∷ 0 ∷ 0 ∷ 4 ∷ [])
-    ∷ case (tableMethods 2 1 2 tableA) (0 ∷ 0 ∷ 0 ∷ 0 ∷ 4 ∷ 3 ∷ 1 ∷ 2 ∷ 3 ∷ 0 ∷ 0 ∷ 1 ∷ 1 ∷ [])
-    ∷ case (tableMethods 2 1 1 tableA) (0 ∷ 0 ∷ 0 ∷ 0 ∷ 0 ∷ 1 ∷ 2 ∷ 1 ∷ 2 ∷ 0 ∷ 1 ∷ 1 ∷ 0 ∷ [])
-    ∷ case (rowMethods 1 1 1 rowsC) (0 ∷ 0 ∷ 0 ∷ 2 ∷ 2 ∷ 1 ∷ 1 ∷ 1 ∷ 0 ∷ 0 ∷ 1 ∷ [])
-    ∷ case (rowValues 1 9 1 rowsD) (0 ∷ 0 ∷ 0 ∷ 0 ∷ [])
-    ∷ case (rowMethods 3 2 3 rowsE)
+    case (tableValues 2 1 fr 0 tableA) (0 ∷ 0 ∷ 0 ∷ 4 ∷ [])
+    ∷ case (tableValues 2 1 fr 1 tableA) (0 ∷ 0 ∷ 0 ∷ 0 ∷ [])
+    ∷ case (tableValues 2 1 fr 2 tableA) (0 ∷ 0 ∷ 0 ∷ 0 ∷ [])
+    ∷ case (tableValues 2 1 fr 3 tableA) (0 ∷ 0 ∷ 0 ∷ 4 ∷ [])
+    ∷ case (tableMethods 2 1 fr 2 tableA) (0 ∷ 0 ∷ 0 ∷ 0 ∷ 4 ∷ 3 ∷ 1 ∷ 2 ∷ 3 ∷ 0 ∷ 0 ∷ 1 ∷ 1 ∷ [])
+    ∷ case (tableMethods 2 1 fr 1 tableA) (0 ∷ 0 ∷ 0 ∷ 0 ∷ 0 ∷ 1 ∷ 2 ∷ 1 ∷ 2 ∷ 0 ∷ 1 ∷ 1 ∷ 0 ∷ [])
+    ∷ case (rowMethods 1 1 fr 1 rowsC) (0 ∷ 0 ∷ 0 ∷ 2 ∷ 2 ∷ 1 ∷ 1 ∷ 1 ∷ 0 ∷ 0 ∷ 1 ∷ [])
+    ∷ case (rowValues 1 9 fr 1 rowsD) (0 ∷ 0 ∷ 0 ∷ 0 ∷ [])
+    ∷ case (rowMethods 3 2 fr 3 rowsE)
     (0 ∷ 0 ∷ 0 ∷ 8 ∷ 16 ∷ 4 ∷ 1 ∷ 6 ∷ 2 ∷ 1 ∷ 4 ∷ 6 ∷ 6 ∷ 0 ∷ 1 ∷ 6 ∷ 2 ∷ 1 ∷ 6 ∷ 4 ∷ 2 ∷ 6 ∷ 6 ∷ 2 ∷ [])
-    ∷ case (rowMethods 3 2 3 rowsF)
+    ∷ case (rowMethods 3 2 fr 3 rowsF)
     (0 ∷ 0 ∷ 0 ∷ 8 ∷ 12 ∷ 5 ∷ 6 ∷ 2 ∷ 1 ∷ 4 ∷ 6 ∷ 1 ∷ 4 ∷ 0 ∷ 1 ∷ 7 ∷ 4 ∷ 2 ∷ 7 ∷ 5 ∷ 2 ∷ 7 ∷ 6 ∷ 3 ∷ 7 ∷ 7 ∷ 3 ∷ [])
-    ∷ case (rowMethods 3 2 3 rowsG)
+    ∷ case (rowMethods 3 2 fr 3 rowsG)
     (0 ∷ 0 ∷ 0 ∷ 4 ∷ 8 ∷ 8 ∷ 6 ∷ 2 ∷ 1 ∷ 4 ∷ 6 ∷ 1
     ∷ 7 ∷ 0 ∷ 1 ∷ 7 ∷ 3 ∷ 1 ∷ 7 ∷ 1 ∷ 1 ∷ 7 ∷ 2 ∷ 0 ∷ 7 ∷ 4 ∷ 2 ∷ 7 ∷ 5 ∷ 2 ∷ 7 ∷ 6 ∷ 3 ∷ 7 ∷ 7 ∷ 3 ∷ [])
-    ∷ case (rowMethods 2 1 2 rowsH) (7 ∷ 0 ∷ 1 ∷ 0 ∷ 0 ∷ 0 ∷ [])
-    ∷ case (restores 2 1 (2 ∷ 3 ∷ []) (0 ∷ 0 ∷ 1 ∷ 1 ∷ [])) (0 ∷ 0 ∷ 0 ∷ 0 ∷ 1 ∷ 1 ∷ 0 ∷ [])
-    ∷ case (restores 2 1 (3 ∷ 3 ∷ []) (0 ∷ 0 ∷ 1 ∷ 1 ∷ [])) (8 ∷ 1 ∷ 0 ∷ [])
-    ∷ case (restores 2 1 (0 ∷ 1 ∷ []) (0 ∷ 0 ∷ 1 ∷ 1 ∷ [])) (8 ∷ 0 ∷ 0 ∷ [])
+    ∷ case (rowMethods 2 1 fr 2 rowsH) (7 ∷ 0 ∷ 1 ∷ 0 ∷ 0 ∷ 0 ∷ [])
+    ∷ case (restores 2 1 fr (2 ∷ 3 ∷ []) (0 ∷ 0 ∷ 1 ∷ 1 ∷ [])) (0 ∷ 0 ∷ 0 ∷ 0 ∷ 1 ∷ 1 ∷ 0 ∷ [])
+    ∷ case (restores 2 1 fr (3 ∷ 3 ∷ []) (0 ∷ 0 ∷ 1 ∷ 1 ∷ [])) (8 ∷ 1 ∷ 0 ∷ [])
+    ∷ case (restores 2 1 fr (0 ∷ 1 ∷ []) (0 ∷ 0 ∷ 1 ∷ 1 ∷ [])) (8 ∷ 0 ∷ 0 ∷ [])
+    ∷ case (rowValues 2 2 fr 3 rowsM) (0 ∷ 0 ∷ 0 ∷ 0 ∷ [])
+    ∷ case (rowValues 2 2 fd 3 rowsM) (0 ∷ 0 ∷ 0 ∷ 2 ∷ [])
+    ∷ case (rowMethods 2 2 fr 2 rowsM) (0 ∷ 0 ∷ 0 ∷ 0 ∷ 0 ∷ 2 ∷ 1 ∷ 2 ∷ 1 ∷ 2 ∷ 3 ∷ 0 ∷ 1 ∷ 3 ∷ 3 ∷ 2 ∷ [])
+    ∷ case (rowMethods 2 2 fd 2 rowsM) (0 ∷ 0 ∷ 0 ∷ 0 ∷ 2 ∷ 2 ∷ 3 ∷ 1 ∷ 2 ∷ 3 ∷ 3 ∷ 0 ∷ 1 ∷ 3 ∷ 1 ∷ 2 ∷ [])
+    ∷ case (fills 2 2 fr rowsM) (0 ∷ 0 ∷ 0 ∷ 1 ∷ 65535 ∷ 65535 ∷ 2 ∷ [])
+    ∷ case (fills 2 2 fd rowsM) (0 ∷ 0 ∷ 0 ∷ 1 ∷ 0 ∷ 0 ∷ 2 ∷ [])
+    ∷ case (tableValues 2 1 fr 3 tableM) (0 ∷ 0 ∷ 0 ∷ 2 ∷ [])
+    ∷ case (tableValues 2 1 fd 3 tableM) (6 ∷ 0 ∷ 1 ∷ 0 ∷ [])
+    ∷ case (tableMethods 2 1 fd 2 tableM) (6 ∷ 0 ∷ 1 ∷ 0 ∷ 0 ∷ [])
+    ∷ case (restores 2 1 fd (1 ∷ 2 ∷ []) tableM) (6 ∷ 0 ∷ 1 ∷ [])
+    ∷ case (rowValues 2 2 0 3 rowsM) (3 ∷ 0 ∷ 0 ∷ 0 ∷ [])
     ∷ []
 
 -- the test of a table of cases, which antt computes
@@ -144,9 +168,9 @@ right-all (c ∷ cs) h = (
 
 pub cases : Right table
 unfolding
-    ask flat table right tableA rowsC rowsD rowsE rowsF rowsG rowsH ones onesIn parity tab first sum count wordAt same shift measure
+    ask flat table right tableA rowsC rowsD rowsE rowsF rowsG rowsH rowsM tableM ones onesIn parity tab first sum count ofRows same shift measure
     span candidate before better best next chosen columns apply inverse basisOf sigmaOf smallerOf highest partner exchange rest shear
     reached splitRow splitRows moved verdict badRow share second sharing dependent tableValueVerdict tableValue tableMethodVerdict
     tableMethod smallerTable restoreVerdict restored rowValueVerdict rowValue rowsAfter passing methodChecks rowMethodVerdict
-    rowMethod smallerList equal
+    rowMethod smallerList fillVerdict filled equal
 cases = right-all table tt

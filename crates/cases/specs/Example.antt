@@ -1,5 +1,5 @@
 -- 01's sheet example (01, The sheet): for the text of block e the program prints these bytes, which say the numbers, matrices and rows
--- of case e, and the text of that list is the text itself. Assumes nothing.
+-- of case e, and the text of that list, of type fd with no type line, is the text itself. Assumes nothing.
 use mathlib.Core.Path.{_≡_, refl}
 use mathlib.Core.List.{List, [], _∷_}
 use Prim.Native.Nat.{ℕ}
@@ -7,13 +7,13 @@ use lib.Count.{ones, onesIn}
 use Rattle.bits.specs.Digits.{parity}
 use Rattle.slices.specs.Places.{tab, first}
 use Rattle.sums.specs.Sums.{sum, count}
-use Rattle.block.specs.Words.{wordAt, row}
+use Rattle.block.specs.Words.{fd, ofRows, row}
 use Rattle.block.specs.Measure.{same, shift, measure}
 use Rattle.block.specs.Basis.{span, candidate, before, better, best, next, chosen, columns, inverse, basisOf, sigmaOf, smallerOf}
 use Rattle.block.specs.Rows.{highest, partner, exchange, rest, shear, reached, splitRow, splitRows, moved}
 use Rattle.block.specs.Refusals.{verdict, badRow, share, second, sharing}
 use Rattle.block.specs.Lists.{rowsAfter, passing, methodChecks, smallerList}
-use Rattle.block.specs.Text.{digits, symbols, bits, rowLine, rowLines, headLine, textOf, lines, equal, every, numeral, headForm, rowForm, spelled, rowOn, headFault, bodyDue, bodyFault, rowsOn, readVerdict, rowsIn}
+use Rattle.block.specs.Text.{digits, symbols, bits, rowLine, rowLines, headLine, textOf, lines, equal, every, numeral, headForm, rowForm, spelled, rowOn, typeLineIn, typeIn, headPlace, headFault, bodyDue, bodyFault, rowsOn, readVerdict, rowsIn}
 use Rattle.block.specs.Sheet.{section, numberLines, matrixLines, sheetOf, sheetText, sheetVerdict, orRefused, printedList, printed}
 use Rattle.block.specs.Said.{matrixOn, said}
 use Rattle.cases.specs.Cases.{rowsE}
@@ -59,10 +59,10 @@ sheetLines =
 
 pub example-sheet : printed input ≡ sheetLines
 unfolding
-    input sheetLines ones onesIn parity tab first sum count wordAt same shift measure span candidate before better best next chosen
+    input sheetLines ones onesIn parity tab first sum count ofRows same shift measure span candidate before better best next chosen
     columns inverse basisOf sigmaOf smallerOf highest partner exchange rest shear reached splitRow splitRows moved verdict badRow
     share second sharing rowsAfter passing methodChecks smallerList digits symbols bits rowLine rowLines lines equal every numeral
-    headForm rowForm spelled rowOn headFault bodyDue bodyFault rowsOn readVerdict rowsIn section numberLines matrixLines sheetOf sheetText sheetVerdict
+    headForm rowForm spelled rowOn typeLineIn typeIn headPlace headFault bodyDue bodyFault rowsOn readVerdict rowsIn section numberLines matrixLines sheetOf sheetText sheetVerdict
     orRefused printedList printed
 example-sheet = refl
 
@@ -80,6 +80,6 @@ pub example-said : said sheetLines
 unfolding sheetLines tab lines spelled rowOn rowsOn matrixOn said
 example-said = refl
 
-pub example-text : textOf 3 2 rowsE ≡ input
+pub example-text : textOf 3 2 fd 0 rowsE ≡ input
 unfolding input rowsE digits symbols bits rowLine rowLines headLine textOf
 example-text = refl

@@ -1,3 +1,4 @@
--- 01's blocks to try by hand: the proved set, and the sheet example byte for byte.
+-- 01's blocks to try by hand, with blocks of 02's types: the proved set, the sheet example byte for byte, and the type line by examples.
 pub mod Cases
 pub mod Example
+pub mod TypeLines

@@ -1,6 +1,6 @@
--- 01's conditions in its words, number by number, and that each check of an operation decides its own: ranges (1 to 4) and rooms (5), the
--- least malformed thing (6), the first pair of rows that share a point (7), the least dependent matrix row (8) and the first step that
--- passes 512 rows (9). Not here: the form of a line (`Forms`). Assumes nothing.
+-- 01's conditions in its words, number by number, and that each check of an operation decides its own: ranges (1 to 4), the type (3, of
+-- 02) and rooms (5), the least malformed thing (6), the first pair of rows that share a point (7), the least dependent matrix row (8) and
+-- the first step that passes 512 rows (9). Not here: the form of a line (`Forms`). Assumes nothing.
 use mathlib.Core.Path.{_≡_, refl, sym, ap, ap₂, _∙_}
 use mathlib.Core.Bool.{Bool, true, false, not, _&&_, _||_, false≢true}
 use mathlib.Core.List.{List, _∷_}
@@ -21,9 +21,9 @@ use Rattle.bits.specs.Bit.{bit-lt, bit-and, bit-none, bit-ext}
 use Rattle.slices.specs.Places.{at, first}
 use Rattle.slices.specs.Least.{first-is, first-below, first-passes, first-found}
 use Rattle.block.specs.Limits.{outputs, smallerRows}
-use Rattle.block.specs.Words.{under}
+use Rattle.block.specs.Words.{fr, fd, under}
 use Rattle.block.specs.Basis.{span, columns}
-use Rattle.block.specs.Refusals.{Check, check, outside, sizeChecks, badEntry, badNumber, badRow, malformed, rowAt, share, second, sharing, dependent}
+use Rattle.block.specs.Refusals.{Check, check, outside, typedChecks, badEntry, badNumber, badRow, malformed, rowAt, share, second, sharing, dependent}
 use Rattle.block.specs.Lists.{badRowCheck, shareCheck, rowsAfter, passing, passingCheck}
 use Rattle.block.specs.declared.Row.{Row}
 use Rattle.matrix_laws.specs.Linear.{columns-none, columns-more, columns-xor, columns-unit}
@@ -85,19 +85,38 @@ plain-decided m h s =
 abbrev pub OutOfRange : ℕ → ℕ → ℕ → Type 0
 OutOfRange lo hi x = (x < lo) ⊎ (hi < x)
 
-pub outside-says : (lo hi x : ℕ) → Says (outside lo hi x) (OutOfRange lo hi x)
+outside-says : (lo hi x : ℕ) → Says (outside lo hi x) (OutOfRange lo hi x)
 outside-says lo hi x = or-says (lt-says x lo) (lt-says hi x)
 
 pub range-decided : (m lo hi x : ℕ) → (m ≡ 0 → ⊥) → Decides (check (outside lo hi x) m 0 0) (plain m (OutOfRange lo hi x))
 range-decided m lo hi x h = plain-decided m h (outside-says lo hi x)
 
--- 1 and 2, with which every operation begins
-abbrev pub sizeReasons : ℕ → ℕ → ℕ → List Reason → List Reason
-sizeReasons most n k rs = plain 1 (OutOfRange 1 most n) ∷ plain 2 (OutOfRange 1 outputs k) ∷ rs
+-- 3: the number of no type
+abbrev pub NoType : ℕ → Type 0
+NoType y = (y ≡ fr → ⊥) × (y ≡ fd → ⊥)
 
-pub sizes-decided : {cs : List Check} {rs : List Reason} (most n k : ℕ) → Decided cs rs → Decided (sizeChecks most n k cs) (sizeReasons most n k rs)
-sizes-decided most n k d =
-    range-decided 1 1 most n (λ e. omega arith) also range-decided 2 1 outputs k (λ e. omega arith) also d
+type-says : (y : ℕ) → Says (outside fr fd y) (NoType y)
+type-says y = (λ e. neither (outside-says fr fd y .0 e), λ (a, b). outside-says fr fd y .1 (beyond a b (decLt y fr)))
+  where
+    neither : OutOfRange fr fd y → NoType y
+    neither (inl l) = (λ e. omega arith, λ e. omega arith)
+    neither (inr l) = (λ e. omega arith, λ e. omega arith)
+
+    beyond : (y ≡ fr → ⊥) → (y ≡ fd → ⊥) → Dec (y < fr) → OutOfRange fr fd y
+    beyond a b (yes l) = inl l
+    beyond a b (no l) = inr (omega arith)
+
+-- 1, 2 and 3 of the type, with which every operation but reading begins
+abbrev pub typedReasons : ℕ → ℕ → ℕ → ℕ → List Reason → List Reason
+typedReasons most n k y rs = plain 1 (OutOfRange 1 most n) ∷ plain 2 (OutOfRange 1 outputs k) ∷ plain 3 (NoType y) ∷ rs
+
+pub typed-decided : {cs : List Check} {rs : List Reason} (most n k y : ℕ) → Decided cs rs
+    → Decided (typedChecks most n k y cs) (typedReasons most n k y rs)
+typed-decided most n k y d =
+    range-decided 1 1 most n (λ e. omega arith)
+    also range-decided 2 1 outputs k (λ e. omega arith)
+    also plain-decided 3 (λ e. omega arith) (type-says y)
+    also d
 
 -- ---- the least number below m with P
 
@@ -124,12 +143,12 @@ module _ (m : ℕ) (p : ℕ → Bool) (P : ℕ → Type 0) (s : (i : ℕ) → i 
 
 -- ---- 6: the least malformed thing
 
--- a table entry: neither below 2^k nor 65,535
-abbrev pub MalformedEntry : ℕ → ℕ → Type 0
-MalformedEntry k x = (2 ^ k ≤ x) × (x ≡ 65535 → ⊥)
+-- a table entry: neither below 2^k nor the word m of a missing point
+abbrev pub MalformedEntry : ℕ → ℕ → ℕ → Type 0
+MalformedEntry m k x = (2 ^ k ≤ x) × (x ≡ m → ⊥)
 
-pub entry-says : (k x : ℕ) → Says (badEntry k x) (MalformedEntry k x)
-entry-says k x = and-says (ge-says x (2 ^ k)) (ne-says x 65535)
+pub entry-says : (m k x : ℕ) → Says (badEntry m k x) (MalformedEntry m k x)
+entry-says m k x = and-says (ge-says x (2 ^ k)) (ne-says x m)
 
 -- a matrix row: not below 2^n
 abbrev pub MalformedNumber : ℕ → ℕ → Type 0
@@ -385,43 +404,43 @@ dependent-decided n s =
 
 -- ---- 9: the list passes 512 rows
 
--- a, from 1, is the first step after which there are more than 512 rows
-pub record FirstPassing (n w : ℕ) (rs : List Row) (a : ℕ) : Type 0 where
+-- a, from 1, is the first step after which there are more than 512 rows; m is the word of a missing point
+pub record FirstPassing (m n w : ℕ) (rs : List Row) (a : ℕ) : Type 0 where
   pub step : (1 ≤ a) × (a ≤ n)
-  pub passes : smallerRows < length (rowsAfter n w a rs)
-  pub before : (j : ℕ) → 1 ≤ j → j < a → length (rowsAfter n w j rs) ≤ smallerRows
+  pub passes : smallerRows < length (rowsAfter m n w a rs)
+  pub before : (j : ℕ) → 1 ≤ j → j < a → length (rowsAfter m n w j rs) ≤ smallerRows
 
-module _ (n w : ℕ) (rs : List Row) where
+module _ (m n w : ℕ) (rs : List Row) where
   -- there are more than 512 rows after step i + 1
   abbrev MoreAfter : ℕ → Type 0
-  MoreAfter i = smallerRows < length (rowsAfter n w (suc i) rs)
+  MoreAfter i = smallerRows < length (rowsAfter m n w (suc i) rs)
 
-  passing-least : passing n w rs < n → Least n MoreAfter (passing n w rs)
+  passing-least : passing m n w rs < n → Least n MoreAfter (passing m n w rs)
   unfolding passing
-  passing-least = first-least n _ MoreAfter (λ i b. lt-says smallerRows (length (rowsAfter n w (suc i) rs)))
+  passing-least = first-least n _ MoreAfter (λ i b. lt-says smallerRows (length (rowsAfter m n w (suc i) rs)))
 
-  least-passing : (i : ℕ) → Least n MoreAfter i → (passing n w rs < n) × (passing n w rs ≡ i)
+  least-passing : (i : ℕ) → Least n MoreAfter i → (passing m n w rs < n) × (passing m n w rs ≡ i)
   unfolding passing
-  least-passing = least-first n _ MoreAfter (λ i b. lt-says smallerRows (length (rowsAfter n w (suc i) rs)))
+  least-passing = least-first n _ MoreAfter (λ i b. lt-says smallerRows (length (rowsAfter m n w (suc i) rs)))
 
   pub passing-decided :
-      Decides (passingCheck n w rs) (placed 9 (λ a b. FirstPassing n w rs a × (b ≡ 0)))
+      Decides (passingCheck m n w rs) (placed 9 (λ a b. FirstPassing m n w rs a × (b ≡ 0)))
   passing-decided = record { same = refl; refuses = λ e. omega arith; sound = λ e. (sound (ltb-true _ _ e), refl); only = only }
     where
-      sound : passing n w rs < n → FirstPassing n w rs (suc (passing n w rs))
+      sound : passing m n w rs < n → FirstPassing m n w rs (suc (passing m n w rs))
       sound l = record { step = (omega arith, omega arith); passes = s .holds; before = before }
         where
-          s : Least n MoreAfter (passing n w rs)
+          s : Least n MoreAfter (passing m n w rs)
           s = passing-least l
 
-          before : (j : ℕ) → 1 ≤ j → j < suc (passing n w rs) → length (rowsAfter n w j rs) ≤ smallerRows
+          before : (j : ℕ) → 1 ≤ j → j < suc (passing m n w rs) → length (rowsAfter m n w j rs) ≤ smallerRows
           before zero g h = absurd (omega arith)
           before (suc j) g h = few (s .earlier j (omega arith))
             where
-              few : (smallerRows < length (rowsAfter n w (suc j) rs) → ⊥) → length (rowsAfter n w (suc j) rs) ≤ smallerRows
+              few : (smallerRows < length (rowsAfter m n w (suc j) rs) → ⊥) → length (rowsAfter m n w (suc j) rs) ≤ smallerRows
               few no-more = omega arith
 
-      only : (a b : ℕ) → FirstPassing n w rs a × (b ≡ 0) → (ltb (passing n w rs) n ≡ true) × (suc (passing n w rs) ≡ a) × (0 ≡ b)
+      only : (a b : ℕ) → FirstPassing m n w rs a × (b ≡ 0) → (ltb (passing m n w rs) n ≡ true) × (suc (passing m n w rs) ≡ a) × (0 ≡ b)
       only zero b (f, u) = absurd (omega (arith, f .step .0))
       only (suc i) b (f, u) =
           let l =

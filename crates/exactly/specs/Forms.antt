@@ -1,7 +1,8 @@
 -- The form of a line (01, Row text) in its words: a heading, a row, and which is due at a line of the headings and of the body, each
--- counted from 0; the first line that is not of its form (10); and that the tests decide them. Assumes nothing.
+-- counted from 0; the type line (02, Ticket 2), and on which lines the headings stand with it and without it; the first line that is not of
+-- its form (10); and that the tests decide them. Assumes nothing.
 use mathlib.Core.Path.{_≡_, refl, sym, ap, ap₂, _∙_}
-use mathlib.Core.Bool.{Bool, true, not}
+use mathlib.Core.Bool.{Bool, true, false, not}
 use mathlib.Core.List.{List, [], _∷_, _++_, append-assoc}
 use mathlib.Core.Logic.{_⊎_}
 use Prim.Native.Nat.{ℕ, zero, suc, _+_, _≤_, _<_}
@@ -14,10 +15,13 @@ use lib.ListN.{length, take, drop, length-append, length-drop, take-append-drop}
 use lib.Seq.{length-take-le, drop-cons, take-at, drop-at, getD-at, getD-drop, getD-append-add}
 use Rattle.slices.specs.Places.{at, first}
 use Rattle.slices.specs.Least.{first-below}
-use Rattle.block.specs.Text.{decimal, headLine, lineIn, lineAt, equal, every, isDigit, numeral, headDigits, numberPart, headForm, rowForm, valueOf, headCount, headDue, headFault, inputsIn, outputsIn, countIn, body, bodyDue, bodyFault, firstLine, bodyLine, formCheck, headCheck, bodyCheck}
+use Rattle.block.specs.Words.{fr, fd}
+use Rattle.block.specs.Refusals.{check}
+use Rattle.block.specs.Text.{decimal, headLine, typeLine, lineIn, lineAt, equal, every, isDigit, numeral, headDigits, numberPart, headForm, rowForm, valueOf, typeLineIn, typeIn, headCount, headPlace, headDue, headFault, inputsIn, outputsIn, countIn, body, bodyDue, bodyFault, firstLine, headCheck, bodyCheck}
 use Rattle.read_laws.specs.Tests.{every-at, every-all, equal-true, equal-same}
 use Rattle.read_laws.specs.Numerals.{head-decimal, decimal-head}
 use Rattle.read_laws.specs.HeadLines.{last-apart, form-written, written-form}
+use Rattle.read_laws.specs.TypeLines.{place-low, place-high}
 use Rattle.read_laws.specs.RowLines.{symbolTest, bitTest}
 use Rattle.read_laws.specs.Whole.{row-due, end-due, past-due}
 use Rattle.exactly.specs.General.{placed, Decides}
@@ -203,57 +207,99 @@ body-due-says n k p i l = (
     go d (no a) (no b) = at-end (omega arith) ∙ equal-says l (46 ∷ 101 ∷ 10 ∷ []) .1 (d .close (omega arith))
     go d (no a) (yes h) = past-due n k p i l h ∙ equal-says l [] .1 (d .nothing h)
 
+-- ---- the type line, which may follow .o
+
+-- the third line is ".type fr", or ".type fd"
+abbrev pub FrLine : List ℕ → Type 0
+FrLine text = lineAt text 2 ≡ 46 ∷ 116 ∷ 121 ∷ 112 ∷ 101 ∷ 32 ∷ 102 ∷ 114 ∷ 10 ∷ []
+
+abbrev pub FdLine : List ℕ → Type 0
+FdLine text = lineAt text 2 ≡ 46 ∷ 116 ∷ 121 ∷ 112 ∷ 101 ∷ 32 ∷ 102 ∷ 100 ∷ 10 ∷ []
+
+-- what a text says of its type: with no such line fd holds
+pub record TypeSaid (text : List ℕ) (y z : ℕ) : Type 0 where
+  pub fr-line : FrLine text → (y ≡ fr) × (z ≡ 1)
+  pub fd-line : FdLine text → (y ≡ fd) × (z ≡ 1)
+  pub no-line : (FrLine text → ⊥) → (FdLine text → ⊥) → (y ≡ fd) × (z ≡ 0)
+
+-- the two lines differ
+lines-differ : equal (typeLine fd) (typeLine fr) ≡ false
+unfolding equal
+lines-differ = refl
+
+pub type-said : (text : List ℕ) → TypeSaid text (typeIn text) (typeLineIn text)
+unfolding typeIn typeLineIn
+type-said text =
+    record {
+      fr-line = λ e. rw (equal-says (lineAt text 2) (typeLine fr) .1 e) (refl, refl);
+      fd-line = λ e. rw (e, lines-differ, equal-same (typeLine fd)) (refl, refl);
+      no-line = λ a b. rw (says-not (equal-says (lineAt text 2) (typeLine fr)) a, says-not (equal-says (lineAt text 2) (typeLine fd)) b) (refl, refl);
+    }
+
+-- the line of heading i, from 0, where z is 1 with a type line and 0 without: those after .o stand one further with it
+pub record HeadingLine (z i l : ℕ) : Type 0 where
+  pub before : i < 2 → l ≡ i
+  pub behind : 2 ≤ i → l ≡ i + z
+
+pub heading-line : (text : List ℕ) (i : ℕ) → HeadingLine (typeLineIn text) i (headPlace text i)
+heading-line text i = record { before = place-low text i; behind = place-high text i }
+
 -- ---- 10: a text line not of the form due there
 
--- a is the first of m lines that has not the form due there; the first of them all is `line`
-pub record FirstFaulty (line m : ℕ) (Due : ℕ → Type 0) (a : ℕ) : Type 0 where
+-- a is the line of the first of m that has not the form due there; `line` says the line of each
+pub record FirstFaulty (line : ℕ → ℕ) (m : ℕ) (Due : ℕ → Type 0) (a : ℕ) : Type 0 where
   pub i : ℕ
-  pub place : a ≡ line + i
+  pub place : a ≡ line i
   pub below : i < m
   pub faulty : Due i → ⊥
   pub before : (j : ℕ) → j < i → Due j
 
-module _ (line m : ℕ) (t : ℕ → Bool) (Due : ℕ → Type 0) (s : (i : ℕ) → i < m → Says (t i) (Due i)) where
+module _ (line : ℕ → ℕ) (m : ℕ) (t : ℕ → Bool) (Due : ℕ → Type 0) (s : (i : ℕ) → i < m → Says (t i) (Due i)) where
+  -- the first that has not the form
+  abbrev fault : ℕ
+  fault = first m (λ i. not (t i))
+
   lacks-says : (i : ℕ) → i < m → Says (not (t i)) (Due i → ⊥)
   lacks-says i b = (λ e d. says-false (s i b) (not-true (t i) e) d, λ w. ap not (says-not (s i b) w))
 
-  pub form-decided : Decides (formCheck line m (first m (λ i. not (t i)))) (placed 10 (λ a b. FirstFaulty line m Due a × (b ≡ 0)))
+  pub form-decided : Decides (check (ltb fault m) 10 (line fault) 0) (placed 10 (λ a b. FirstFaulty line m Due a × (b ≡ 0)))
   form-decided = record { same = refl; refuses = λ e. omega arith; sound = λ e. (sound (ltb-true _ _ e), refl); only = only }
     where
-      sound : first m (λ i. not (t i)) < m → FirstFaulty line m Due (line + first m (λ i. not (t i)))
+      sound : fault < m → FirstFaulty line m Due (line fault)
       sound l =
           record {
-            i = first m (λ i. not (t i));
+            i = fault;
             place = refl;
             below = l;
             faulty = first-least m (λ i. not (t i)) (λ i. Due i → ⊥) lacks-says l .holds;
             before = λ j h. s j (omega arith) .0 (not-false (t j) (first-below m (λ i. not (t i)) j h));
           }
 
-      only : (a b : ℕ) → FirstFaulty line m Due a × (b ≡ 0)
-          → (ltb (first m (λ i. not (t i))) m ≡ true) × (line + first m (λ i. not (t i)) ≡ a) × (0 ≡ b)
+      only : (a b : ℕ) → FirstFaulty line m Due a × (b ≡ 0) → (ltb fault m ≡ true) × (line fault ≡ a) × (0 ≡ b)
       only a b (f, u) =
           let l =
           least-first m (λ i. not (t i)) (λ i. Due i → ⊥) lacks-says (f .i)
           (record { below = f .below; holds = f .faulty; earlier = λ j h w. w (f .before j h) }) in
-          (lt-ltb _ _ (l .0), ap (λ (i : ℕ). line + i) (l .1) ∙ sym (f .place), sym u)
+          (lt-ltb _ _ (l .0), ap line (l .1) ∙ sym (f .place), sym u)
 
 -- of the headings, and of the body
 abbrev pub FaultyHeading : List ℕ → ℕ → Type 0
-FaultyHeading text = FirstFaulty firstLine headCount (λ i. HeadingDue i (lineAt text i))
+FaultyHeading text =
+    FirstFaulty (λ i. firstLine + headPlace text i) headCount (λ i. HeadingDue i (lineAt text (headPlace text i)))
 
 abbrev pub FaultyBody : List ℕ → ℕ → Type 0
 FaultyBody text =
-    FirstFaulty bodyLine (countIn text + 2)
+    FirstFaulty (λ i. firstLine + headPlace text headCount + i) (countIn text + 2)
     (λ i. BodyLineDue (inputsIn text) (outputsIn text) (countIn text) i (lineIn (body text) i))
 
 pub heading-decided : (text : List ℕ) → Decides (headCheck text) (placed 10 (λ a b. FaultyHeading text a × (b ≡ 0)))
 unfolding headFault
 heading-decided text =
-    form-decided firstLine headCount (λ i. headDue i (lineAt text i)) (λ i. HeadingDue i (lineAt text i)) (λ i. heading-due-says i (lineAt text i))
+    form-decided (λ i. firstLine + headPlace text i) headCount (λ i. headDue i (lineAt text (headPlace text i)))
+    (λ i. HeadingDue i (lineAt text (headPlace text i))) (λ i. heading-due-says i (lineAt text (headPlace text i)))
 
 pub body-decided : (text : List ℕ) → Decides (bodyCheck text) (placed 10 (λ a b. FaultyBody text a × (b ≡ 0)))
 unfolding bodyFault
 body-decided text =
-    form-decided bodyLine (countIn text + 2) _ _
+    form-decided (λ i. firstLine + headPlace text headCount + i) (countIn text + 2) _ _
     (λ i _. body-due-says (inputsIn text) (outputsIn text) (countIn text) i (lineIn (body text) i))

@@ -21,39 +21,47 @@ ghost use Rattle.importing.specs.Import.{ImportPromise};
 // ---- tables
 
 #[no_mangle]
-pub extern "C" fn irwystl_table_value(n: usize, k: usize, t: usize, table: &[u16]) -> ValueAnswer
-    ensures { λ r. ⌜ TableValuePromise n k t (now (table .entry)) r ⌝ }
+pub extern "C" fn irwystl_table_value(
+    n: usize,
+    k: usize,
+    block_type: usize,
+    t: usize,
+    table: &[u16],
+) -> ValueAnswer
+    ensures { λ r. ⌜ TableValuePromise n k «block_type» t (now (table .entry)) r ⌝ }
 {
-    tables::table_value(n, k, t, table)
+    tables::table_value(n, k, block_type, t, table)
 }
 
 #[no_mangle]
 pub extern "C" fn irwystl_table_method(
     n: usize,
     k: usize,
+    block_type: usize,
     w: usize,
     table: &[u16],
     basis: &mut [u32],
     sigma: &mut [u32],
     smaller: &mut [u16],
 ) -> TableMethodAnswer
-    ensures { λ r. ⌜ TableMethodPromise n k w (now (table .entry))
+    ensures { λ r. ⌜ TableMethodPromise n k «block_type» w (now (table .entry))
         (now (basis .entry)) (now (sigma .entry)) (now (smaller .entry)) r (now (basis .exit)) (now (sigma .exit)) (now (smaller .exit)) ⌝ }
 {
-    tables::table_method(n, k, w, table, basis, sigma, smaller)
+    tables::table_method(n, k, block_type, w, table, basis, sigma, smaller)
 }
 
 #[no_mangle]
 pub extern "C" fn irwystl_restore_table(
     n: usize,
     k: usize,
+    block_type: usize,
     sigma: &[u32],
     smaller: &[u16],
     table: &mut [u16],
 ) -> Answer
-    ensures { λ r. ⌜ RestorePromise n k (now (sigma .entry)) (now (smaller .entry)) (now (table .entry)) r (now (table .exit)) ⌝ }
+    ensures { λ r. ⌜ RestorePromise n k «block_type» (now (sigma .entry)) (now (smaller .entry)) (now (table .entry)) r (now (table .exit)) ⌝ }
 {
-    tables::restore_table(n, k, sigma, smaller, table)
+    tables::restore_table(n, k, block_type, sigma, smaller, table)
 }
 
 // ---- rows in three flat slices
@@ -62,20 +70,22 @@ pub extern "C" fn irwystl_restore_table(
 pub extern "C" fn irwystl_row_value(
     n: usize,
     k: usize,
+    block_type: usize,
     t: usize,
     masks: &[u32],
     values: &[u32],
     words: &[u32],
 ) -> ValueAnswer
-    ensures { λ r. ⌜ RowValuePromise n k t (rowsOf (now (masks .entry)) (now (values .entry)) (now (words .entry))) r ⌝ }
+    ensures { λ r. ⌜ RowValuePromise n k «block_type» t (rowsOf (now (masks .entry)) (now (values .entry)) (now (words .entry))) r ⌝ }
 {
-    lists::row_value(n, k, t, masks, values, words)
+    lists::row_value(n, k, block_type, t, masks, values, words)
 }
 
 #[no_mangle]
 pub extern "C" fn irwystl_row_method(
     n: usize,
     k: usize,
+    block_type: usize,
     w: usize,
     masks: &[u32],
     values: &[u32],
@@ -86,7 +96,7 @@ pub extern "C" fn irwystl_row_method(
     smaller_values: &mut [u32],
     smaller_words: &mut [u32],
 ) -> RowMethodAnswer
-    ensures { λ r. ⌜ RowMethodPromise n k w (rowsOf (now (masks .entry)) (now (values .entry)) (now (words .entry)))
+    ensures { λ r. ⌜ RowMethodPromise n k «block_type» w (rowsOf (now (masks .entry)) (now (values .entry)) (now (words .entry)))
         (lentFlat (now («smaller_masks» .entry)) (now («smaller_values» .entry)) (now («smaller_words» .entry))
         (now («smaller_masks» .exit)) (now («smaller_values» .exit)) (now («smaller_words» .exit)))
         (now (basis .entry)) (now (sigma .entry)) r (now (basis .exit)) (now (sigma .exit)) ⌝ }
@@ -94,6 +104,7 @@ pub extern "C" fn irwystl_row_method(
     lists::row_method(
         n,
         k,
+        block_type,
         w,
         masks,
         values,
@@ -110,46 +121,50 @@ pub extern "C" fn irwystl_row_method(
 pub extern "C" fn irwystl_fill_table(
     n: usize,
     k: usize,
+    block_type: usize,
     masks: &[u32],
     values: &[u32],
     words: &[u32],
     table: &mut [u16],
 ) -> Answer
-    ensures { λ r. ⌜ FillPromise n k (rowsOf (now (masks .entry)) (now (values .entry)) (now (words .entry)))
+    ensures { λ r. ⌜ FillPromise n k «block_type» (rowsOf (now (masks .entry)) (now (values .entry)) (now (words .entry)))
         (now (table .entry)) r (now (table .exit)) ⌝ }
 {
-    lists::fill_table(n, k, masks, values, words, table)
+    lists::fill_table(n, k, block_type, masks, values, words, table)
 }
 
 #[no_mangle]
 pub extern "C" fn irwystl_write_text(
     n: usize,
     k: usize,
+    block_type: usize,
+    type_line: usize,
     masks: &[u32],
     values: &[u32],
     words: &[u32],
     out: &mut [u8],
 ) -> TextAnswer
-    ensures { λ r. ⌜ WritePromise n k (rowsOf (now (masks .entry)) (now (values .entry)) (now (words .entry)))
+    ensures { λ r. ⌜ WritePromise n k «block_type» «type_line» (rowsOf (now (masks .entry)) (now (values .entry)) (now (words .entry)))
         (now (out .entry)) r (now (out .exit)) ⌝ }
 {
-    writing::write_text(n, k, masks, values, words, out)
+    writing::write_text(n, k, block_type, type_line, masks, values, words, out)
 }
 
 #[no_mangle]
 pub extern "C" fn irwystl_sheet(
     n: usize,
     k: usize,
+    block_type: usize,
     w: usize,
     masks: &[u32],
     values: &[u32],
     words: &[u32],
     out: &mut [u8],
 ) -> TextAnswer
-    ensures { λ r. ⌜ SheetPromise n k w (rowsOf (now (masks .entry)) (now (values .entry)) (now (words .entry)))
+    ensures { λ r. ⌜ SheetPromise n k «block_type» w (rowsOf (now (masks .entry)) (now (values .entry)) (now (words .entry)))
         (now (out .entry)) r (now (out .exit)) ⌝ }
 {
-    sheets::sheet(n, k, w, masks, values, words, out)
+    sheets::sheet(n, k, block_type, w, masks, values, words, out)
 }
 
 #[no_mangle]
@@ -173,52 +188,57 @@ pub extern "C" fn irwystl_read_text(
 pub extern "C" fn irwystl_records_row_value(
     n: usize,
     k: usize,
+    block_type: usize,
     t: usize,
     rows: &[Row],
 ) -> ValueAnswer
-    ensures { λ r. ⌜ RowValuePromise n k t (now (rows .entry)) r ⌝ }
+    ensures { λ r. ⌜ RowValuePromise n k «block_type» t (now (rows .entry)) r ⌝ }
 {
-    records::row_value(n, k, t, rows)
+    records::row_value(n, k, block_type, t, rows)
 }
 
 #[no_mangle]
 pub extern "C" fn irwystl_records_row_method(
     n: usize,
     k: usize,
+    block_type: usize,
     w: usize,
     rows: &[Row],
     basis: &mut [u32],
     sigma: &mut [u32],
     smaller: &mut [Row],
 ) -> RowMethodAnswer
-    ensures { λ r. ⌜ RowMethodPromise n k w (now (rows .entry)) (lentRecords (now (smaller .entry)) (now (smaller .exit)))
+    ensures { λ r. ⌜ RowMethodPromise n k «block_type» w (now (rows .entry)) (lentRecords (now (smaller .entry)) (now (smaller .exit)))
         (now (basis .entry)) (now (sigma .entry)) r (now (basis .exit)) (now (sigma .exit)) ⌝ }
 {
-    records::row_method(n, k, w, rows, basis, sigma, smaller)
+    records::row_method(n, k, block_type, w, rows, basis, sigma, smaller)
 }
 
 #[no_mangle]
 pub extern "C" fn irwystl_records_fill_table(
     n: usize,
     k: usize,
+    block_type: usize,
     rows: &[Row],
     table: &mut [u16],
 ) -> Answer
-    ensures { λ r. ⌜ FillPromise n k (now (rows .entry)) (now (table .entry)) r (now (table .exit)) ⌝ }
+    ensures { λ r. ⌜ FillPromise n k «block_type» (now (rows .entry)) (now (table .entry)) r (now (table .exit)) ⌝ }
 {
-    records::fill_table(n, k, rows, table)
+    records::fill_table(n, k, block_type, rows, table)
 }
 
 #[no_mangle]
 pub extern "C" fn irwystl_records_write_text(
     n: usize,
     k: usize,
+    block_type: usize,
+    type_line: usize,
     rows: &[Row],
     out: &mut [u8],
 ) -> TextAnswer
-    ensures { λ r. ⌜ WritePromise n k (now (rows .entry)) (now (out .entry)) r (now (out .exit)) ⌝ }
+    ensures { λ r. ⌜ WritePromise n k «block_type» «type_line» (now (rows .entry)) (now (out .entry)) r (now (out .exit)) ⌝ }
 {
-    records::write_text(n, k, rows, out)
+    records::write_text(n, k, block_type, type_line, rows, out)
 }
 
 #[no_mangle]
@@ -232,13 +252,14 @@ pub extern "C" fn irwystl_records_read_text(text: &[u8], rows: &mut [Row]) -> Re
 pub extern "C" fn irwystl_records_sheet(
     n: usize,
     k: usize,
+    block_type: usize,
     w: usize,
     rows: &[Row],
     out: &mut [u8],
 ) -> TextAnswer
-    ensures { λ r. ⌜ SheetPromise n k w (now (rows .entry)) (now (out .entry)) r (now (out .exit)) ⌝ }
+    ensures { λ r. ⌜ SheetPromise n k «block_type» w (now (rows .entry)) (now (out .entry)) r (now (out .exit)) ⌝ }
 {
-    records::sheet(n, k, w, rows, out)
+    records::sheet(n, k, block_type, w, rows, out)
 }
 
 // ---- texts alone, with rooms of fixed length

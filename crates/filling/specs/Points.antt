@@ -16,7 +16,7 @@ use Rattle.bits.specs.Xor.{and-again, and-xor, xor-cancel}
 use Rattle.bits.specs.Parts.{and-apart, and-beside, part-below}
 use Rattle.slices.specs.Places.{at, tab, over}
 use Rattle.slices.specs.Filled.{over-at, over-beyond, over-is, over-over, length-over}
-use Rattle.block.specs.Words.{none, wordAt, ofRows, row, rowsOf}
+use Rattle.block.specs.Words.{ofRows, row, rowsOf}
 use Rattle.block.specs.Refusals.{rowAt}
 use Rattle.block.specs.Lists.{filled}
 use Rattle.block.specs.declared.Row.{Row}
@@ -126,42 +126,42 @@ module _ (n : ℕ) (r : Row) (s : Sound n r) where
 
 -- ---- the rows of a list, from the last to the first
 
--- the table of the rows from i on
-abbrev pub TableFrom : ℕ → List Row → ℕ → List ℕ → List ℕ → Type 0
-TableFrom n rs i l k = k ≡ over (tab (2 ^ n) (ofRows (drop i rs))) l
+-- the table of the rows from i on, with the word of a missing point elsewhere
+abbrev pub TableFrom : ℕ → ℕ → List Row → ℕ → List ℕ → List ℕ → Type 0
+TableFrom missing n rs i l k = k ≡ over (tab (2 ^ n) (ofRows missing (drop i rs))) l
 
 -- none of them put yet, on a cleared table
-pub table-none : (n m : ℕ) (rs : List Row) (i : ℕ) (l k : List ℕ) → m ≡ 2 ^ n → i ≡ length rs → k ≡ over (tab m (λ _. none)) l
-    → TableFrom n rs i k k
-unfolding wordAt
-table-none n m rs i l k z e d =
-    let c : k ≡ over (tab (2 ^ n) (λ _. none)) l = rw z at d in
-    rw (e, drop-length rs) (c ∙ sym (ap (over (tab (2 ^ n) (λ _. none))) c ∙ over-over (2 ^ n) (λ _. none) (λ _. none) l))
+pub table-none : (missing n m : ℕ) (rs : List Row) (i : ℕ) (l k : List ℕ) → m ≡ 2 ^ n → i ≡ length rs → k ≡ over (tab m (λ _. missing)) l
+    → TableFrom missing n rs i k k
+unfolding ofRows
+table-none missing n m rs i l k z e d =
+    let c : k ≡ over (tab (2 ^ n) (λ _. missing)) l = rw z at d in
+    rw (e, drop-length rs) (c ∙ sym (ap (over (tab (2 ^ n) (λ _. missing))) c ∙ over-over (2 ^ n) (λ _. missing) (λ _. missing) l))
 
 -- one row more
-table-more : (n : ℕ) (rs : List Row) (i : ℕ) (l k m : List ℕ) → i < length rs → 2 ^ n ≤ length l → TableFrom n rs (suc i) l k
-    → RowPut n (rowAt rs i) k m → TableFrom n rs i l m
-unfolding wordAt
-table-more n rs i l k m h b q p =
-    over-is (2 ^ n) (ofRows (drop i rs)) l m 0 b (p .size ∙ ap length q ∙ length-over (2 ^ n) (ofRows (drop (suc i) rs)) l b)
+table-more : (missing n : ℕ) (rs : List Row) (i : ℕ) (l k m : List ℕ) → i < length rs → 2 ^ n ≤ length l → TableFrom missing n rs (suc i) l k
+    → RowPut n (rowAt rs i) k m → TableFrom missing n rs i l m
+unfolding ofRows
+table-more missing n rs i l k m h b q p =
+    over-is (2 ^ n) (ofRows missing (drop i rs)) l m 0 b (p .size ∙ ap length q ∙ length-over (2 ^ n) (ofRows missing (drop (suc i) rs)) l b)
     (λ x c. go x c (ℕ-discrete (bitAnd (rowAt rs i .mask) x) (rowAt rs i .values)))
     (λ x c. p .kept x (λ d e. absurd (omega arith)) ∙ ap (λ (s : List ℕ). at s x) q ∙ over-beyond (2 ^ n) _ l 0 x c)
   where
-    go : (x : ℕ) → x < 2 ^ n → Dec (bitAnd (rowAt rs i .mask) x ≡ rowAt rs i .values) → at m x ≡ ofRows (drop i rs) x
+    go : (x : ℕ) → x < 2 ^ n → Dec (bitAnd (rowAt rs i .mask) x ≡ rowAt rs i .values) → at m x ≡ ofRows missing (drop i rs) x
     go x c (yes e) = p .put x c e ∙ sym (rw (drop-cons rs i (row 0 0 0) h, eq-eqb _ _ e))
     go x c (no d) =
         p .kept x (λ y e. d e)
         ∙ ap (λ (s : List ℕ). at s x) q
-        ∙ over-at (2 ^ n) (ofRows (drop (suc i) rs)) l 0 x c
+        ∙ over-at (2 ^ n) (ofRows missing (drop (suc i) rs)) l 0 x c
         ∙ sym (rw (drop-cons rs i (row 0 0 0) h, ne-eqb _ _ d))
 
 -- all rows put
-pub table-all : (n m : ℕ) (rs : List Row) (i : ℕ) (l k z : List ℕ) → m ≡ 2 ^ n → i ≡ 0 → k ≡ over (tab m (λ _. none)) l
-    → TableFrom n rs i k z → z ≡ over (filled n rs) l
+pub table-all : (missing n m : ℕ) (rs : List Row) (i : ℕ) (l k z : List ℕ) → m ≡ 2 ^ n → i ≡ 0 → k ≡ over (tab m (λ _. missing)) l
+    → TableFrom missing n rs i k z → z ≡ over (filled missing n rs) l
 unfolding filled
-table-all n m rs i l k z s e d q =
-    let c : k ≡ over (tab (2 ^ n) (λ _. none)) l = rw s at d in
-    (rw e at q) ∙ ap (over (tab (2 ^ n) (ofRows rs))) c ∙ over-over (2 ^ n) (λ _. none) (ofRows rs) l
+table-all missing n m rs i l k z s e d q =
+    let c : k ≡ over (tab (2 ^ n) (λ _. missing)) l = rw s at d in
+    (rw e at q) ∙ ap (over (tab (2 ^ n) (ofRows missing rs))) c ∙ over-over (2 ^ n) (λ _. missing) (ofRows missing rs) l
 
 -- the same with the rows in three flat slices
 module _ (n most : ℕ) (masks values words : List ℕ) (l : Listed most masks values words) (i : ℕ) (h : i < length masks) where
@@ -174,7 +174,7 @@ module _ (n most : ℕ) (masks values words : List ℕ) (l : Listed most masks v
   pub sound-row : Every (Sound n) (rowsOf masks values words) → Sound n (row (at masks i) (at values i) (at words i))
   sound-row s = subst (Sound n) row-of (s i short)
 
-  pub table-row : (j : ℕ) (t k m : List ℕ) → j ≡ suc i → 2 ^ n ≤ length t → TableFrom n (rowsOf masks values words) j t k
-      → RowPut n (row (at masks i) (at values i) (at words i)) k m → TableFrom n (rowsOf masks values words) i t m
-  table-row j t k m e b q p =
-      table-more n (rowsOf masks values words) i t k m short b (rw e at q) (subst (λ (r : Row). RowPut n r k m) (sym row-of) p)
+  pub table-row : (missing j : ℕ) (t k m : List ℕ) → j ≡ suc i → 2 ^ n ≤ length t → TableFrom missing n (rowsOf masks values words) j t k
+      → RowPut n (row (at masks i) (at values i) (at words i)) k m → TableFrom missing n (rowsOf masks values words) i t m
+  table-row missing j t k m e b q p =
+      table-more missing n (rowsOf masks values words) i t k m short b (rw e at q) (subst (λ (r : Row). RowPut n r k m) (sym row-of) p)

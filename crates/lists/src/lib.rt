@@ -1,6 +1,7 @@
 // The operations on lists of rows (01, Numbers that come back), for rows in three flat slices: `row_value` answers a single shift value,
-// `row_method` gives T, sigma and the smaller rows, and `fill_table` fills a table. Each answers for every input, and on a refusal what was
-// lent holds what it held. This crate holds nothing else: what the operations are made of stands in the crates below it.
+// `row_method` gives T, sigma and the smaller rows, and `fill_table` fills a table. The type says what a missing point means. Each answers
+// for every input, and on a refusal what was lent holds what it held. This crate holds nothing else: what the operations are made of
+// stands in the crates below it.
 use block::Answer;
 use block::RowMethodAnswer;
 use block::SMALLER_ROWS;
@@ -9,18 +10,20 @@ ghost use Rattle.block.specs.Words.{rowsOf};
 ghost use Rattle.promises.specs.Lent.{lentFlat};
 ghost use Rattle.promises.specs.Lists.{RowValuePromise, RowMethodPromise, FillPromise};
 
-// R(t) of a list. Refuses with 1, 2, 3, 4, 6 and 7.
+// R(t) of a list. Refuses with 1, 2, 3 (the type, t), 4, 6 and 7.
 pub fn row_value(
     n: usize,
     k: usize,
+    block_type: usize,
     t: usize,
     masks: &[u32],
     values: &[u32],
     words: &[u32],
 ) -> ValueAnswer
-    ensures { λ r. ⌜ RowValuePromise n k t (rowsOf (now (masks .entry)) (now (values .entry)) (now (words .entry))) r ⌝ }
+    ensures { λ r. ⌜ RowValuePromise n k «block_type» t (rowsOf (now (masks .entry)) (now (values .entry)) (now (words .entry))) r ⌝ }
 {
-    let v = row_checks::row_value_verdict(n, k, t, masks, values, words);
+    let missing = shared_checks::missing_word(block_type);
+    let v = row_checks::row_value_verdict(n, k, block_type, t, masks, values, words);
     if v.number != 0 {
         return ValueAnswer {
             number: v.number,
@@ -29,7 +32,7 @@ pub fn row_value(
             value: 0,
         };
     }
-    let value = row_shifts::shift_of_rows(n, masks, values, words, t as u32);
+    let value = row_shifts::shift_of_rows(n, masks, values, words, missing, t as u32);
     ValueAnswer {
         number: v.number,
         a: v.a,
@@ -38,31 +41,34 @@ pub fn row_value(
     }
 }
 
-// Fills the table of a list, of up to 512 rows. Refuses with 1, 2, 4, 5 (2^n entries), 6 and 7.
+// Fills the table of a list, of up to 512 rows. Refuses with 1, 2, 3 (the type), 4, 5 (2^n entries), 6 and 7.
 pub fn fill_table(
     n: usize,
     k: usize,
+    block_type: usize,
     masks: &[u32],
     values: &[u32],
     words: &[u32],
     table: &mut [u16],
 ) -> Answer
-    ensures { λ r. ⌜ FillPromise n k (rowsOf (now (masks .entry)) (now (values .entry)) (now (words .entry)))
+    ensures { λ r. ⌜ FillPromise n k «block_type» (rowsOf (now (masks .entry)) (now (values .entry)) (now (words .entry)))
         (now (table .entry)) r (now (table .exit)) ⌝ }
 {
-    let v = row_checks::fill_verdict(n, k, masks, values, words, table.len());
+    let missing = shared_checks::missing_word(block_type);
+    let v = row_checks::fill_verdict(n, k, block_type, masks, values, words, table.len());
     if v.number != 0 {
         return v;
     }
-    filling::fill_rows(n, masks, values, words, table);
+    filling::fill_rows(n, masks, values, words, missing, table);
     v
 }
 
 // T, sigma, the smaller rows and both measures of a list, with weight limit w. Of the three slices for the smaller rows the shortest is
-// the room. Refuses with 1, 2, 3 (w), 4, 5 (n numbers for each matrix, 512 rows), 6, 7 and 9.
+// the room. Refuses with 1, 2, 3 (the type, w), 4, 5 (n numbers for each matrix, 512 rows), 6, 7 and 9.
 pub fn row_method(
     n: usize,
     k: usize,
+    block_type: usize,
     w: usize,
     masks: &[u32],
     values: &[u32],
@@ -73,7 +79,7 @@ pub fn row_method(
     smaller_values: &mut [u32],
     smaller_words: &mut [u32],
 ) -> RowMethodAnswer
-    ensures { λ r. ⌜ RowMethodPromise n k w (rowsOf (now (masks .entry)) (now (values .entry)) (now (words .entry)))
+    ensures { λ r. ⌜ RowMethodPromise n k «block_type» w (rowsOf (now (masks .entry)) (now (values .entry)) (now (words .entry)))
         (lentFlat (now («smaller_masks» .entry)) (now («smaller_values» .entry)) (now («smaller_words» .entry))
         (now («smaller_masks» .exit)) (now («smaller_values» .exit)) (now («smaller_words» .exit)))
         (now (basis .entry)) (now (sigma .entry)) r (now (basis .exit)) (now (sigma .exit)) ⌝ }
@@ -87,6 +93,7 @@ pub fn row_method(
     row_work::method_rows(
         n,
         k,
+        block_type,
         w,
         masks,
         values,

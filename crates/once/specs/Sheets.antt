@@ -9,8 +9,8 @@ use Rattle.importing.specs.Import.{ImportPromise}
 use Rattle.importing.specs.declared.Imported.{Imported}
 use Rattle.once.specs.Law.{one}
 
-pub sheet-once : {n k w : ℕ} {rs : List Row} {out₀ : List ℕ} {r s : TextAnswer} {out₁ out₂ : List ℕ} → SheetPromise n k w rs out₀ r out₁
-    → SheetPromise n k w rs out₀ s out₂ → (r ≡ s) × (out₁ ≡ out₂)
+pub sheet-once : {n k y w : ℕ} {rs : List Row} {out₀ : List ℕ} {r s : TextAnswer} {out₁ out₂ : List ℕ} → SheetPromise n k y w rs out₀ r out₁
+    → SheetPromise n k y w rs out₀ s out₂ → (r ≡ s) × (out₁ ≡ out₂)
 sheet-once p q = (one (p .answer) (q .answer), one (p .text) (q .text))
 
 pub print-once : {input out₀ : List ℕ} {a b : ℕ} {out₁ out₂ : List ℕ} → PrintPromise input out₀ a out₁ → PrintPromise input out₀ b out₂

@@ -8,14 +8,14 @@ use Rattle.block.specs.declared.TableMethodAnswer.{TableMethodAnswer}
 use Rattle.promises.specs.Tables.{TableValuePromise, TableMethodPromise, RestorePromise}
 use Rattle.once.specs.Law.{one}
 
-pub table-value-once : {n k t : ℕ} {table : List ℕ} {r s : ValueAnswer} → TableValuePromise n k t table r → TableValuePromise n k t table s
+pub table-value-once : {n k y t : ℕ} {table : List ℕ} {r s : ValueAnswer} → TableValuePromise n k y t table r → TableValuePromise n k y t table s
     → r ≡ s
 table-value-once p q = one (p .answer) (q .answer)
 
-pub table-method-once : {n k w : ℕ} {table basis₀ sigma₀ smaller₀ : List ℕ} {r s : TableMethodAnswer}
+pub table-method-once : {n k y w : ℕ} {table basis₀ sigma₀ smaller₀ : List ℕ} {r s : TableMethodAnswer}
     {basis₁ sigma₁ smaller₁ basis₂ sigma₂ smaller₂ : List ℕ}
-    → TableMethodPromise n k w table basis₀ sigma₀ smaller₀ r basis₁ sigma₁ smaller₁
-    → TableMethodPromise n k w table basis₀ sigma₀ smaller₀ s basis₂ sigma₂ smaller₂
+    → TableMethodPromise n k y w table basis₀ sigma₀ smaller₀ r basis₁ sigma₁ smaller₁
+    → TableMethodPromise n k y w table basis₀ sigma₀ smaller₀ s basis₂ sigma₂ smaller₂
     → (r ≡ s) × (basis₁ ≡ basis₂) × (sigma₁ ≡ sigma₂) × (smaller₁ ≡ smaller₂)
 table-method-once p q = (
   one (p .answer) (q .answer),
@@ -24,6 +24,6 @@ table-method-once p q = (
   one (p .smaller) (q .smaller),
 )
 
-pub restore-once : {n k : ℕ} {sigma smaller table₀ : List ℕ} {r s : Answer} {table₁ table₂ : List ℕ}
-    → RestorePromise n k sigma smaller table₀ r table₁ → RestorePromise n k sigma smaller table₀ s table₂ → (r ≡ s) × (table₁ ≡ table₂)
+pub restore-once : {n k y : ℕ} {sigma smaller table₀ : List ℕ} {r s : Answer} {table₁ table₂ : List ℕ}
+    → RestorePromise n k y sigma smaller table₀ r table₁ → RestorePromise n k y sigma smaller table₀ s table₂ → (r ≡ s) × (table₁ ≡ table₂)
 restore-once p q = (one (p .answer) (q .answer), one (p .table) (q .table))

@@ -15,8 +15,8 @@ use Rattle.promises.specs.Lent.{lentRecords, lentFlat}
 use Rattle.promises.specs.Texts.{WritePromise, ReadPromise}
 use Rattle.once.specs.Law.{one, Alike, records-alike, flat-alike}
 
-pub write-once : {n k : ℕ} {rs : List Row} {out₀ : List ℕ} {r s : TextAnswer} {out₁ out₂ : List ℕ} → WritePromise n k rs out₀ r out₁
-    → WritePromise n k rs out₀ s out₂ → (r ≡ s) × (out₁ ≡ out₂)
+pub write-once : {n k y z : ℕ} {rs : List Row} {out₀ : List ℕ} {r s : TextAnswer} {out₁ out₂ : List ℕ} → WritePromise n k y z rs out₀ r out₁
+    → WritePromise n k y z rs out₀ s out₂ → (r ≡ s) × (out₁ ≡ out₂)
 write-once p q = (one (p .answer) (q .answer), one (p .text) (q .text))
 
 -- ---- reading, with an answer in numbers, and with an answer that has those numbers

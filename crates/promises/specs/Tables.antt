@@ -1,4 +1,4 @@
--- The promises of the operations on tables. Assumes nothing.
+-- The promises of the operations on tables, of type y. Assumes nothing.
 use mathlib.Core.Path.{_≡_}
 use mathlib.Core.List.{List}
 use Prim.Native.Nat.{ℕ}
@@ -12,21 +12,21 @@ use Rattle.block.specs.declared.ValueAnswer.{ValueAnswer}
 use Rattle.block.specs.declared.TableMethodAnswer.{TableMethodAnswer}
 
 -- a single shift value
-pub record TableValuePromise (n k t : ℕ) (table : List ℕ) (r : ValueAnswer) : Type 0 where
-  pub answer : r ≡ tableValue n k t table
+pub record TableValuePromise (n k y t : ℕ) (table : List ℕ) (r : ValueAnswer) : Type 0 where
+  pub answer : r ≡ tableValue n k y t table
 
 -- the table method
-module _ (n k w : ℕ) (table basis₀ sigma₀ smaller₀ : List ℕ) where
+module _ (n k y w : ℕ) (table basis₀ sigma₀ smaller₀ : List ℕ) where
   abbrev methodVerdict : Answer
-  methodVerdict = tableMethodVerdict n k w table (length basis₀) (length sigma₀) (length smaller₀)
+  methodVerdict = tableMethodVerdict n k y w table (length basis₀) (length sigma₀) (length smaller₀)
 
   pub record TableMethodPromise (r : TableMethodAnswer) (basis₁ sigma₁ smaller₁ : List ℕ) : Type 0 where
-    pub answer : r ≡ tableMethod n k w table (length basis₀) (length sigma₀) (length smaller₀)
+    pub answer : r ≡ tableMethod n k y w table (length basis₀) (length sigma₀) (length smaller₀)
     pub basis : basis₁ ≡ stored methodVerdict (basisOf (ofTable table) n w) basis₀
     pub sigma : sigma₁ ≡ stored methodVerdict (sigmaOf (ofTable table) n w) sigma₀
     pub smaller : smaller₁ ≡ stored methodVerdict (smallerTable (ofTable table) n w) smaller₀
 
 -- restoring a table
-pub record RestorePromise (n k : ℕ) (sigma smaller table₀ : List ℕ) (r : Answer) (table₁ : List ℕ) : Type 0 where
-  pub answer : r ≡ restoreVerdict n k sigma smaller (length table₀)
-  pub table : table₁ ≡ stored (restoreVerdict n k sigma smaller (length table₀)) (restored n sigma smaller) table₀
+pub record RestorePromise (n k y : ℕ) (sigma smaller table₀ : List ℕ) (r : Answer) (table₁ : List ℕ) : Type 0 where
+  pub answer : r ≡ restoreVerdict n k y sigma smaller (length table₀)
+  pub table : table₁ ≡ stored (restoreVerdict n k y sigma smaller (length table₀)) (restored n sigma smaller) table₀

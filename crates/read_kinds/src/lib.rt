@@ -29,6 +29,8 @@ pub fn in_numbers(answer: Reading) -> ReadAnswer
             b: 0,
             n: h.n,
             k: h.k,
+            block_type: h.block_type,
+            type_line: h.type_line,
             count: h.count,
         },
         Reading::Refused(r) => {
@@ -39,6 +41,8 @@ pub fn in_numbers(answer: Reading) -> ReadAnswer
                 b: r.b,
                 n: 0,
                 k: 0,
+                block_type: 0,
+                type_line: 0,
                 count: 0,
             }
         }

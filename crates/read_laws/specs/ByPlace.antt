@@ -1,15 +1,16 @@
--- What the text reader gives, by the places of bytes: a byte past the end counts as 0, which no line has. Numbers and headings first,
--- then rows, then the whole. Not here: that this is what the meaning says of the lines, which are laws. Assumes nothing.
-use mathlib.Core.Bool.{Bool, true, false, not, cond}
+-- What the text reader gives, by the places of bytes: a byte past the end counts as 0, which no line has. Numbers, headings and the type
+-- line first, then rows, then the whole. Not here: that this is what the meaning says of the lines, which are laws. Assumes nothing.
+use mathlib.Core.Bool.{Bool, true, false, not, cond, _||_}
 use mathlib.Core.List.{List}
 use Prim.Native.Nat.{ℕ, zero, suc, _+_, _*_, _≤_}
 use lib.Dec.{eqb, ltb}
 use lib.ListN.{length, drop}
 use Rattle.slices.specs.Places.{at, tab, first, over}
+use Rattle.sums.specs.Sums.{one}
 use Rattle.block.specs.Limits.{listInputs, outputs, givenRows}
-use Rattle.block.specs.Words.{row}
+use Rattle.block.specs.Words.{fr, fd, row}
 use Rattle.block.specs.Refusals.{outside}
-use Rattle.block.specs.Text.{isDigit, headDigits, valueOf, bodyLine}
+use Rattle.block.specs.Text.{typeLine, equal, isDigit, headDigits, valueOf, headCount, firstLine}
 use Rattle.block.specs.declared.Row.{Row}
 use Rattle.block.specs.declared.Headings.{Headings}
 use Rattle.block.specs.declared.Refusal.{Refusal}
@@ -19,6 +20,7 @@ use Rattle.block.specs.declared.Reading.{Reading}
 use Rattle.block.specs.declared.Reading.the-variants.{Accepted, Refused}
 use Rattle.read_laws.specs.declared.Number.{Number}
 use Rattle.read_laws.specs.declared.Number.the-variants.{Value, Formless}
+use Rattle.read_laws.specs.declared.TypeLine.{TypeLine}
 use Rattle.read_laws.specs.declared.Spelling.{Spelling}
 use Rattle.read_laws.specs.declared.Spelling.the-variants.{Good, Bad}
 use Rattle.read_laws.specs.declared.Line.{Line}
@@ -82,33 +84,60 @@ headAt s from letter = leadOf (at s from) (at s (from + 1)) (at s (from + 2)) le
 abbrev pub refusal : Kind → ℕ → Refusal
 refusal kind a = record { kind = kind; a = a; b = 0 }
 
-abbrev pub headingsOf : ℕ → ℕ → ℕ → Headings
-headingsOf n k p = record { n = n; k = k; count = p }
+-- ---- the type line
+
+-- a line stands from a place on
+unfoldable pub standsAt : List ℕ → ℕ → List ℕ → Bool
+standsAt s from line = equal (bytesAt s from (length line)) line
+
+abbrev pub typed : ℕ → ℕ → TypeLine
+typed y z = record { «block_type» = y; «type_line» = z }
+
+-- the type that the line from a place on says, fd where no type line stands there; and 1 where one does
+unfoldable pub typeAt : List ℕ → ℕ → TypeLine
+typeAt s from =
+    typed (cond (standsAt s from (typeLine fr)) fr fd) (one (standsAt s from (typeLine fr) || standsAt s from (typeLine fd)))
+
+-- the bytes of a type line
+abbrev pub typeBytes : ℕ
+typeBytes = 9
+
+-- ---- the headings together
+
+abbrev pub headingsOf : ℕ → ℕ → TypeLine → ℕ → Headings
+headingsOf n k t p = record { n = n; k = k; «block_type» = t .«block_type»; «type_line» = t .«type_line»; count = p }
 
 -- the ranges of n, k and the number of rows, and the room
-unfoldable pub rangedOf : ℕ → ℕ → ℕ → ℕ → ℕ → Opening
-rangedOf n k p from room =
-    cond (outside 1 listInputs n) (Stopped (refusal Inputs 0))
-    (cond (outside 1 outputs k) (Stopped (refusal Outputs 0))
-    (cond (outside 1 givenRows p) (Stopped (refusal Count 0))
-    (cond (ltb room p) (Stopped (refusal Room 0))
-    (Open (headingsOf n k p) from))))
+unfoldable pub rangedOf : Headings → ℕ → ℕ → Opening
+rangedOf h from room =
+    cond (outside 1 listInputs (h .n)) (Stopped (refusal Inputs 0))
+    (cond (outside 1 outputs (h .k)) (Stopped (refusal Outputs 0))
+    (cond (outside 1 givenRows (h .count)) (Stopped (refusal Count 0))
+    (cond (ltb room (h .count)) (Stopped (refusal Room 0))
+    (Open h from))))
 
 -- what open headings promise
 abbrev pub openWithin : Opening → ℕ → Type 0
 openWithin (Stopped r) room = Unit {0}
-openWithin (Open h from) room = (h .n ≤ listInputs) × (h .k ≤ outputs) × (h .count ≤ givenRows) × (h .count ≤ room)
+openWithin (Open h from) room =
+    (h .n ≤ listInputs) × (h .k ≤ outputs) × (h .count ≤ givenRows) × (h .count ≤ room) × (h .«type_line» ≤ 1)
 
 abbrev pub onValue : Number → Opening → (ℕ → ℕ → Opening) → Opening
 onValue Formless o f = o
 onValue (Value v w) o f = f v w
 
+-- from the place after ".o k" on, and what stands there of a type line: ".p rows" behind that line, and the ranges
+unfoldable pub countedOf : List ℕ → ℕ → ℕ → ℕ → TypeLine → ℕ → Opening
+countedOf s n k from t room =
+    let place : ℕ = from + t .«type_line» * typeBytes in
+    onValue (headAt s place 112) (Stopped (refusal Form (3 + t .«type_line»))) (λ p w.
+    rangedOf (headingsOf n k t p) (place + w) room)
+
 unfoldable pub openingOf : List ℕ → ℕ → Opening
 openingOf s room =
     onValue (headAt s 0 105) (Stopped (refusal Form 1)) (λ n u.
     onValue (headAt s u 111) (Stopped (refusal Form 2)) (λ k v.
-    onValue (headAt s (u + v) 112) (Stopped (refusal Form 3)) (λ p w.
-    rangedOf n k p (u + v + w) room)))
+    countedOf s n k (u + v) (typeAt s (u + v)) room))
 
 -- ---- rows
 
@@ -184,9 +213,10 @@ filledOf fault p f l = cond (eqb fault (p + 2)) (over (tab p f) l) l
 
 -- ---- the whole text
 
--- the headings that opened, or the faulty line of the body
+-- the headings that opened, or the faulty line of the body, which stands one further where the type line does
 unfoldable pub closedOf : Headings → ℕ → Reading
-closedOf h fault = cond (eqb fault (h .count + 2)) (Accepted h) (Refused (refusal Form (bodyLine + fault)))
+closedOf h fault =
+    cond (eqb fault (h .count + 2)) (Accepted h) (Refused (refusal Form (firstLine + headCount + h .«type_line» + fault)))
 
 unfoldable pub readingOf : List ℕ → Opening → Reading
 readingOf s (Stopped r) = Refused r

@@ -14,7 +14,7 @@ use lib.ListN.{length, drop, length-drop, List·getD-eq-default}
 use lib.Seq.{getD-drop}
 use Rattle.slices.specs.Places.{at, first}
 use Rattle.slices.specs.Least.{first-is, first-le, first-below, first-passes}
-use Rattle.block.specs.Text.{endLine, lines, lineAt, equal, every, headForm, rowForm, rowOn, headNumber, bodyDue, bodyFault}
+use Rattle.block.specs.Text.{endLine, lines, lineAt, equal, every, numberPart, headForm, rowForm, rowOn, valueOf, bodyDue, bodyFault}
 use Rattle.read_laws.specs.declared.Number.the-variants.{Value, Formless}
 use Rattle.read_laws.specs.declared.Line.the-variants.{Sound, Broken}
 use Rattle.read_laws.specs.ByPlace.{headAt, isBroken, lineOf, brokenLine, endOf, faultOf}
@@ -27,7 +27,8 @@ use Rattle.read_laws.specs.RowLines.{row-line, row-at-place, row-length}
 
 -- the heading from the start of line i on is that of line i
 pub head-of : (letter : ℕ) (s : List ℕ) (i : ℕ) → (letter ≡ 10 → ⊥)
-    → headAt s (start s i) letter ≡ cond (headForm letter (lineAt s i)) (Value (headNumber s i) (length (lineAt s i))) Formless
+    → headAt s (start s i) letter
+    ≡ cond (headForm letter (lineAt s i)) (Value (valueOf (numberPart (lineAt s i))) (length (lineAt s i))) Formless
 head-of letter s i l = rw (line-front s i) (head-line letter s (start s i) l)
 
 -- ---- the rows

@@ -10,7 +10,7 @@ use lib.Dec.{ltb}
 use lib.ListN.{length, take}
 use Rattle.block.specs.Limits.{listInputs, givenRows}
 use Rattle.block.specs.Refusals.{Check, check, verdict, answered, carried, outside, sizeChecks}
-use Rattle.block.specs.Text.{inputsIn, outputsIn, countIn, headCheck, bodyCheck, readChecks, readVerdict, withHeadings, readText, rowsIn}
+use Rattle.block.specs.Text.{typeLineIn, typeIn, inputsIn, outputsIn, countIn, headCheck, bodyCheck, readChecks, readVerdict, withHeadings, readText, rowsIn}
 use Rattle.block.specs.declared.Answer.{Answer}
 use Rattle.block.specs.declared.ReadAnswer.{ReadAnswer}
 use Rattle.block.specs.declared.Row.{Row}
@@ -69,7 +69,7 @@ module _ (text : List ℕ) (r : ReadAnswer) where
   unfolding readText
   read-to lent lent′ e to p =
       record {
-        answer = p .answer ∙ ap (λ (v : Answer). withHeadings v (inputsIn text) (outputsIn text) (countIn text)) e;
+        answer = p .answer ∙ ap (λ (v : Answer). withHeadings v (inputsIn text) (outputsIn text) (typeIn text) (typeLineIn text) (countIn text)) e;
         rows = to (p .rows);
       }
 

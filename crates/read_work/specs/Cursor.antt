@@ -7,7 +7,7 @@ use Prim.Native.Nat.{ℕ, zero, suc, _-_, _≤_}
 use native.Mathlib.Omega.{arith}
 use lib.ListN.{length, take, drop, length-drop}
 use lib.Seq.{take-all}
-use Rattle.block.specs.Text.{headCount}
+use Rattle.block.specs.Text.{headCount, headPlace}
 use Rattle.block.specs.declared.Headings.{Headings}
 use Rattle.read_laws.specs.declared.Opening.{Opening}
 use Rattle.read_laws.specs.declared.Opening.the-variants.{Open, Stopped}
@@ -30,7 +30,7 @@ cursor-le text room from h e = subst (λ (o : Opening). cursorOf o ≤ length te
   where
     go : Stop text room ⊎ Opened text room → cursorOf (openingOf text room) ≤ length text
     go (inl (r, o, v)) = rw o (omega arith)
-    go (inr (o, v)) = rw o (start-le text headCount)
+    go (inr (o, v)) = rw o (start-le text (headPlace text headCount))
 
 -- the part from the cursor to the end
 pub part-from : (s : List ℕ) (from : ℕ) → take (length s - from) (drop from s) ≡ drop from s

@@ -13,9 +13,9 @@ ghost use Rattle.block.specs.Limits.{givenRows};
 ghost use Rattle.block.specs.Words.{maskPart, valuesPart, wordPart};
 ghost use Rattle.read_laws.specs.ByPlace.{openingOf, closedOf, readingOf, afterOf};
 
-// The headings, or the faulty line of the body, by its number in the text.
+// The headings, or the faulty line of the body, by its number in the text: the type line counts where it stands.
 pub fn closed(h: Headings, fault: usize) -> Reading
-    requires { ⌜ (fault ≤ h .count + 2) × (h .count ≤ givenRows) ⌝ }
+    requires { ⌜ (fault ≤ h .count + 2) × (h .count ≤ givenRows) × (h .«type_line» ≤ 1) ⌝ }
     ensures { λ r. ⌜ r ≡ closedOf h fault ⌝ }
 {
     if fault == h.count + 2 {
@@ -23,7 +23,7 @@ pub fn closed(h: Headings, fault: usize) -> Reading
     }
     Reading::Refused(Refusal {
         kind: Kind::Form,
-        a: BODY_LINE + fault,
+        a: BODY_LINE + h.type_line + fault,
         b: 0,
     })
 }

@@ -1,5 +1,6 @@
 // Row text, read (01, Row text). One operation: `read_text` reads a text, stores its rows at the front of three lent slices and answers
-// n, k and the number of rows; or it refuses, and then the slices hold what they held. This crate holds nothing else.
+// n, k, the type, whether its line stands there, and the number of rows; or it refuses, and then the slices hold what they held. This
+// crate holds nothing else.
 use block::Reading;
 ghost use Rattle.block.specs.Text.{numbers};
 ghost use Rattle.promises.specs.Lent.{lentFlat};

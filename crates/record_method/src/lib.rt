@@ -19,6 +19,7 @@ pub struct SmallerRows {
 pub fn method_into(
     n: usize,
     k: usize,
+    block_type: usize,
     w: usize,
     flat: FlatRows,
     m: usize,
@@ -28,7 +29,7 @@ pub fn method_into(
     sigma: &mut [u32],
 ) -> SmallerRows
     requires { ⌜ Sized flat × (m ≤ heldRows) × Sized smaller × (room ≤ heldRows) ⌝ }
-    ensures { λ r. ⌜ RowMethodPromise n k w (listed flat m) (lentArrays room (r .flat) (r .count))
+    ensures { λ r. ⌜ RowMethodPromise n k «block_type» w (listed flat m) (lentArrays room (r .flat) (r .count))
         (now (basis .entry)) (now (sigma .entry)) (r .answer) (now (basis .exit)) (now (sigma .exit)) ⌝ }
 {
     let masks = flat.masks;
@@ -40,6 +41,7 @@ pub fn method_into(
     let answer = lists::row_method(
         n,
         k,
+        block_type,
         w,
         &masks[..m],
         &values[..m],
@@ -65,6 +67,7 @@ pub fn method_into(
 pub fn method_of(
     n: usize,
     k: usize,
+    block_type: usize,
     w: usize,
     flat: FlatRows,
     m: usize,
@@ -73,10 +76,10 @@ pub fn method_of(
     sigma: &mut [u32],
 ) -> SmallerRows
     requires { ⌜ Sized flat × (m ≤ heldRows) ⌝ }
-    ensures { λ r. ⌜ RowMethodPromise n k w (listed flat m) (lentArrays room (r .flat) (r .count))
+    ensures { λ r. ⌜ RowMethodPromise n k «block_type» w (listed flat m) (lentArrays room (r .flat) (r .count))
         (now (basis .entry)) (now (sigma .entry)) (r .answer) (now (basis .exit)) (now (sigma .exit)) ⌝ }
 {
     let places = record_copies::fits(room);
     let smaller = record_copies::blank();
-    method_into(n, k, w, flat, m, smaller, places, basis, sigma)
+    method_into(n, k, block_type, w, flat, m, smaller, places, basis, sigma)
 }

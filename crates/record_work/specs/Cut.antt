@@ -2,7 +2,7 @@
 -- of its first 513 rows. So each operation answers alike for the list and for its first 513 rows; the law is one, `cut-same`, and then
 -- it is said of each operation. Assumes nothing.
 use mathlib.Core.Path.{_≡_, refl, sym, ap, _∙_}
-use mathlib.Core.Bool.{Bool, true, false, not, cond, _||_}
+use mathlib.Core.Bool.{Bool, true, false, not, cond, _&&_, _||_}
 use mathlib.Core.List.{List, [], _∷_, _++_}
 use Prim.Native.Nat.{ℕ, suc, _^_, _≤_, _<_}
 use native.Mathlib.Decide.{decLe}
@@ -12,10 +12,10 @@ use lib.Dec.{eqb, ltb}
 use lib.ListN.{length, take, length-take}
 use lib.Seq.{take-all}
 use Rattle.block.specs.Limits.{listInputs, tableInputs, givenRows, smallerRows, textRoom, sheetRoom}
-use Rattle.block.specs.Words.{ofRows}
+use Rattle.block.specs.Words.{fr, missing, ofRows}
 use Rattle.block.specs.Measure.{shift, measure}
 use Rattle.block.specs.Basis.{smallerOf}
-use Rattle.block.specs.Refusals.{Check, check, verdict, answered, carried, stored, outside, sizeChecks}
+use Rattle.block.specs.Refusals.{Check, check, verdict, answered, carried, stored, outside, typedChecks}
 use Rattle.block.specs.Tables.{withValue}
 use Rattle.block.specs.Lists.{countCheck, badRowCheck, rowChecks, rowValueVerdict, rowValue, passingCheck, methodChecks, rowMethodVerdict, rowMethod, smallerList, fillVerdict, filled}
 use Rattle.block.specs.Text.{withBytes, writeVerdict, writeText, textOf}
@@ -73,86 +73,86 @@ module _ (pre : List Check) (most : ℕ) (rest : List Row → List Check) (numbe
 
 -- ---- a single shift value
 
-pub value-cut : (n k t : ℕ) (rs : List Row) → rowValue n k t (take cutRows rs) ≡ rowValue n k t rs
+pub value-cut : (n k y t : ℕ) (rs : List Row) → rowValue n k y t (take cutRows rs) ≡ rowValue n k y t rs
 unfolding rowValue rowValueVerdict
-value-cut n k t =
-    cut-same (sizeChecks listInputs n k (check (not (ltb t (2 ^ n))) 3 0 0 ∷ [])) givenRows (rowChecks n k)
-    (refl, (refl, (refl, tt))) (omega arith) (λ v l. withValue v (shift (ofRows l) n t)) (λ v l m h. rw h)
+value-cut n k y t =
+    cut-same (typedChecks listInputs n k y (check (not (ltb t (2 ^ n))) 3 0 0 ∷ [])) givenRows (rowChecks n k)
+    (refl, (refl, (refl, (refl, tt)))) (omega arith) (λ v l. withValue v (shift (ofRows (missing y) l) n t)) (λ v l m h. rw h)
 
 -- ---- filling a table
 
-module _ (n k room : ℕ) where
+module _ (n k y room : ℕ) where
   fill-alike : {X : Type 0} (F : Answer → List Row → X) → ((v : Answer) (l m : List Row) → answered v ≡ false → F v l ≡ F v m)
-      → (rs : List Row) → F (fillVerdict n k (take cutRows rs) room) (take cutRows rs) ≡ F (fillVerdict n k rs room) rs
+      → (rs : List Row) → F (fillVerdict n k y (take cutRows rs) room) (take cutRows rs) ≡ F (fillVerdict n k y rs room) rs
   unfolding fillVerdict
   fill-alike =
-      cut-same (sizeChecks tableInputs n k []) smallerRows (λ l. check (ltb room (2 ^ n)) 5 0 0 ∷ rowChecks n k l)
-      (refl, (refl, tt)) (omega arith)
+      cut-same (typedChecks tableInputs n k y []) smallerRows (λ l. check (ltb room (2 ^ n)) 5 0 0 ∷ rowChecks n k l)
+      (refl, (refl, (refl, tt))) (omega arith)
 
-  pub fill-cut : (rs : List Row) → fillVerdict n k (take cutRows rs) room ≡ fillVerdict n k rs room
+  pub fill-cut : (rs : List Row) → fillVerdict n k y (take cutRows rs) room ≡ fillVerdict n k y rs room
   fill-cut = fill-alike (λ v l. v) (λ v l m h. refl)
 
   pub filled-cut : (table : List ℕ) (rs : List Row)
-      → stored (fillVerdict n k (take cutRows rs) room) (filled n (take cutRows rs)) table ≡ stored (fillVerdict n k rs room) (filled n rs) table
-  filled-cut table = fill-alike (λ v l. stored v (filled n l) table) (λ v l m h. rw h)
+      → stored (fillVerdict n k y (take cutRows rs) room) (filled (missing y) n (take cutRows rs)) table ≡ stored (fillVerdict n k y rs room) (filled (missing y) n rs) table
+  filled-cut table = fill-alike (λ v l. stored v (filled (missing y) n l) table) (λ v l m h. rw h)
 
 -- ---- writing row text
 
-module _ (n k room : ℕ) where
+module _ (n k y z room : ℕ) where
   write-alike : {X : Type 0} (F : Answer → List Row → X) → ((v : Answer) (l m : List Row) → answered v ≡ false → F v l ≡ F v m)
-      → (rs : List Row) → F (writeVerdict n k (take cutRows rs) room) (take cutRows rs) ≡ F (writeVerdict n k rs room) rs
+      → (rs : List Row) → F (writeVerdict n k y z (take cutRows rs) room) (take cutRows rs) ≡ F (writeVerdict n k y z rs room) rs
   unfolding writeVerdict
   write-alike =
-      cut-same (sizeChecks listInputs n k []) givenRows (λ l. check (ltb room textRoom) 5 0 0 ∷ badRowCheck n k l ∷ []) (refl, (refl, tt))
-      (omega arith)
+      cut-same (typedChecks listInputs n k y (check (eqb y fr && eqb z 0) 3 0 0 ∷ [])) givenRows
+      (λ l. check (ltb room textRoom) 5 0 0 ∷ badRowCheck n k l ∷ []) (refl, (refl, (refl, (refl, tt)))) (omega arith)
 
-  pub write-cut : (rs : List Row) → writeText n k (take cutRows rs) room ≡ writeText n k rs room
+  pub write-cut : (rs : List Row) → writeText n k y z (take cutRows rs) room ≡ writeText n k y z rs room
   unfolding writeText
-  write-cut = write-alike (λ v l. withBytes v (textOf n k l)) (λ v l m h. rw h)
+  write-cut = write-alike (λ v l. withBytes v (textOf n k y z l)) (λ v l m h. rw h)
 
   pub written-cut : (out : List ℕ) (rs : List Row)
-      → stored (writeVerdict n k (take cutRows rs) room) (textOf n k (take cutRows rs)) out ≡ stored (writeVerdict n k rs room) (textOf n k rs) out
-  written-cut out = write-alike (λ v l. stored v (textOf n k l) out) (λ v l m h. rw h)
+      → stored (writeVerdict n k y z (take cutRows rs) room) (textOf n k y z (take cutRows rs)) out ≡ stored (writeVerdict n k y z rs room) (textOf n k y z rs) out
+  written-cut out = write-alike (λ v l. stored v (textOf n k y z l) out) (λ v l m h. rw h)
 
 -- ---- the row method, and the sheet; `short` says that the lent room is too short
 
-module _ (n k w : ℕ) (short : Bool) where
+module _ (n k y w : ℕ) (short : Bool) where
   method-alike : {X : Type 0} (F : Answer → List Row → X) → ((v : Answer) (l m : List Row) → answered v ≡ false → F v l ≡ F v m)
-      → (rs : List Row) → F (verdict (methodChecks n k w (take cutRows rs) short)) (take cutRows rs) ≡ F (verdict (methodChecks n k w rs short)) rs
+      → (rs : List Row) → F (verdict (methodChecks n k y w (take cutRows rs) short)) (take cutRows rs) ≡ F (verdict (methodChecks n k y w rs short)) rs
   unfolding methodChecks
   method-alike =
-      cut-same (sizeChecks listInputs n k (check (outside 1 n w) 3 0 0 ∷ [])) givenRows
-      (λ l. check short 5 0 0 ∷ (rowChecks n k l ++ (passingCheck n w l ∷ [])))
-      (refl, (refl, (refl, tt))) (omega arith)
+      cut-same (typedChecks listInputs n k y (check (outside 1 n w) 3 0 0 ∷ [])) givenRows
+      (λ l. check short 5 0 0 ∷ (rowChecks n k l ++ (passingCheck (missing y) n w l ∷ [])))
+      (refl, (refl, (refl, (refl, tt)))) (omega arith)
 
-module _ (n k w a b c : ℕ) where
-  pub method-cut : (rs : List Row) → rowMethod n k w (take cutRows rs) a b c ≡ rowMethod n k w rs a b c
+module _ (n k y w a b c : ℕ) where
+  pub method-cut : (rs : List Row) → rowMethod n k y w (take cutRows rs) a b c ≡ rowMethod n k y w rs a b c
   unfolding rowMethod rowMethodVerdict
   method-cut =
-      method-alike n k w (ltb a n || (ltb b n || ltb c smallerRows)) (λ v l.
+      method-alike n k y w (ltb a n || (ltb b n || ltb c smallerRows)) (λ v l.
       record {
         number = v .number;
         a = v .a;
         b = v .b;
-        before = carried v (measure (ofRows l) n);
-        after = carried v (measure (smallerOf (ofRows l) n w) n);
-        count = carried v (length (smallerList n w l));
+        before = carried v (measure (ofRows (missing y) l) n);
+        after = carried v (measure (smallerOf (ofRows (missing y) l) n w) n);
+        count = carried v (length (smallerList (missing y) n w l));
       }) (λ v l m h. rw h)
 
   -- S is a result of the method, by the rows
   pub method-stored-cut : {X : Type 0} (S : List Row → List X) (before : List X) (rs : List Row)
-      → stored (rowMethodVerdict n k w (take cutRows rs) a b c) (S (take cutRows rs)) before ≡ stored (rowMethodVerdict n k w rs a b c) (S rs) before
+      → stored (rowMethodVerdict n k y w (take cutRows rs) a b c) (S (take cutRows rs)) before ≡ stored (rowMethodVerdict n k y w rs a b c) (S rs) before
   unfolding rowMethodVerdict
   method-stored-cut S before =
-      method-alike n k w (ltb a n || (ltb b n || ltb c smallerRows)) (λ v l. stored v (S l) before) (λ v l m h. rw h)
+      method-alike n k y w (ltb a n || (ltb b n || ltb c smallerRows)) (λ v l. stored v (S l) before) (λ v l m h. rw h)
 
-module _ (n k w room : ℕ) where
-  pub sheet-cut : (rs : List Row) → sheet n k w (take cutRows rs) room ≡ sheet n k w rs room
+module _ (n k y w room : ℕ) where
+  pub sheet-cut : (rs : List Row) → sheet n k y w (take cutRows rs) room ≡ sheet n k y w rs room
   unfolding sheet sheetVerdict
-  sheet-cut = method-alike n k w (ltb room sheetRoom) (λ v l. withBytes v (sheetText n k w l)) (λ v l m h. rw h)
+  sheet-cut = method-alike n k y w (ltb room sheetRoom) (λ v l. withBytes v (sheetText (missing y) n k w l)) (λ v l m h. rw h)
 
   pub sheet-stored-cut : (out : List ℕ) (rs : List Row)
-      → stored (sheetVerdict n k w (take cutRows rs) room) (sheetText n k w (take cutRows rs)) out
-      ≡ stored (sheetVerdict n k w rs room) (sheetText n k w rs) out
+      → stored (sheetVerdict n k y w (take cutRows rs) room) (sheetText (missing y) n k w (take cutRows rs)) out
+      ≡ stored (sheetVerdict n k y w rs room) (sheetText (missing y) n k w rs) out
   unfolding sheetVerdict
-  sheet-stored-cut out = method-alike n k w (ltb room sheetRoom) (λ v l. stored v (sheetText n k w l) out) (λ v l m h. rw h)
+  sheet-stored-cut out = method-alike n k y w (ltb room sheetRoom) (λ v l. stored v (sheetText (missing y) n k w l) out) (λ v l m h. rw h)

@@ -5,7 +5,7 @@ use mathlib.Core.Path.{_≡_}
 use mathlib.Core.List.{List}
 use Prim.Native.Nat.{ℕ, min}
 use lib.ListN.{length}
-use Rattle.block.specs.Words.{ofRows}
+use Rattle.block.specs.Words.{missing, ofRows}
 use Rattle.block.specs.Basis.{basisOf, sigmaOf}
 use Rattle.block.specs.Refusals.{stored}
 use Rattle.block.specs.Lists.{rowValue, rowMethodVerdict, rowMethod, smallerList, fillVerdict, filled}
@@ -27,52 +27,52 @@ use Rattle.record_work.specs.Cut.{value-cut, fill-cut, filled-cut, write-cut, w
 use Rattle.record_copies.specs.Yielded.{lentArrays, yielded-stored}
 
 module _ (rs : List Row) {m : ℕ} {f : FlatRows} (e : m ≡ min (length rs) heldRows) (g : Gathered rs m f) where
-  pub value-records : {n k t : ℕ} {r : ValueAnswer} → RowValuePromise n k t (listed f m) r → RowValuePromise n k t rs r
-  value-records {n} {k} {t} p = record { answer = as-records (rowValue n k t) rs e g (value-cut n k t rs) (p .answer) }
+  pub value-records : {n k y t : ℕ} {r : ValueAnswer} → RowValuePromise n k y t (listed f m) r → RowValuePromise n k y t rs r
+  value-records {n} {k} {y} {t} p = record { answer = as-records (rowValue n k y t) rs e g (value-cut n k y t rs) (p .answer) }
 
-  pub fill-records : {n k : ℕ} {table₀ : List ℕ} {r : Answer} {table₁ : List ℕ} → FillPromise n k (listed f m) table₀ r table₁
-      → FillPromise n k rs table₀ r table₁
-  fill-records {n} {k} {table₀} p =
+  pub fill-records : {n k y : ℕ} {table₀ : List ℕ} {r : Answer} {table₁ : List ℕ} → FillPromise n k y (listed f m) table₀ r table₁
+      → FillPromise n k y rs table₀ r table₁
+  fill-records {n} {k} {y} {table₀} p =
       let room : ℕ = length table₀ in
       record {
-        answer = as-records (λ l. fillVerdict n k l room) rs e g (fill-cut n k room rs) (p .answer);
-        table = as-records (λ l. stored (fillVerdict n k l room) (filled n l) table₀) rs e g (filled-cut n k room table₀ rs) (p .table);
+        answer = as-records (λ l. fillVerdict n k y l room) rs e g (fill-cut n k y room rs) (p .answer);
+        table = as-records (λ l. stored (fillVerdict n k y l room) (filled (missing y) n l) table₀) rs e g (filled-cut n k y room table₀ rs) (p .table);
       }
 
-  pub write-records : {n k : ℕ} {out₀ : List ℕ} {r : TextAnswer} {out₁ : List ℕ} → WritePromise n k (listed f m) out₀ r out₁
-      → WritePromise n k rs out₀ r out₁
-  write-records {n} {k} {out₀} p =
+  pub write-records : {n k y z : ℕ} {out₀ : List ℕ} {r : TextAnswer} {out₁ : List ℕ} → WritePromise n k y z (listed f m) out₀ r out₁
+      → WritePromise n k y z rs out₀ r out₁
+  write-records {n} {k} {y} {z} {out₀} p =
       let room : ℕ = length out₀ in
       record {
-        answer = as-records (λ l. writeText n k l room) rs e g (write-cut n k room rs) (p .answer);
-        text = as-records (λ l. stored (writeVerdict n k l room) (textOf n k l) out₀) rs e g (written-cut n k room out₀ rs) (p .text);
+        answer = as-records (λ l. writeText n k y z l room) rs e g (write-cut n k y z room rs) (p .answer);
+        text = as-records (λ l. stored (writeVerdict n k y z l room) (textOf n k y z l) out₀) rs e g (written-cut n k y z room out₀ rs) (p .text);
       }
 
-  pub sheet-records : {n k w : ℕ} {out₀ : List ℕ} {r : TextAnswer} {out₁ : List ℕ} → SheetPromise n k w (listed f m) out₀ r out₁
-      → SheetPromise n k w rs out₀ r out₁
-  sheet-records {n} {k} {w} {out₀} p =
+  pub sheet-records : {n k y w : ℕ} {out₀ : List ℕ} {r : TextAnswer} {out₁ : List ℕ} → SheetPromise n k y w (listed f m) out₀ r out₁
+      → SheetPromise n k y w rs out₀ r out₁
+  sheet-records {n} {k} {y} {w} {out₀} p =
       let room : ℕ = length out₀ in
       record {
-        answer = as-records (λ l. sheet n k w l room) rs e g (sheet-cut n k w room rs) (p .answer);
-        text = as-records (λ l. stored (sheetVerdict n k w l room) (sheetText n k w l) out₀) rs e g (sheet-stored-cut n k w room out₀ rs) (p .text);
+        answer = as-records (λ l. sheet n k y w l room) rs e g (sheet-cut n k y w room rs) (p .answer);
+        text = as-records (λ l. stored (sheetVerdict n k y w l room) (sheetText (missing y) n k w l) out₀) rs e g (sheet-stored-cut n k y w room out₀ rs) (p .text);
       }
 
-  pub method-records : {n k w : ℕ} {basis₀ sigma₀ : List ℕ} {r : RowMethodAnswer} {basis₁ sigma₁ : List ℕ} {h : FlatRows} {count : ℕ}
+  pub method-records : {n k y w : ℕ} {basis₀ sigma₀ : List ℕ} {r : RowMethodAnswer} {basis₁ sigma₁ : List ℕ} {h : FlatRows} {count : ℕ}
       (rows₀ rows₁ : List Row) → Scattered h count rows₀ rows₁
-      → RowMethodPromise n k w (listed f m) (lentArrays (length rows₀) h count) basis₀ sigma₀ r basis₁ sigma₁
-      → RowMethodPromise n k w rs (lentRecords rows₀ rows₁) basis₀ sigma₀ r basis₁ sigma₁
-  method-records {n} {k} {w} {basis₀} {sigma₀} rows₀ rows₁ c p =
+      → RowMethodPromise n k y w (listed f m) (lentArrays (length rows₀) h count) basis₀ sigma₀ r basis₁ sigma₁
+      → RowMethodPromise n k y w rs (lentRecords rows₀ rows₁) basis₀ sigma₀ r basis₁ sigma₁
+  method-records {n} {k} {y} {w} {basis₀} {sigma₀} rows₀ rows₁ c p =
       let a : ℕ = length basis₀ in
       let b : ℕ = length sigma₀ in
       let room : ℕ = length rows₀ in
       record {
-        answer = as-records (λ l. rowMethod n k w l a b room) rs e g (method-cut n k w a b room rs) (p .answer);
-        basis = as-records (λ l. stored (rowMethodVerdict n k w l a b room) (basisOf (ofRows l) n w) basis₀) rs e g
-            (method-stored-cut n k w a b room (λ l. basisOf (ofRows l) n w) basis₀ rs) (p .basis);
-        sigma = as-records (λ l. stored (rowMethodVerdict n k w l a b room) (sigmaOf (ofRows l) n w) sigma₀) rs e g
-            (method-stored-cut n k w a b room (λ l. sigmaOf (ofRows l) n w) sigma₀ rs) (p .sigma);
-        smaller = as-records (λ l. stored (rowMethodVerdict n k w l a b room) (smallerList n w l) rows₀) rs e g
-            (method-stored-cut n k w a b room (smallerList n w) rows₀ rs) (yielded-stored rows₀ rows₁ (p .smaller) c);
+        answer = as-records (λ l. rowMethod n k y w l a b room) rs e g (method-cut n k y w a b room rs) (p .answer);
+        basis = as-records (λ l. stored (rowMethodVerdict n k y w l a b room) (basisOf (ofRows (missing y) l) n w) basis₀) rs e g
+            (method-stored-cut n k y w a b room (λ l. basisOf (ofRows (missing y) l) n w) basis₀ rs) (p .basis);
+        sigma = as-records (λ l. stored (rowMethodVerdict n k y w l a b room) (sigmaOf (ofRows (missing y) l) n w) sigma₀) rs e g
+            (method-stored-cut n k y w a b room (λ l. sigmaOf (ofRows (missing y) l) n w) sigma₀ rs) (p .sigma);
+        smaller = as-records (λ l. stored (rowMethodVerdict n k y w l a b room) (smallerList (missing y) n w l) rows₀) rs e g
+            (method-stored-cut n k y w a b room (smallerList (missing y) n w) rows₀ rs) (yielded-stored rows₀ rows₁ (p .smaller) c);
       }
 
 pub read-records : {text : List ℕ} {r : ReadAnswer} {h : FlatRows} {count : ℕ} (rows₀ rows₁ : List Row) → Scattered h count rows₀ rows₁

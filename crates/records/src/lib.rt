@@ -15,52 +15,61 @@ ghost use Rattle.promises.specs.Lists.{RowValuePromise, RowMethodPromise, FillP
 ghost use Rattle.promises.specs.Texts.{WritePromise, ReadPromise};
 ghost use Rattle.promises.specs.Sheets.{SheetPromise};
 
-// R(t) of a list. Refuses with 1, 2, 3 (t), 4, 6 and 7.
-pub fn row_value(n: usize, k: usize, t: usize, rows: &[Row]) -> ValueAnswer
-    ensures { λ r. ⌜ RowValuePromise n k t (now (rows .entry)) r ⌝ }
+// R(t) of a list. Refuses with 1, 2, 3 (the type, t), 4, 6 and 7.
+pub fn row_value(n: usize, k: usize, block_type: usize, t: usize, rows: &[Row]) -> ValueAnswer
+    ensures { λ r. ⌜ RowValuePromise n k «block_type» t (now (rows .entry)) r ⌝ }
 {
     let m = record_copies::fits(rows.len());
     let flat = record_copies::gather(rows, m);
-    record_work::value_of(n, k, t, flat, m)
+    record_work::value_of(n, k, block_type, t, flat, m)
 }
 
 // T, sigma, the smaller rows and both measures of a list, with weight limit w: the smaller rows are the first records of `smaller`, and
-// the others hold what they held. Refuses with 1, 2, 3 (w), 4, 5 (n numbers for each matrix, 512 rows), 6, 7 and 9.
+// the others hold what they held. Refuses with 1, 2, 3 (the type, w), 4, 5 (n numbers for each matrix, 512 rows), 6, 7 and 9.
 pub fn row_method(
     n: usize,
     k: usize,
+    block_type: usize,
     w: usize,
     rows: &[Row],
     basis: &mut [u32],
     sigma: &mut [u32],
     smaller: &mut [Row],
 ) -> RowMethodAnswer
-    ensures { λ r. ⌜ RowMethodPromise n k w (now (rows .entry)) (lentRecords (now (smaller .entry)) (now (smaller .exit)))
+    ensures { λ r. ⌜ RowMethodPromise n k «block_type» w (now (rows .entry)) (lentRecords (now (smaller .entry)) (now (smaller .exit)))
         (now (basis .entry)) (now (sigma .entry)) r (now (basis .exit)) (now (sigma .exit)) ⌝ }
 {
     let m = record_copies::fits(rows.len());
     let flat = record_copies::gather(rows, m);
-    let done = record_method::method_of(n, k, w, flat, m, smaller.len(), basis, sigma);
+    let done = record_method::method_of(n, k, block_type, w, flat, m, smaller.len(), basis, sigma);
     record_copies::scatter(done.flat, done.count, smaller);
     done.answer
 }
 
-// Fills the table of a list, of up to 512 rows. Refuses with 1, 2, 4, 5 (2^n entries), 6 and 7.
-pub fn fill_table(n: usize, k: usize, rows: &[Row], table: &mut [u16]) -> Answer
-    ensures { λ r. ⌜ FillPromise n k (now (rows .entry)) (now (table .entry)) r (now (table .exit)) ⌝ }
+// Fills the table of a list, of up to 512 rows. Refuses with 1, 2, 3 (the type), 4, 5 (2^n entries), 6 and 7.
+pub fn fill_table(n: usize, k: usize, block_type: usize, rows: &[Row], table: &mut [u16]) -> Answer
+    ensures { λ r. ⌜ FillPromise n k «block_type» (now (rows .entry)) (now (table .entry)) r (now (table .exit)) ⌝ }
 {
     let m = record_copies::fits(rows.len());
     let flat = record_copies::gather(rows, m);
-    record_work::fill_of(n, k, flat, m, table)
+    record_work::fill_of(n, k, block_type, flat, m, table)
 }
 
-// Writes the rows as text to the front of out. Refuses with 1, 2, 4, 5 (4,246 bytes) and 6.
-pub fn write_text(n: usize, k: usize, rows: &[Row], out: &mut [u8]) -> TextAnswer
-    ensures { λ r. ⌜ WritePromise n k (now (rows .entry)) (now (out .entry)) r (now (out .exit)) ⌝ }
+// Writes the rows as text to the front of out; `type_line` is 0 where the type line is not to stand. Refuses with 1, 2, 3 (the type, or fr
+// without its line), 4, 5 (4,255 bytes) and 6.
+pub fn write_text(
+    n: usize,
+    k: usize,
+    block_type: usize,
+    type_line: usize,
+    rows: &[Row],
+    out: &mut [u8],
+) -> TextAnswer
+    ensures { λ r. ⌜ WritePromise n k «block_type» «type_line» (now (rows .entry)) (now (out .entry)) r (now (out .exit)) ⌝ }
 {
     let m = record_copies::fits(rows.len());
     let flat = record_copies::gather(rows, m);
-    record_work::write_of(n, k, flat, m, out)
+    record_work::write_of(n, k, block_type, type_line, flat, m, out)
 }
 
 // Reads the text: its rows are the first records, and the others hold what they held. Refuses with 10 for a heading, then 1, 2, 4 and
@@ -82,11 +91,19 @@ pub fn read_numbers(text: &[u8], rows: &mut [Row]) -> ReadAnswer
     read.answer
 }
 
-// Writes the sheet of the rows with weight limit w to the front of out. Refuses with 1, 2, 3 (w), 4, 5 (17,518 bytes), 6, 7 and 9.
-pub fn sheet(n: usize, k: usize, w: usize, rows: &[Row], out: &mut [u8]) -> TextAnswer
-    ensures { λ r. ⌜ SheetPromise n k w (now (rows .entry)) (now (out .entry)) r (now (out .exit)) ⌝ }
+// Writes the sheet of the rows with weight limit w to the front of out. Refuses with 1, 2, 3 (the type, w), 4, 5 (17,518 bytes),
+// 6, 7 and 9.
+pub fn sheet(
+    n: usize,
+    k: usize,
+    block_type: usize,
+    w: usize,
+    rows: &[Row],
+    out: &mut [u8],
+) -> TextAnswer
+    ensures { λ r. ⌜ SheetPromise n k «block_type» w (now (rows .entry)) (now (out .entry)) r (now (out .exit)) ⌝ }
 {
     let m = record_copies::fits(rows.len());
     let flat = record_copies::gather(rows, m);
-    record_work::sheet_of(n, k, w, flat, m, out)
+    record_work::sheet_of(n, k, block_type, w, flat, m, out)
 }

@@ -19,16 +19,16 @@ use Rattle.flat_rows.specs.Listing.{listed-rows, rows-count, row-at}
 use Rattle.answered_laws.specs.Passed.{Passed, value-passed, fill-passed}
 
 -- a single value
-pub value-checked : (n k t : ℕ) (masks values words : List ℕ) (v : Answer) → v ≡ rowValueVerdict n k t (rowsOf masks values words)
+pub value-checked : (n k y t : ℕ) (masks values words : List ℕ) (v : Answer) → v ≡ rowValueVerdict n k y t (rowsOf masks values words)
     → v .number ≡ 0 → Passed listInputs givenRows n k (rowsOf masks values words) × (t < 2 ^ n)
-value-checked n k t masks values words v e h = value-passed n k t (rowsOf masks values words) (zero-too e h)
+value-checked n k y t masks values words v e h = value-passed n k y t (rowsOf masks values words) (zero-too e h)
 
 -- filling
-pub fill-checked : (n k : ℕ) (masks values words : List ℕ) (room : ℕ) (v : Answer)
-    → v ≡ fillVerdict n k (rowsOf masks values words) room → v .number ≡ 0
+pub fill-checked : (n k y : ℕ) (masks values words : List ℕ) (room : ℕ) (v : Answer)
+    → v ≡ fillVerdict n k y (rowsOf masks values words) room → v .number ≡ 0
     → Passed tableInputs smallerRows n k (rowsOf masks values words) × (2 ^ n ≤ room)
-fill-checked n k masks values words room v e h =
-    fill-passed n k (rowsOf masks values words) room (zero-too e h)
+fill-checked n k y masks values words room v e h =
+    fill-passed n k y (rowsOf masks values words) room (zero-too e h)
 
 -- each word is below 2^15, and so fits a table's entry
 pub checked-words : (inputs most n k : ℕ) (masks values words : List ℕ) → Passed inputs most n k (rowsOf masks values words)

@@ -8,7 +8,7 @@ use Prim.Native.Nat.{ℕ, _^_, _≤_}
 use native.Mathlib.Omega.{arith}
 use lib.Dec.{ltb}
 use Rattle.block.specs.Limits.{listInputs, tableInputs, givenRows, smallerRows}
-use Rattle.block.specs.Refusals.{check, verdict, andThen, outside, sizeChecks}
+use Rattle.block.specs.Refusals.{check, verdict, andThen, outside, typedChecks}
 use Rattle.block.specs.Lists.{countCheck, rowChecks, rowValueVerdict, methodChecked, fillVerdict}
 use Rattle.block.specs.declared.Row.{Row}
 use Rattle.block.specs.declared.Answer.{Answer}
@@ -18,59 +18,59 @@ use Rattle.answered_laws.specs.Passed.{InRange, in-range-more, rows-numbered, v
 
 -- ---- a single shift value; `size` is 2^n where n is in range
 
-module _ (n k t : ℕ) (rs : List Row) (size : ℕ) (power : n ≤ listInputs → size ≡ 2 ^ n) (sizes point count : Answer)
-    (first : sizes ≡ verdict (sizeChecks listInputs n k [])) (second : point ≡ andThen sizes (verdict (check (not (ltb t size)) 3 0 0 ∷ [])))
+module _ (n k y t : ℕ) (rs : List Row) (size : ℕ) (power : n ≤ listInputs → size ≡ 2 ^ n) (sizes point count : Answer)
+    (first : sizes ≡ verdict (typedChecks listInputs n k y [])) (second : point ≡ andThen sizes (verdict (check (not (ltb t size)) 3 0 0 ∷ [])))
     (third : count ≡ andThen point (verdict (countCheck givenRows rs ∷ []))) where
-  value-asked : Asked (sizeChecks listInputs n k (check (not (ltb t (2 ^ n))) 3 0 0 ∷ countCheck givenRows rs ∷ [])) count
+  value-asked : Asked (typedChecks listInputs n k y (check (not (ltb t (2 ^ n))) 3 0 0 ∷ countCheck givenRows rs ∷ [])) count
   value-asked =
       asked-then (countCheck givenRows rs ∷ []) count
-      (asked-where (not (ltb t size)) (not (ltb t (2 ^ n))) 3 0 0 point (asked-sizes listInputs n k sizes first) refl second
-      (λ h. ap (λ (p : ℕ). not (ltb t p)) (power (sizes-pass listInputs n k [] h .0 .0 .1))))
+      (asked-where (not (ltb t size)) (not (ltb t (2 ^ n))) 3 0 0 point (asked-sizes listInputs n k y sizes first) refl second
+      (λ h. ap (λ (p : ℕ). not (ltb t p)) (power (sizes-pass listInputs n k y [] h .0 .0 .1))))
       (refl, tt) third
 
   pub value-in-range : count .number ≡ 0 → InRange listInputs smallerRows n k rs
-  value-in-range h = in-range-more listInputs smallerRows (omega arith) (omega arith) (value-ranges n k t rs [] (zero-too (value-asked .told) h) .0)
+  value-in-range h = in-range-more listInputs smallerRows (omega arith) (omega arith) (value-ranges n k y t rs [] (zero-too (value-asked .told) h) .0)
 
-  pub value-verdict : (v : Answer) → v ≡ andThen count (verdict (rowChecks n k rs)) → v ≡ rowValueVerdict n k t rs
+  pub value-verdict : (v : Answer) → v ≡ andThen count (verdict (rowChecks n k rs)) → v ≡ rowValueVerdict n k y t rs
   unfolding rowValueVerdict
   value-verdict v e = asked-then (rowChecks n k rs) v value-asked (rows-numbered n k rs) e .told
 
 -- ---- filling
 
-module _ (n k : ℕ) (rs : List Row) (room size : ℕ) (power : n ≤ listInputs → size ≡ 2 ^ n) (sizes count lent : Answer)
-    (first : sizes ≡ verdict (sizeChecks tableInputs n k [])) (second : count ≡ andThen sizes (verdict (countCheck smallerRows rs ∷ [])))
+module _ (n k y : ℕ) (rs : List Row) (room size : ℕ) (power : n ≤ listInputs → size ≡ 2 ^ n) (sizes count lent : Answer)
+    (first : sizes ≡ verdict (typedChecks tableInputs n k y [])) (second : count ≡ andThen sizes (verdict (countCheck smallerRows rs ∷ [])))
     (third : lent ≡ andThen count (verdict (check (ltb room size) 5 0 0 ∷ []))) where
-  fill-asked : Asked (sizeChecks tableInputs n k (countCheck smallerRows rs ∷ check (ltb room (2 ^ n)) 5 0 0 ∷ [])) lent
+  fill-asked : Asked (typedChecks tableInputs n k y (countCheck smallerRows rs ∷ check (ltb room (2 ^ n)) 5 0 0 ∷ [])) lent
   fill-asked =
       asked-where (ltb room size) (ltb room (2 ^ n)) 5 0 0 lent
-      (asked-then (countCheck smallerRows rs ∷ []) count (asked-sizes tableInputs n k sizes first) (refl, tt) second) refl third
+      (asked-then (countCheck smallerRows rs ∷ []) count (asked-sizes tableInputs n k y sizes first) (refl, tt) second) refl third
       (λ h.
-      let range = sizes-pass tableInputs n k (countCheck smallerRows rs ∷ []) h .0 .0 in
+      let range = sizes-pass tableInputs n k y (countCheck smallerRows rs ∷ []) h .0 .0 in
       ap (ltb room) (power (omega (arith, range .1))))
 
   pub fill-in-range : lent .number ≡ 0 → InRange listInputs smallerRows n k rs
-  fill-in-range h = in-range-more listInputs smallerRows (omega arith) (omega arith) (fill-ranges n k rs room [] (zero-too (fill-asked .told) h) .0)
+  fill-in-range h = in-range-more listInputs smallerRows (omega arith) (omega arith) (fill-ranges n k y rs room [] (zero-too (fill-asked .told) h) .0)
 
-  pub fill-verdict : (v : Answer) → v ≡ andThen lent (verdict (rowChecks n k rs)) → v ≡ fillVerdict n k rs room
+  pub fill-verdict : (v : Answer) → v ≡ andThen lent (verdict (rowChecks n k rs)) → v ≡ fillVerdict n k y rs room
   unfolding fillVerdict
   fill-verdict v e = asked-then (rowChecks n k rs) v fill-asked (rows-numbered n k rs) e .told
 
 -- ---- the row method before 9; `light` is the test of w
 
-module _ (n k w : ℕ) (rs : List Row) (short light : Bool) (test : light ≡ outside 1 n w) (sizes weight count lent : Answer)
-    (first : sizes ≡ verdict (sizeChecks listInputs n k [])) (second : weight ≡ andThen sizes (verdict (check light 3 0 0 ∷ [])))
+module _ (n k y w : ℕ) (rs : List Row) (short light : Bool) (test : light ≡ outside 1 n w) (sizes weight count lent : Answer)
+    (first : sizes ≡ verdict (typedChecks listInputs n k y [])) (second : weight ≡ andThen sizes (verdict (check light 3 0 0 ∷ [])))
     (third : count ≡ andThen weight (verdict (countCheck givenRows rs ∷ [])))
     (fourth : lent ≡ andThen count (verdict (check short 5 0 0 ∷ []))) where
-  method-asked : Asked (sizeChecks listInputs n k (check (outside 1 n w) 3 0 0 ∷ countCheck givenRows rs ∷ check short 5 0 0 ∷ [])) lent
+  method-asked : Asked (typedChecks listInputs n k y (check (outside 1 n w) 3 0 0 ∷ countCheck givenRows rs ∷ check short 5 0 0 ∷ [])) lent
   method-asked =
       asked-then (check short 5 0 0 ∷ []) lent
       (asked-then (countCheck givenRows rs ∷ []) count
-      (asked-where light (outside 1 n w) 3 0 0 weight (asked-sizes listInputs n k sizes first) refl second (λ h. test))
+      (asked-where light (outside 1 n w) 3 0 0 weight (asked-sizes listInputs n k y sizes first) refl second (λ h. test))
       (refl, tt) third)
       (refl, tt) fourth
 
   pub method-in-range : lent .number ≡ 0 → InRange listInputs smallerRows n k rs
-  method-in-range h = in-range-more listInputs smallerRows (omega arith) (omega arith) (method-ranges n k w rs short [] (zero-too (method-asked .told) h) .0)
+  method-in-range h = in-range-more listInputs smallerRows (omega arith) (omega arith) (method-ranges n k y w rs short [] (zero-too (method-asked .told) h) .0)
 
-  pub method-verdict : (v : Answer) → v ≡ andThen lent (verdict (rowChecks n k rs)) → v ≡ verdict (methodChecked n k w rs short)
+  pub method-verdict : (v : Answer) → v ≡ andThen lent (verdict (rowChecks n k rs)) → v ≡ verdict (methodChecked n k y w rs short)
   method-verdict v e = asked-then (rowChecks n k rs) v method-asked (rows-numbered n k rs) e .told

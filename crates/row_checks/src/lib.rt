@@ -44,14 +44,15 @@ pub fn then_rows(
 pub fn row_value_verdict(
     n: usize,
     k: usize,
+    block_type: usize,
     t: usize,
     masks: &[u32],
     values: &[u32],
     words: &[u32],
 ) -> Answer
-    ensures { λ r. ⌜ r ≡ rowValueVerdict n k t (rowsOf (now (masks .entry)) (now (values .entry)) (now (words .entry))) ⌝ }
+    ensures { λ r. ⌜ r ≡ rowValueVerdict n k «block_type» t (rowsOf (now (masks .entry)) (now (values .entry)) (now (words .entry))) ⌝ }
 {
-    let sizes = shared_checks::sizes(LIST_INPUTS, n, k);
+    let sizes = shared_checks::sizes(LIST_INPUTS, n, k, block_type);
     let below = t < shared_checks::size_of(n);
     let point = shared_checks::then_where(sizes, !below, 3, 0, 0);
     let count = then_count(point, GIVEN_ROWS, masks, values, words);
@@ -62,14 +63,15 @@ pub fn row_value_verdict(
 pub fn fill_verdict(
     n: usize,
     k: usize,
+    block_type: usize,
     masks: &[u32],
     values: &[u32],
     words: &[u32],
     room: usize,
 ) -> Answer
-    ensures { λ r. ⌜ r ≡ fillVerdict n k (rowsOf (now (masks .entry)) (now (values .entry)) (now (words .entry))) room ⌝ }
+    ensures { λ r. ⌜ r ≡ fillVerdict n k «block_type» (rowsOf (now (masks .entry)) (now (values .entry)) (now (words .entry))) room ⌝ }
 {
-    let sizes = shared_checks::sizes(TABLE_INPUTS, n, k);
+    let sizes = shared_checks::sizes(TABLE_INPUTS, n, k, block_type);
     let count = then_count(sizes, SMALLER_ROWS, masks, values, words);
     let short = room < shared_checks::size_of(n);
     let lent = shared_checks::then_where(count, short, 5, 0, 0);
@@ -80,15 +82,16 @@ pub fn fill_verdict(
 pub fn method_checked(
     n: usize,
     k: usize,
+    block_type: usize,
     w: usize,
     masks: &[u32],
     values: &[u32],
     words: &[u32],
     short: bool,
 ) -> Answer
-    ensures { λ r. ⌜ r ≡ verdict (methodChecked n k w (rowsOf (now (masks .entry)) (now (values .entry)) (now (words .entry))) short) ⌝ }
+    ensures { λ r. ⌜ r ≡ verdict (methodChecked n k «block_type» w (rowsOf (now (masks .entry)) (now (values .entry)) (now (words .entry))) short) ⌝ }
 {
-    let sizes = shared_checks::sizes(LIST_INPUTS, n, k);
+    let sizes = shared_checks::sizes(LIST_INPUTS, n, k, block_type);
     let weight = shared_checks::then_where(sizes, shared_checks::is_outside(1, n, w), 3, 0, 0);
     let count = then_count(weight, GIVEN_ROWS, masks, values, words);
     let lent = shared_checks::then_where(count, short, 5, 0, 0);

@@ -1,3 +1,3 @@
--- R by cubes: `Looped` has the cubes as two loops over pairs meet them, `Stored` cubes that lie in three lent lists.
-pub mod Looped
+-- R by cubes: `Stored` has cubes that lie in three lent lists, `Due` the entries that take R from them.
 pub mod Stored
+pub mod Due

@@ -1,20 +1,29 @@
--- Cubes whose parts lie at the front of three lent lists: none, one more, and what they add to R(t). Not here: which cubes a list of
--- rows has, and that they add up to R (`pair_laws`), and how two loops come by them (`Looped`). Assumes nothing.
+-- Cubes whose parts lie at the front of three lent lists: the room for them, none, one more, and what they add to R(t). Not here: which cubes
+-- a list of rows has, and that they add up to R (`pair_laws`), and how two loops come by them (missing_points, `Looped`). Assumes nothing.
 use mathlib.Core.Path.{_≡_, refl, sym, ap, _∙_}
 use mathlib.Core.List.{List, [], _∷_, _++_, map}
-use Prim.Native.Nat.{ℕ, _+_, _^_, _≤_, _<_}
+use Prim.Native.Nat.{ℕ, _+_, _*_, _^_, _≤_, _<_}
+use native.Mathlib.Nat.{mul-le-mul}
 use native.Mathlib.Omega.{arith}
 use lib.ListN.{length, set, length-set, length-append}
 use lib.Pow.{pow-mono}
-use Rattle.slices.specs.Places.{at, tab, over}
-use Rattle.slices.specs.Filled.{tab-cong, over-push}
+use Rattle.slices.specs.Places.{at, over}
+use Rattle.slices.specs.Filled.{over-push}
 use Rattle.sums.specs.Sums.{sum}
 use Rattle.sums.specs.Laws.{sum-mono, sum-more}
-use Rattle.block.specs.Words.{ofRows}
-use Rattle.block.specs.Measure.{shift}
 use Rattle.block.specs.declared.Row.{Row}
-use Rattle.pair_laws.specs.Theorem.{Disjoint, shift-le}
-use Rattle.pair_laws.specs.Symmetric.{Cube, cube, hit, cubesOf, shift-cubes, added-stored}
+use Rattle.pair_laws.specs.Theorem.{Disjoint, Weight}
+use Rattle.pair_laws.specs.Symmetric.{Cube, cube, hit, added, cubesOf, added-small, added-stored}
+
+-- room for the cubes of so many rows, one for each pair i ≤ j, in each of three lists
+abbrev pub Roomy : ℕ → ℕ → ℕ → ℕ → Type 0
+Roomy rows masks values weights = (rows * (rows + 1) ≤ masks * 2) × (rows * (rows + 1) ≤ values * 2) × (rows * (rows + 1) ≤ weights * 2)
+
+-- for the longest list that they are room for
+pub roomy-few : (rows most masks values weights : ℕ) → rows ≤ most → Roomy most masks values weights → Roomy rows masks values weights
+roomy-few rows most masks values weights h r =
+    let l : rows * (rows + 1) ≤ most * (most + 1) = mul-le-mul h (omega arith) in
+    (omega (arith, r .0), omega (arith, r .1), omega (arith, r .2))
 
 -- the parts of the cubes lie at the front of three lists, which hold beyond them what they held, and r is how many there are
 pub record CubesAt (cs : List Cube) (m₀ v₀ w₀ m v w : List ℕ) (r : ℕ) : Type 0 where
@@ -47,21 +56,15 @@ cubes-at-more cs q m₀ v₀ w₀ m v w r s hm hv hw =
       weights = rw (s .weights, e) (over-push (λ (c : Cube). c .weight) cs q w₀ (omega arith));
     }
 
-module _ (n : ℕ) (rs : List Row) (d : Disjoint n rs) (m₀ v₀ w₀ m v w : List ℕ) (r : ℕ) (s : CubesAt (cubesOf n rs) m₀ v₀ w₀ m v w r)
-  where
-    -- the cubes of disjoint rows add up to R
-    pub cubes-shift : (t : ℕ) → t < 2 ^ n → addedBy m v w r t ≡ shift (ofRows rs) n t
-    cubes-shift t h =
-        rw (s .masks, s .values, s .weights, s .count) (added-stored t (cubesOf n rs) m₀ v₀ w₀ ∙ sym (shift-cubes n rs t d h))
+module _ (g : ℕ → ℕ → ℕ) (n : ℕ) (rs : List Row) (m₀ v₀ w₀ m v w : List ℕ) (r : ℕ) (s : CubesAt (cubesOf g n rs) m₀ v₀ w₀ m v w r) where
+  -- what the stored cubes of a list of rows add
+  pub cubes-added : (t : ℕ) → addedBy m v w r t ≡ added t (cubesOf g n rs)
+  cubes-added t = rw (s .masks, s .values, s .weights, s .count) (added-stored t (cubesOf g n rs) m₀ v₀ w₀)
 
-    -- so what they add is small
-    pub cubes-small : (most t : ℕ) → t < 2 ^ n → n ≤ most → addedBy m v w r t ≤ 2 ^ most
-    cubes-small most t h l = omega (arith, cubes-shift t h, shift-le (ofRows rs) n t, pow-mono l)
-
-    -- the values at a list of numbers
-    pub cubes-shifts : (l : List ℕ) (k : ℕ) → ((i : ℕ) → i < k → at l i < 2 ^ n)
-        → tab k (λ i. addedBy m v w r (at l i)) ≡ tab k (λ i. shift (ofRows rs) n (at l i))
-    cubes-shifts l k h = tab-cong k _ _ (λ i b. cubes-shift (at l i) (h i b))
+  -- with disjoint rows, and points that count at most twice, that is small
+  pub cubes-small : (o : ℕ) → Weight o g → ((a b : ℕ) → g a b ≤ 2) → Disjoint n rs → (most t : ℕ) → t < 2 ^ n → n ≤ most
+      → addedBy m v w r t ≤ 2 ^ most * 2
+  cubes-small o q k d most t h l = omega (arith, cubes-added t, added-small o n rs t d h g q 2 k, pow-mono l)
 
 -- ---- the sum as a loop over the cubes has it
 

@@ -12,6 +12,7 @@ ghost use Rattle.row_work.specs.Method.{MethodDone};
 pub fn method_rows(
     n: usize,
     k: usize,
+    block_type: usize,
     w: usize,
     masks: &[u32],
     values: &[u32],
@@ -25,11 +26,12 @@ pub fn method_rows(
 ) -> RowMethodAnswer
     requires { ⌜ (short ≡ false → n ≤ listInputs → (n ≤ length (now basis)) × (n ≤ length (now sigma))
         × (smallerRows ≤ length (now «out_masks»)) × (smallerRows ≤ length (now «out_values»)) × (smallerRows ≤ length (now «out_words»))) ⌝ }
-    ensures { λ r. ⌜ MethodDone n k w (rowsOf (now (masks .entry)) (now (values .entry)) (now (words .entry))) short
+    ensures { λ r. ⌜ MethodDone n k «block_type» w (rowsOf (now (masks .entry)) (now (values .entry)) (now (words .entry))) short
         (now (basis .entry)) (now (sigma .entry)) (now («out_masks» .entry)) (now («out_values» .entry)) (now («out_words» .entry))
         (now (basis .exit)) (now (sigma .exit)) (now («out_masks» .exit)) (now («out_values» .exit)) (now («out_words» .exit)) r ⌝ }
 {
-    let v = row_checks::method_checked(n, k, w, masks, values, words, short);
+    let missing = shared_checks::missing_word(block_type);
+    let v = row_checks::method_checked(n, k, block_type, w, masks, values, words, short);
     if v.number != 0 {
         return RowMethodAnswer {
             number: v.number,
@@ -46,6 +48,7 @@ pub fn method_rows(
         masks,
         values,
         words,
+        missing,
         basis,
         sigma,
         out_masks,

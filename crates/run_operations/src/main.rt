@@ -1,13 +1,14 @@
 // Cases of the operations on tables and lists, run: the arguments are files of data/, one case to a line with the answer due (crate
 // case_lines has the form). A case that is answered otherwise is said with what was answered; at the end stands how many were as due.
-// operations.txt and the two of the order come from a program of another hand, ranges.txt has 01's and 02's blocks to try by hand and
-// the ends of each range.
+// operations.txt, the two of the order and the two of the types come from a program of another hand, ranges.txt has 01's and 02's blocks
+// to try by hand and the ends of each range. (type_texts.txt has cases of reading, writing and the sheet, which the tests from outside run.)
+use case_lines::Given;
 use case_lines::HELD;
 use case_lines::HELD_ENTRY;
 use case_lines::NUMBERS;
 use case_lines::Part;
 use case_lines::ROWS;
-use case_lines::Three;
+use case_lines::Rooms;
 use case_lines::entries;
 use case_lines::every;
 use case_lines::put;
@@ -15,8 +16,9 @@ use case_lines::put_answer;
 use case_lines::put_list;
 use case_lines::put_rows;
 use case_lines::put_table;
+use case_lines::read_given;
 use case_lines::read_numbers;
-use case_lines::read_three;
+use case_lines::read_rooms;
 use libc::STDOUT_FILENO;
 use saying::is_same;
 use saying::part16;
@@ -59,19 +61,19 @@ fn put_matrices(
     put_list(got, a, sigma, n)
 }
 
-// table_value n k t TABLE => N A B value
-fn table_value(h: Three, numbers: &[u64; NUMBERS], count: usize, got: &mut [u64; NUMBERS]) -> usize
+// table_value n k TYPE t TABLE => N A B value
+fn table_value(h: Given, numbers: &[u64; NUMBERS], count: usize, got: &mut [u64; NUMBERS]) -> usize
     requires { ⌜ count ≤ numbersMost ⌝ }
     ensures { λ r. ⌜ r ≤ numbersMost ⌝ }
 {
     let table = entries(numbers, count);
-    let r = tables::table_value(h.first, h.second, h.third, part16(&table, count));
+    let r = tables::table_value(h.n, h.k, h.block_type, h.last, part16(&table, count));
     let a = put_answer(got, r.number, r.a, r.b);
     put(got, a, r.value)
 }
 
-// row_value n k t ROWS => N A B value
-fn row_value(h: Three, numbers: &[u64; NUMBERS], count: usize, got: &mut [u64; NUMBERS]) -> usize
+// row_value n k TYPE t ROWS => N A B value
+fn row_value(h: Given, numbers: &[u64; NUMBERS], count: usize, got: &mut [u64; NUMBERS]) -> usize
     requires { ⌜ count ≤ numbersMost ⌝ }
     ensures { λ r. ⌜ r ≤ numbersMost ⌝ }
 {
@@ -79,9 +81,10 @@ fn row_value(h: Three, numbers: &[u64; NUMBERS], count: usize, got: &mut [u64; N
     let values = every(numbers, count, 1, 3);
     let words = every(numbers, count, 2, 3);
     let r = lists::row_value(
-        h.first,
-        h.second,
-        h.third,
+        h.n,
+        h.k,
+        h.block_type,
+        h.last,
         part32(&masks, count / 3),
         part32(&values, count / 3),
         part32(&words, count / 3),
@@ -90,8 +93,8 @@ fn row_value(h: Three, numbers: &[u64; NUMBERS], count: usize, got: &mut [u64; N
     put(got, a, r.value)
 }
 
-// fill n k ROOM ROWS => N A B TABLE
-fn fill(h: Three, numbers: &[u64; NUMBERS], count: usize, got: &mut [u64; NUMBERS]) -> usize
+// fill n k TYPE ROOM ROWS => N A B TABLE
+fn fill(h: Given, numbers: &[u64; NUMBERS], count: usize, got: &mut [u64; NUMBERS]) -> usize
     requires { ⌜ count ≤ numbersMost ⌝ }
     ensures { λ r. ⌜ r ≤ numbersMost ⌝ }
 {
@@ -100,21 +103,22 @@ fn fill(h: Three, numbers: &[u64; NUMBERS], count: usize, got: &mut [u64; NUMBER
     let words = every(numbers, count, 2, 3);
     let mut table = [HELD_ENTRY; NUMBERS];
     let r = lists::fill_table(
-        h.first,
-        h.second,
+        h.n,
+        h.k,
+        h.block_type,
         part32(&masks, count / 3),
         part32(&values, count / 3),
         part32(&words, count / 3),
-        room16(&mut table, h.third),
+        room16(&mut table, h.last),
     );
     let a = put_answer(got, r.number, r.a, r.b);
-    put_table(got, a, &table, result_size(r.number, points(h.first)))
+    put_table(got, a, &table, result_size(r.number, points(h.n)))
 }
 
-// table_method n k w ROOM_TABLE ROOM_T ROOM_SIGMA TABLE => N A B before after T SIGMA SMALLER_TABLE
+// table_method n k TYPE w ROOM_TABLE ROOM_T ROOM_SIGMA TABLE => N A B before after T SIGMA SMALLER_TABLE
 fn table_method(
-    h: Three,
-    rooms: Three,
+    h: Given,
+    rooms: Rooms,
     numbers: &[u64; NUMBERS],
     count: usize,
     got: &mut [u64; NUMBERS],
@@ -127,25 +131,26 @@ fn table_method(
     let mut sigma = [HELD; ROWS];
     let mut smaller = [HELD_ENTRY; NUMBERS];
     let r = tables::table_method(
-        h.first,
-        h.second,
-        h.third,
+        h.n,
+        h.k,
+        h.block_type,
+        h.last,
         part16(&table, count),
-        room32(&mut basis, rooms.second),
-        room32(&mut sigma, rooms.third),
-        room16(&mut smaller, rooms.first),
+        room32(&mut basis, rooms.basis),
+        room32(&mut sigma, rooms.sigma),
+        room16(&mut smaller, rooms.smaller),
     );
     let a = put_answer(got, r.number, r.a, r.b);
     let b = put(got, a, r.before);
     let c = put(got, b, r.after);
-    let d = put_matrices(got, c, &basis, &sigma, result_size(r.number, h.first));
-    put_table(got, d, &smaller, result_size(r.number, points(h.first)))
+    let d = put_matrices(got, c, &basis, &sigma, result_size(r.number, h.n));
+    put_table(got, d, &smaller, result_size(r.number, points(h.n)))
 }
 
-// row_method n k w ROOM_ROWS ROOM_T ROOM_SIGMA ROWS => N A B before after count T SIGMA SMALLER_ROWS
+// row_method n k TYPE w ROOM_ROWS ROOM_T ROOM_SIGMA ROWS => N A B before after count T SIGMA SMALLER_ROWS
 fn row_method(
-    h: Three,
-    rooms: Three,
+    h: Given,
+    rooms: Rooms,
     numbers: &[u64; NUMBERS],
     count: usize,
     got: &mut [u64; NUMBERS],
@@ -162,29 +167,30 @@ fn row_method(
     let mut new_values = [HELD; ROWS];
     let mut new_words = [HELD; ROWS];
     let r = lists::row_method(
-        h.first,
-        h.second,
-        h.third,
+        h.n,
+        h.k,
+        h.block_type,
+        h.last,
         part32(&masks, count / 3),
         part32(&values, count / 3),
         part32(&words, count / 3),
-        room32(&mut basis, rooms.second),
-        room32(&mut sigma, rooms.third),
-        room32(&mut new_masks, rooms.first),
-        room32(&mut new_values, rooms.first),
-        room32(&mut new_words, rooms.first),
+        room32(&mut basis, rooms.basis),
+        room32(&mut sigma, rooms.sigma),
+        room32(&mut new_masks, rooms.smaller),
+        room32(&mut new_values, rooms.smaller),
+        room32(&mut new_words, rooms.smaller),
     );
     let a = put_answer(got, r.number, r.a, r.b);
     let b = put(got, a, r.before);
     let c = put(got, b, r.after);
     let d = put(got, c, r.count as u64);
-    let e = put_matrices(got, d, &basis, &sigma, result_size(r.number, h.first));
+    let e = put_matrices(got, d, &basis, &sigma, result_size(r.number, h.n));
     put_rows(got, e, &new_masks, &new_values, &new_words, r.count)
 }
 
-// restore n k ROOM SIGMA SMALLER_TABLE => N A B TABLE
+// restore n k TYPE ROOM SIGMA SMALLER_TABLE => N A B TABLE
 fn restore(
-    h: Three,
+    h: Given,
     sigma: &[u32; ROWS],
     rows: usize,
     numbers: &[u64; NUMBERS],
@@ -197,20 +203,21 @@ fn restore(
     let smaller = entries(numbers, count);
     let mut table = [HELD_ENTRY; NUMBERS];
     let r = tables::restore_table(
-        h.first,
-        h.second,
+        h.n,
+        h.k,
+        h.block_type,
         part32(sigma, rows),
         part16(&smaller, count),
-        room16(&mut table, h.third),
+        room16(&mut table, h.last),
     );
     let a = put_answer(got, r.number, r.a, r.b);
-    put_table(got, a, &table, result_size(r.number, points(h.first)))
+    put_table(got, a, &table, result_size(r.number, points(h.n)))
 }
 
 // Runs the operation of a name on one list: nothing for a name that is none.
 fn run_list(
     name: &[u8],
-    h: Three,
+    h: Given,
     numbers: &[u64; NUMBERS],
     count: usize,
     got: &mut [u64; NUMBERS],
@@ -231,11 +238,11 @@ fn run_list(
 }
 
 // Reads the rooms and the list of a method, and runs it.
-fn run_method(name: &[u8], h: Three, text: &[u8], got: &mut [u64; NUMBERS]) -> Part
+fn run_method(name: &[u8], h: Given, text: &[u8], got: &mut [u64; NUMBERS]) -> Part
     requires { ⌜ h .next ≤ length (now text) ⌝ }
     ensures { λ r. ⌜ (r .next ≤ length (now (text .entry))) × (r .count ≤ numbersMost) ⌝ }
 {
-    let rooms = read_three(text, h.next);
+    let rooms = read_rooms(text, h.next);
     let mut numbers = [0u64; NUMBERS];
     let list = read_numbers(text, rooms.next, b' ', &mut numbers);
     let next = list.next;
@@ -248,7 +255,7 @@ fn run_method(name: &[u8], h: Three, text: &[u8], got: &mut [u64; NUMBERS]) -> P
 }
 
 // Reads the matrix and the table of a restoring, and runs it.
-fn run_restore(h: Three, text: &[u8], got: &mut [u64; NUMBERS]) -> Part
+fn run_restore(h: Given, text: &[u8], got: &mut [u64; NUMBERS]) -> Part
     requires { ⌜ h .next ≤ length (now text) ⌝ }
     ensures { λ r. ⌜ (r .next ≤ length (now (text .entry))) × (r .count ≤ numbersMost) ⌝ }
 {
@@ -266,7 +273,7 @@ fn run(name: &[u8], text: &[u8], at: usize, got: &mut [u64; NUMBERS]) -> Part
     requires { ⌜ at ≤ length (now text) ⌝ }
     ensures { λ r. ⌜ (r .next ≤ length (now (text .entry))) × (r .count ≤ numbersMost) ⌝ }
 {
-    let h = read_three(text, at);
+    let h = read_given(text, at);
     if is_same(name, b"row_method") || is_same(name, b"table_method") {
         return run_method(name, h, text, got);
     }
@@ -278,17 +285,6 @@ fn run(name: &[u8], text: &[u8], at: usize, got: &mut [u64; NUMBERS]) -> Part
     let next = list.next;
     let count = run_list(name, h, &numbers, list.count, got);
     Part { count, next }
-}
-
-// The place after the name of a line's operation.
-fn after_name(line: &[u8], stop: usize) -> usize
-    requires { ⌜ stop ≤ length (now line) ⌝ }
-    ensures { λ r. ⌜ r ≤ length (now (line .entry)) ⌝ }
-{
-    if stop < line.len() {
-        return stop + 1;
-    }
-    stop
 }
 
 // Says what a case was answered.
@@ -307,7 +303,12 @@ fn compare(line: &[u8]) -> usize
 {
     let stop = case_lines::word_end(line, 0);
     let mut got = [0u64; NUMBERS];
-    let answered = run(&line[..stop], line, after_name(line, stop), &mut got);
+    let answered = run(
+        &line[..stop],
+        line,
+        case_lines::after_word(line, stop),
+        &mut got,
+    );
     let mut due = [0u64; NUMBERS];
     let expected = read_numbers(line, answered.next, b'\n', &mut due);
     if case_lines::is_equal(&got, answered.count, &due, expected.count) {

@@ -1,2 +1,2 @@
--- What the checks that every operation begins with say where they pass.
+-- What the checks that every operation but reading begins with say where they pass, and what holds of the word of a missing point.
 pub mod Sizes

@@ -1,13 +1,15 @@
--- What checks that pass say: of a number in its range, of lent rooms that are long enough, and of n and k. Assumes nothing.
+-- What checks that pass say: of a number in its range, of lent rooms that are long enough, and of n, k and the type; and what
+-- holds of the word of a missing point whatever the type. Assumes nothing.
 use mathlib.Core.Path.{_≡_, refl}
-use mathlib.Core.Bool.{Bool, true, false, _||_}
+use mathlib.Core.Bool.{Bool, true, false, cond, _||_}
 use mathlib.Core.List.{List, []}
 use Prim.Native.Nat.{ℕ, _≤_}
 use native.Mathlib.Omega.{arith}
 use borrow.Author.Tests.{le-ltb, ltb-false}
-use lib.Dec.{ltb}
+use lib.Dec.{eqb, ltb}
 use Rattle.block.specs.Limits.{outputs}
-use Rattle.block.specs.Refusals.{Check, verdict, outside, sizeChecks}
+use Rattle.block.specs.Words.{none, fr, fd, missing}
+use Rattle.block.specs.Refusals.{Check, verdict, outside, typedChecks}
 use Rattle.block.specs.declared.Answer.{Answer}
 use Rattle.refusal_laws.specs.Verdicts.{zero-too, passes, Asked}
 
@@ -40,19 +42,28 @@ long-enough n most roomT roomSigma room h =
       ltb-false room most (or-right (ltb roomSigma n) (ltb room most) rest),
     )
 
--- sizes that pass, before checks that pass
-pub sizes-pass : (most n k : ℕ) (cs : List Check) → verdict (sizeChecks most n k cs) .number ≡ 0
-    → (((1 ≤ n) × (n ≤ most)) × ((1 ≤ k) × (k ≤ outputs))) × (verdict cs .number ≡ 0)
-sizes-pass most n k cs h =
+-- sizes and a type that pass, before checks that pass
+pub sizes-pass : (most n k y : ℕ) (cs : List Check) → verdict (typedChecks most n k y cs) .number ≡ 0
+    → (((1 ≤ n) × (n ≤ most)) × ((1 ≤ k) × (k ≤ outputs)) × ((fr ≤ y) × (y ≤ fd))) × (verdict cs .number ≡ 0)
+sizes-pass most n k y cs h =
     let one = passes _ _ refl h in
     let two = passes _ _ refl (one .1) in
-    ((inside 1 most n (one .0), inside 1 outputs k (two .0)), two .1)
+    let three = passes _ _ refl (two .1) in
+    ((inside 1 most n (one .0), inside 1 outputs k (two .0), inside fr fd y (three .0)), three .1)
 
--- the sizes, as the first checks that are asked
-pub asked-sizes : (most n k : ℕ) (v : Answer) → v ≡ verdict (sizeChecks most n k []) → Asked (sizeChecks most n k []) v
-asked-sizes most n k v e = record { numbered = (refl, (refl, tt)); told = e }
+-- the sizes and the type, as the first checks that are asked
+pub asked-sizes : (most n k y : ℕ) (v : Answer) → v ≡ verdict (typedChecks most n k y []) → Asked (typedChecks most n k y []) v
+asked-sizes most n k y v e = record { numbered = (refl, (refl, (refl, tt))); told = e }
 
--- sizes that pass
-pub sized : (most n k : ℕ) (v : Answer) → v ≡ verdict (sizeChecks most n k []) → v .number ≡ 0
-    → ((1 ≤ n) × (n ≤ most)) × ((1 ≤ k) × (k ≤ outputs))
-sized most n k v e h = sizes-pass most n k [] (zero-too e h) .0
+-- sizes and a type that pass
+pub sized : (most n k y : ℕ) (v : Answer) → v ≡ verdict (typedChecks most n k y []) → v .number ≡ 0
+    → ((1 ≤ n) × (n ≤ most)) × ((1 ≤ k) × (k ≤ outputs)) × ((fr ≤ y) × (y ≤ fd))
+sized most n k y v e h = sizes-pass most n k y [] (zero-too e h) .0
+
+-- what holds of no output and of word 0 holds of the word of a missing point
+pub either-word : (P : ℕ → Type 0) → P none → P 0 → (y : ℕ) → P (missing y)
+either-word P a b y = go (eqb y fr)
+  where
+    go : (c : Bool) → P (cond c none 0)
+    go true = a
+    go false = b

@@ -1,6 +1,8 @@
 // An answer made of one check, a check after an earlier answer, and the checks that several operations share: ranges, lent room, and the
-// two that every operation begins with. Every function here is inner.
+// three that every operation but reading begins with; and what a type makes of a missing point. Every function here is inner.
 use block::Answer;
+use block::FD;
+use block::FR;
 use block::LIST_INPUTS;
 use block::OUTPUTS;
 ghost use mathlib.Core.Path.{_≡_};
@@ -9,7 +11,8 @@ ghost use mathlib.Core.List.{[], _∷_};
 ghost use Prim.Native.Nat.{_≤_, _^_};
 ghost use lib.Dec.{ltb};
 ghost use Rattle.block.specs.Limits.{listInputs};
-ghost use Rattle.block.specs.Refusals.{answer, check, verdict, andThen, outside, sizeChecks};
+ghost use Rattle.block.specs.Words.{missing};
+ghost use Rattle.block.specs.Refusals.{answer, check, verdict, andThen, outside, typedChecks};
 
 pub fn refuse(number: u32, a: usize, b: usize) -> Answer
     ensures { λ r. ⌜ r ≡ answer number a b ⌝ }
@@ -70,10 +73,18 @@ pub fn is_short(n: usize, room_t: usize, room_sigma: usize, most: usize, room: u
     room < most
 }
 
-// 1 and 2, with which every operation begins: n from 1 to most, k from 1 to 15.
-pub fn sizes(most: usize, n: usize, k: usize) -> Answer
-    ensures { λ r. ⌜ r ≡ verdict (sizeChecks most n k []) ⌝ }
+// 1, 2 and 3 of the type, with which every operation but reading begins: n from 1 to most, k from 1 to 15, and a number that is a type.
+pub fn sizes(most: usize, n: usize, k: usize, block_type: usize) -> Answer
+    ensures { λ r. ⌜ r ≡ verdict (typedChecks most n k «block_type» []) ⌝ }
 {
     let inputs = refuse_where(is_outside(1, most, n), 1, 0, 0);
-    then_where(inputs, is_outside(1, OUTPUTS, k), 2, 0, 0)
+    let columns = then_where(inputs, is_outside(1, OUTPUTS, k), 2, 0, 0);
+    then_where(columns, is_outside(FR, FD, block_type), 3, 0, 0)
+}
+
+// The word of a missing point: no output for type fr, word 0 for type fd. Another number, which the sizes refuse, has 0 too.
+pub fn missing_word(block_type: usize) -> u32
+    ensures { λ r. ⌜ r ≡ missing «block_type» ⌝ }
+{
+    if block_type == FR { 65535 } else { 0 }
 }

@@ -7,7 +7,7 @@ use native.Mathlib.Omega.{arith}
 use lib.Dec.{ltb}
 use Rattle.slices.specs.Places.{at}
 use Rattle.block.specs.Limits.{listInputs, sheetRoom}
-use Rattle.block.specs.Words.{ofRows}
+use Rattle.block.specs.Words.{missing, ofRows}
 use Rattle.block.specs.Measure.{measure}
 use Rattle.block.specs.Basis.{columns, apply, basisOf, sigmaOf, smallerOf}
 use Rattle.block.specs.Lists.{smallerList}
@@ -24,33 +24,33 @@ use Rattle.demands.specs.Matrix.{sigma-lt, sigma-after-basis, basis-after-sigma
 use Rattle.sheet_laws.specs.Said.{Writable, said-written}
 use Rattle.sheet_work.specs.Made.{measure-le}
 
--- what a sheet says tells the block of the list rs, of n inputs and k outputs, worked out with weight limit w
-pub record Tells (n k w : ℕ) (rs : List Row) (s : Said) : Type 0 where
+-- what a sheet says tells the block of the list rs, of n inputs, k outputs and type y, worked out with weight limit w
+pub record Tells (n k y w : ℕ) (rs : List Row) (s : Said) : Type 0 where
   pub inputs : s .inputs ≡ n
   pub outputs : s .outputs ≡ k
   pub weight : s .weight ≡ w
-  -- the word of the list at x is the word of the sheet's rows at the sheet's sigma applied to x
-  pub block : (x : ℕ) → x < 2 ^ n → ofRows (s .rows) (apply (at (s .sigma)) n x) ≡ ofRows rs x
+  -- the word of the list at x is the word of the sheet's rows, of the same type, at the sheet's sigma applied to x
+  pub block : (x : ℕ) → x < 2 ^ n → ofRows (missing y) (s .rows) (apply (at (s .sigma)) n x) ≡ ofRows (missing y) rs x
   -- no two of the sheet's rows share a point
   pub apart : Apart n (s .rows)
   -- T and sigma are inverse to each other
   pub sigma-basis : (z : ℕ) → z < 2 ^ n → apply (at (s .sigma)) n (columns (at (s .basis)) n z) ≡ z
   pub basis-sigma : (x : ℕ) → x < 2 ^ n → columns (at (s .basis)) n (apply (at (s .sigma)) n x) ≡ x
   -- the two measures are those of the two blocks
-  pub first-measure : s .earlier ≡ measure (ofRows rs) n
-  pub second-measure : s .later ≡ measure (ofRows (s .rows)) n
+  pub first-measure : s .earlier ≡ measure (ofRows (missing y) rs) n
+  pub second-measure : s .later ≡ measure (ofRows (missing y) (s .rows)) n
 
 -- these bytes, read as a sheet, tell it
-abbrev pub TellsBlock : ℕ → ℕ → ℕ → List Row → List ℕ → Type 0
-TellsBlock n k w rs bytes = Tells n k w rs (said bytes)
+abbrev pub TellsBlock : ℕ → ℕ → ℕ → ℕ → List Row → List ℕ → Type 0
+TellsBlock n k y w rs bytes = Tells n k y w rs (said bytes)
 
-module _ (n k w : ℕ) (rs : List Row) (room : ℕ) (answers : sheetVerdict n k w rs room .number ≡ 0) where
+module _ (n k y w : ℕ) (rs : List Row) (room : ℕ) (answers : sheetVerdict n k y w rs room .number ≡ 0) where
   abbrev f : ℕ → ℕ
-  f = ofRows rs
+  f = ofRows (missing y) rs
 
-  method : MethodAnswered n k w rs (ltb room sheetRoom)
+  method : MethodAnswered n k y w rs (ltb room sheetRoom)
   unfolding sheetVerdict
-  method = method-answered n k w rs (ltb room sheetRoom) answers
+  method = method-answered n k y w rs (ltb room sheetRoom) answers
 
   hw : 1 ≤ w
   hw = method .passed .weight .0
@@ -58,7 +58,7 @@ module _ (n k w : ℕ) (rs : List Row) (room : ℕ) (answers : sheetVerdict n k 
   inputs-le : n ≤ listInputs
   inputs-le = method .passed .list .range .size .1
 
-  writable : Writable n k w (measure f n) (measure (smallerOf f n w) n) (basisOf f n w) (sigmaOf f n w) (smallerList n w rs)
+  writable : Writable n k w (measure f n) (measure (smallerOf f n w) n) (basisOf f n w) (sigmaOf f n w) (smallerList (missing y) n w rs)
   writable =
       record {
         sizes = (
@@ -73,11 +73,11 @@ module _ (n k w : ℕ) (rs : List Row) (room : ℕ) (answers : sheetVerdict n k 
         basis = (length-basis f n w, basis-independent f n w hw .below);
         sigma = (length-sigma f n w, sigma-lt f n w hw);
         count = omega (arith, method .few);
-        rows = smaller-good n w hw rs k (method .passed .list .good);
+        rows = smaller-good (missing y) n w hw rs k (method .passed .list .good);
       }
 
   -- what the sheet says
-  pub sheet-said : said (sheetText n k w rs)
+  pub sheet-said : said (sheetText (missing y) n k w rs)
       ≡ record {
         inputs = n;
         outputs = k;
@@ -86,12 +86,12 @@ module _ (n k w : ℕ) (rs : List Row) (room : ℕ) (answers : sheetVerdict n k 
         later = measure (smallerOf f n w) n;
         basis = basisOf f n w;
         sigma = sigmaOf f n w;
-        rows = smallerList n w rs;
+        rows = smallerList (missing y) n w rs;
       }
   unfolding sheetText
-  sheet-said = said-written n k w _ _ (basisOf f n w) (sigmaOf f n w) (smallerList n w rs) writable
+  sheet-said = said-written n k w _ _ (basisOf f n w) (sigmaOf f n w) (smallerList (missing y) n w rs) writable
 
-  pub sheet-tells : TellsBlock n k w rs (sheetText n k w rs)
+  pub sheet-tells : TellsBlock n k y w rs (sheetText (missing y) n k w rs)
   sheet-tells =
       let sound = method .passed .list .disjoint .sound in
       rw sheet-said
@@ -99,10 +99,10 @@ module _ (n k w : ℕ) (rs : List Row) (room : ℕ) (answers : sheetVerdict n k 
         inputs = refl;
         outputs = refl;
         weight = refl;
-        block = smaller-word n w hw rs sound;
-        apart = smaller-disjoint n w hw rs (method .passed .list .disjoint) .apart;
+        block = smaller-word (missing y) n w hw rs sound;
+        apart = smaller-disjoint (missing y) n w hw rs (method .passed .list .disjoint) .apart;
         sigma-basis = sigma-after-basis f n w hw;
         basis-sigma = basis-after-sigma f n w hw;
         first-measure = refl;
-        second-measure = measure-points _ _ n (λ z l. sym (smaller-rows n w hw rs sound z l));
+        second-measure = measure-points _ _ n (λ z l. sym (smaller-rows (missing y) n w hw rs sound z l));
       })

@@ -9,7 +9,8 @@ use lib.ListN.{length, take, drop, length-take}
 use lib.Seq.{take-at, take-all}
 use Rattle.slices.specs.Places.{at, over}
 use Rattle.block.specs.Limits.{readBytes, givenRows, sheetRoom}
-use Rattle.block.specs.Text.{textOf, readVerdict, inputsIn, outputsIn, rowsIn}
+use Rattle.block.specs.Words.{missing}
+use Rattle.block.specs.Text.{textOf, readVerdict, inputsIn, outputsIn, typeIn, typeLineIn, rowsIn}
 use Rattle.block.specs.Sheet.{sheetText, sheetVerdict, sheet, printed}
 use Rattle.block.specs.declared.Row.{Row}
 use Rattle.block.specs.declared.Answer.{Answer}
@@ -30,22 +31,22 @@ use Rattle.sheet_theorems.specs.Printed.{PrintsOne, printed-one}
 front : (s l l′ : List ℕ) (count : ℕ) → l′ ≡ over s l → count ≡ length s → take count l′ ≡ s
 front s l l′ count e c = ap (take count) e ∙ take-at s (drop (length s) l) count (sym c)
 
-pub sheet-block : (n k w : ℕ) (rs : List Row) (out₀ : List ℕ) (r : TextAnswer) (out₁ : List ℕ) → SheetPromise n k w rs out₀ r out₁
-    → r .number ≡ 0 → TellsBlock n k w rs (take (r .count) out₁)
+pub sheet-block : (n k y w : ℕ) (rs : List Row) (out₀ : List ℕ) (r : TextAnswer) (out₁ : List ℕ) → SheetPromise n k y w rs out₀ r out₁
+    → r .number ≡ 0 → TellsBlock n k y w rs (take (r .count) out₁)
 unfolding sheet
-sheet-block n k w rs out₀ r out₁ p h =
-    let v : Answer = sheetVerdict n k w rs (length out₀) in
-    let z : sheetVerdict n k w rs (length out₀) .number ≡ 0 = sym (ap (λ (x : TextAnswer). x .number) (p .answer)) ∙ h in
-    let c : r .count ≡ length (sheetText n k w rs) = ap (λ (x : TextAnswer). x .count) (p .answer) ∙ carried-yes v (length (sheetText n k w rs)) z in
-    rw (front (sheetText n k w rs) out₀ out₁ (r .count) (p .text ∙ stored-yes v (sheetText n k w rs) out₀ z) c)
-    (sheet-tells n k w rs (length out₀) z)
+sheet-block n k y w rs out₀ r out₁ p h =
+    let v : Answer = sheetVerdict n k y w rs (length out₀) in
+    let z : sheetVerdict n k y w rs (length out₀) .number ≡ 0 = sym (ap (λ (x : TextAnswer). x .number) (p .answer)) ∙ h in
+    let c : r .count ≡ length (sheetText (missing y) n k w rs) = ap (λ (x : TextAnswer). x .count) (p .answer) ∙ carried-yes v (length (sheetText (missing y) n k w rs)) z in
+    rw (front (sheetText (missing y) n k w rs) out₀ out₁ (r .count) (p .text ∙ stored-yes v (sheetText (missing y) n k w rs) out₀ z) c)
+    (sheet-tells n k y w rs (length out₀) z)
 
 -- ---- a text
 
--- the bytes tell the block of the rows that the text spells
+-- the bytes tell the block of the rows that the text spells, with the type that the text has
 pub record TellsText (text bytes : List ℕ) : Type 0 where
-  pub spelt : textOf (inputsIn text) (outputsIn text) (rowsIn text) ≡ text
-  pub block : TellsBlock (inputsIn text) (outputsIn text) (min 3 (inputsIn text)) (rowsIn text) bytes
+  pub spelt : textOf (inputsIn text) (outputsIn text) (typeIn text) (typeLineIn text) (rowsIn text) ≡ text
+  pub block : TellsBlock (inputsIn text) (outputsIn text) (typeIn text) (min 3 (inputsIn text)) (rowsIn text) bytes
 
 module _ (input : List ℕ) (answers : textVerdict input .number ≡ 0) where
   read-zero : readVerdict (take readBytes input) givenRows .number ≡ 0
@@ -67,8 +68,8 @@ module _ (input : List ℕ) (answers : textVerdict input .number ≡ 0) where
       record {
         spelt = rw whole at (read-written (take readBytes input) givenRows read-zero);
         block =
-            subst (λ (text : List ℕ). TellsBlock (inputsIn text) (outputsIn text) (min 3 (inputsIn text)) (rowsIn text) (sheetIn input)) whole
-            (sheet-tells _ _ _ _ sheetRoom (zero-too (verdict-sheet input read-zero) answers));
+            subst (λ (text : List ℕ). TellsBlock (inputsIn text) (outputsIn text) (typeIn text) (min 3 (inputsIn text)) (rowsIn text) (sheetIn input)) whole
+            (sheet-tells _ _ _ _ _ sheetRoom (zero-too (verdict-sheet input read-zero) answers));
       }
 
 -- the program

@@ -21,13 +21,13 @@ pub record PrintsOne (input bytes : List ℕ) : Type 0 where
   pub sheet : at bytes 0 ≡ 115 → (textVerdict input .number ≡ 0) × (bytes ≡ sheetIn input)
   pub refusal : at bytes 0 ≡ 114 → (textVerdict input .number ≡ 0 → ⊥) × (bytes ≡ refusalLine (textVerdict input))
 
-sheet-first : (n k w : ℕ) (rs : List Row) → at (sheetText n k w rs) 0 ≡ 115
+sheet-first : (m n k w : ℕ) (rs : List Row) → at (sheetText m n k w rs) 0 ≡ 115
 unfolding sheetText sheetOf section
-sheet-first n k w rs = refl
+sheet-first m n k w rs = refl
 
 input-first : (input : List ℕ) → at (sheetIn input) 0 ≡ 115
 unfolding sheetIn
-input-first input = sheet-first _ _ _ _
+input-first input = sheet-first _ _ _ _ _
 
 refusal-first : (v : Answer) → at (refusalLine v) 0 ≡ 114
 unfolding refusalLine

@@ -12,7 +12,7 @@ use lib.Pow.{pow-mono}
 use lib.Seq.{take-at}
 use Rattle.sums.specs.Laws.{sum-le}
 use Rattle.block.specs.Limits.{listInputs, smallerRows, sheetRoom}
-use Rattle.block.specs.Words.{ofRows}
+use Rattle.block.specs.Words.{missing, ofRows}
 use Rattle.block.specs.Measure.{shift, measure}
 use Rattle.block.specs.Basis.{basisOf, sigmaOf, smallerOf}
 use Rattle.block.specs.Refusals.{verdict, stored}
@@ -47,30 +47,30 @@ same-sheet n k w a b c d e = rw (a, b, c, d, e)
 
 -- ---- the answer
 
-module _ (n k w : ℕ) (rs : List Row) (l t s m v d t′ s′ m′ v′ d′ : List ℕ) (r : RowMethodAnswer)
-    (g : MethodDone n k w rs (ltb (length l) sheetRoom) t s m v d t′ s′ m′ v′ d′ r) where
+module _ (n k y w : ℕ) (rs : List Row) (l t s m v d t′ s′ m′ v′ d′ : List ℕ) (r : RowMethodAnswer)
+    (g : MethodDone n k y w rs (ltb (length l) sheetRoom) t s m v d t′ s′ m′ v′ d′ r) where
   abbrev u : Answer
-  u = verdict (methodChecks n k w rs (ltb (length l) sheetRoom))
+  u = verdict (methodChecks n k y w rs (ltb (length l) sheetRoom))
 
   number-same : r .number ≡ u .number
   number-same = ap (λ (x : RowMethodAnswer). x .number) (g .answers)
 
   -- a refusal
   pub sheet-refused : (r .number ≡ 0 → ⊥)
-      → (record { number = r .number; a = r .a; b = r .b; before = 0; after = 0; rows = 0; count = 0 } ≡ sheetWork n k w rs (length l))
-      × (l ≡ stored (sheetVerdict n k w rs (length l)) (sheetText n k w rs) l)
+      → (record { number = r .number; a = r .a; b = r .b; before = 0; after = 0; rows = 0; count = 0 } ≡ sheetWork n k y w rs (length l))
+      × (l ≡ stored (sheetVerdict n k y w rs (length l)) (sheetText (missing y) n k w rs) l)
   unfolding sheetWork sheetVerdict
   sheet-refused h =
       let z : u .number ≡ 0 → ⊥ = λ e. h (number-same ∙ e) in
-      (rw (g .answers, ne-eqb (u .number) 0 z), sym (stored-no u (sheetText n k w rs) l z))
+      (rw (g .answers, ne-eqb (u .number) 0 z), sym (stored-no u (sheetText (missing y) n k w rs) l z))
 
   module _ (h : r .number ≡ 0) where
     zero : u .number ≡ 0
     zero = sym number-same ∙ h
 
     -- what the answer of 0 says of the list
-    pub sheet-ready : MethodAnswered n k w rs (ltb (length l) sheetRoom)
-    sheet-ready = method-answered n k w rs (ltb (length l) sheetRoom) zero
+    pub sheet-ready : MethodAnswered n k y w rs (ltb (length l) sheetRoom)
+    sheet-ready = method-answered n k y w rs (ltb (length l) sheetRoom) zero
 
     inputs : n ≤ listInputs
     inputs = sheet-ready .passed .list .range .size .1
@@ -78,43 +78,43 @@ module _ (n k w : ℕ) (rs : List Row) (l t s m v d t′ s′ m′ v′ d′ : L
     pub sheet-enough : sheetRoom ≤ length l
     sheet-enough = ltb-false (length l) sheetRoom (sheet-ready .passed .room)
 
-    earlier : r .before ≡ measure (ofRows rs) n
-    earlier = ap (λ (x : RowMethodAnswer). x .before) (g .answers) ∙ carried-yes u (measure (ofRows rs) n) zero
+    earlier : r .before ≡ measure (ofRows (missing y) rs) n
+    earlier = ap (λ (x : RowMethodAnswer). x .before) (g .answers) ∙ carried-yes u (measure (ofRows (missing y) rs) n) zero
 
-    later : r .after ≡ measure (smallerOf (ofRows rs) n w) n
-    later = ap (λ (x : RowMethodAnswer). x .after) (g .answers) ∙ carried-yes u (measure (smallerOf (ofRows rs) n w) n) zero
+    later : r .after ≡ measure (smallerOf (ofRows (missing y) rs) n w) n
+    later = ap (λ (x : RowMethodAnswer). x .after) (g .answers) ∙ carried-yes u (measure (smallerOf (ofRows (missing y) rs) n w) n) zero
 
-    counted : r .count ≡ length (smallerList n w rs)
-    counted = ap (λ (x : RowMethodAnswer). x .count) (g .answers) ∙ carried-yes u (length (smallerList n w rs)) zero
+    counted : r .count ≡ length (smallerList (missing y) n w rs)
+    counted = ap (λ (x : RowMethodAnswer). x .count) (g .answers) ∙ carried-yes u (length (smallerList (missing y) n w rs)) zero
 
-    front : (x y y′ : List ℕ) → y′ ≡ stored u x y → length x ≡ n → take n y′ ≡ x
-    front x y y′ e f = ap (take n) (e ∙ stored-yes u x y zero) ∙ take-at x (drop (length x) y) n f
+    front : (x p p′ : List ℕ) → p′ ≡ stored u x p → length x ≡ n → take n p′ ≡ x
+    front x p p′ e f = ap (take n) (e ∙ stored-yes u x p zero) ∙ take-at x (drop (length x) p) n f
 
-    text : sheetOf n k w (r .before) (r .after) (take n t′) (take n s′) (rowsFrom (r .count) m′ v′ d′) ≡ sheetText n k w rs
+    text : sheetOf n k w (r .before) (r .after) (take n t′) (take n s′) (rowsFrom (r .count) m′ v′ d′) ≡ sheetText (missing y) n k w rs
     unfolding sheetText
     text =
         same-sheet n k w earlier later
-        (front (basisOf (ofRows rs) n w) t t′ (g .basis) (length-basis (ofRows rs) n w))
-        (front (sigmaOf (ofRows rs) n w) s s′ (g .sigma) (length-sigma (ofRows rs) n w))
+        (front (basisOf (ofRows (missing y) rs) n w) t t′ (g .basis) (length-basis (ofRows (missing y) rs) n w))
+        (front (sigmaOf (ofRows (missing y) rs) n w) s s′ (g .sigma) (length-sigma (ofRows (missing y) rs) n w))
         (rows-put (r .count) counted
         (record {
-          masks = g .masks ∙ stored-yes u (map (λ (r : Row). r .mask) (smallerList n w rs)) m zero;
-          values = g .values ∙ stored-yes u (map (λ (r : Row). r .values) (smallerList n w rs)) v zero;
-          words = g .words ∙ stored-yes u (map (λ (r : Row). r .word) (smallerList n w rs)) d zero;
+          masks = g .masks ∙ stored-yes u (map (λ (r : Row). r .mask) (smallerList (missing y) n w rs)) m zero;
+          values = g .values ∙ stored-yes u (map (λ (r : Row). r .values) (smallerList (missing y) n w rs)) v zero;
+          words = g .words ∙ stored-yes u (map (λ (r : Row). r .word) (smallerList (missing y) n w rs)) d zero;
         }))
 
-    text-le : length (sheetText n k w rs) ≤ length l
+    text-le : length (sheetText (missing y) n k w rs) ≤ length l
     unfolding sheetText
     text-le =
         omega (
           arith,
-          sheet-le n k w _ _ (basisOf (ofRows rs) n w) (sigmaOf (ofRows rs) n w) (smallerList n w rs) inputs
+          sheet-le n k w _ _ (basisOf (ofRows (missing y) rs) n w) (sigmaOf (ofRows (missing y) rs) n w) (smallerList (missing y) n w rs) inputs
               (sheet-ready .passed .list .range .columns .1)
               (omega (arith, inputs, sheet-ready .passed .weight .1))
-              (measure-le listInputs (ofRows rs) n inputs)
-              (measure-le listInputs (smallerOf (ofRows rs) n w) n inputs)
-              (length-basis (ofRows rs) n w)
-              (length-sigma (ofRows rs) n w)
+              (measure-le listInputs (ofRows (missing y) rs) n inputs)
+              (measure-le listInputs (smallerOf (ofRows (missing y) rs) n w) n inputs)
+              (length-basis (ofRows (missing y) rs) n w)
+              (length-sigma (ofRows (missing y) rs) n w)
               (sheet-ready .few),
           sheet-enough,
         )
@@ -126,11 +126,11 @@ module _ (n k w : ℕ) (rs : List Row) (l t s m v d t′ s′ m′ v′ d′ : L
     -- the sheet put from the storage is 01's
     pub sheet-answered : (l′ : List ℕ) (c : ℕ)
         → Put l 0 (sheetOf n k w (r .before) (r .after) (take n t′) (take n s′) (rowsFrom (r .count) m′ v′ d′)) l′ c
-        → (record { number = r .number; a = r .a; b = r .b; before = r .before; after = r .after; rows = r .count; count = c } ≡ sheetWork n k w rs (length l))
-        × (l′ ≡ stored (sheetVerdict n k w rs (length l)) (sheetText n k w rs) l)
+        → (record { number = r .number; a = r .a; b = r .b; before = r .before; after = r .after; rows = r .count; count = c } ≡ sheetWork n k y w rs (length l))
+        × (l′ ≡ stored (sheetVerdict n k y w rs (length l)) (sheetText (missing y) n k w rs) l)
     unfolding sheetWork sheetVerdict
     sheet-answered l′ c p =
-        let q : Put l 0 (sheetText n k w rs) l′ c = rw text at p in (
-          rw (g .answers, eq-eqb (u .number) 0 zero, q .place ∙ zero-add (length (sheetText n k w rs))),
-          put-over text-le q ∙ sym (stored-yes u (sheetText n k w rs) l zero),
+        let q : Put l 0 (sheetText (missing y) n k w rs) l′ c = rw text at p in (
+          rw (g .answers, eq-eqb (u .number) 0 zero, q .place ∙ zero-add (length (sheetText (missing y) n k w rs))),
+          put-over text-le q ∙ sym (stored-yes u (sheetText (missing y) n k w rs) l zero),
         )

@@ -3,7 +3,7 @@ use mathlib.Core.Path.{_≡_, ap}
 use mathlib.Core.List.{List}
 use Prim.Native.Nat.{ℕ}
 use lib.ListN.{length}
-use Rattle.block.specs.Words.{ofRows}
+use Rattle.block.specs.Words.{missing, ofRows}
 use Rattle.block.specs.Measure.{measure}
 use Rattle.block.specs.Basis.{smallerOf}
 use Rattle.block.specs.Refusals.{carried}
@@ -27,15 +27,15 @@ withSheet v x y c l =
       count = carried v l;
     }
 
--- the work of a list and a weight limit, with room for so many bytes (01, The sheet)
-unfoldable pub sheetWork : ℕ → ℕ → ℕ → List Row → ℕ → SheetWork
-sheetWork n k w rs room =
-    withSheet (sheetVerdict n k w rs room) (measure (ofRows rs) n) (measure (smallerOf (ofRows rs) n w) n)
-    (length (smallerList n w rs)) (length (sheetText n k w rs))
+-- the work of a list of type y and a weight limit, with room for so many bytes (01, The sheet)
+unfoldable pub sheetWork : ℕ → ℕ → ℕ → ℕ → List Row → ℕ → SheetWork
+sheetWork n k y w rs room =
+    withSheet (sheetVerdict n k y w rs room) (measure (ofRows (missing y) rs) n) (measure (smallerOf (ofRows (missing y) rs) n w) n)
+    (length (smallerList (missing y) n w rs)) (length (sheetText (missing y) n k w rs))
 
 -- the sheet's answer is part of it
-pub work-sheet : (n k w : ℕ) (rs : List Row) (room : ℕ) (r : SheetWork) → r ≡ sheetWork n k w rs room
-    → record { number = r .number; a = r .a; b = r .b; count = r .count } ≡ sheet n k w rs room
+pub work-sheet : (n k y w : ℕ) (rs : List Row) (room : ℕ) (r : SheetWork) → r ≡ sheetWork n k y w rs room
+    → record { number = r .number; a = r .a; b = r .b; count = r .count } ≡ sheet n k y w rs room
 unfolding sheetWork sheet
-work-sheet n k w rs room r e =
+work-sheet n k y w rs room r e =
     ap (λ (x : SheetWork). let y : TextAnswer = record { number = x .number; a = x .a; b = x .b; count = x .count } in y) e

@@ -6,7 +6,7 @@ use block::SMALLER_ROWS;
 use block::SheetWork;
 ghost use mathlib.Core.Path.{_≡_};
 ghost use lib.ListN.{length};
-ghost use Rattle.block.specs.Words.{rowsOf};
+ghost use Rattle.block.specs.Words.{missing, rowsOf};
 ghost use Rattle.block.specs.Refusals.{stored};
 ghost use Rattle.block.specs.Sheet.{sheetText, sheetVerdict};
 ghost use Rattle.sheet_work.specs.Work.{sheetWork};
@@ -15,15 +15,16 @@ ghost use Rattle.sheet_work.specs.Work.{sheetWork};
 pub fn make_sheet(
     n: usize,
     k: usize,
+    block_type: usize,
     w: usize,
     masks: &[u32],
     values: &[u32],
     words: &[u32],
     out: &mut [u8],
 ) -> SheetWork
-    ensures { λ r. ⌜ r ≡ sheetWork n k w (rowsOf (now (masks .entry)) (now (values .entry)) (now (words .entry))) (length (now (out .entry))) ⌝ }
+    ensures { λ r. ⌜ r ≡ sheetWork n k «block_type» w (rowsOf (now (masks .entry)) (now (values .entry)) (now (words .entry))) (length (now (out .entry))) ⌝ }
     ensures { λ r. ⌜ (let rs = rowsOf (now (masks .entry)) (now (values .entry)) (now (words .entry)) in
-        now (out .exit) ≡ stored (sheetVerdict n k w rs (length (now (out .entry)))) (sheetText n k w rs) (now (out .entry))) ⌝ }
+        now (out .exit) ≡ stored (sheetVerdict n k «block_type» w rs (length (now (out .entry)))) (sheetText (missing «block_type») n k w rs) (now (out .entry))) ⌝ }
 {
     let mut basis = [0u32; LIST_INPUTS];
     let mut sigma = [0u32; LIST_INPUTS];
@@ -34,6 +35,7 @@ pub fn make_sheet(
     let r = row_work::method_rows(
         n,
         k,
+        block_type,
         w,
         masks,
         values,

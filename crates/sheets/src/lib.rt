@@ -5,20 +5,22 @@ use block::TextAnswer;
 ghost use Rattle.block.specs.Words.{rowsOf};
 ghost use Rattle.promises.specs.Sheets.{SheetPromise};
 
-// Writes the sheet of the rows with weight limit w to the front of out. Refuses with 1, 2, 3 (w), 4, 5 (17,518 bytes), 6, 7 and 9.
+// Writes the sheet of the rows with weight limit w to the front of out. Refuses with 1, 2, 3 (the type, w), 4, 5 (17,518 bytes),
+// 6, 7 and 9.
 pub fn sheet(
     n: usize,
     k: usize,
+    block_type: usize,
     w: usize,
     masks: &[u32],
     values: &[u32],
     words: &[u32],
     out: &mut [u8],
 ) -> TextAnswer
-    ensures { λ r. ⌜ SheetPromise n k w (rowsOf (now (masks .entry)) (now (values .entry)) (now (words .entry)))
+    ensures { λ r. ⌜ SheetPromise n k «block_type» w (rowsOf (now (masks .entry)) (now (values .entry)) (now (words .entry)))
         (now (out .entry)) r (now (out .exit)) ⌝ }
 {
-    let r = sheet_work::make_sheet(n, k, w, masks, values, words, out);
+    let r = sheet_work::make_sheet(n, k, block_type, w, masks, values, words, out);
     TextAnswer {
         number: r.number,
         a: r.a,

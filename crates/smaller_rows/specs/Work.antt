@@ -38,63 +38,64 @@ pub record Kept (t s m v d t′ s′ m′ v′ d′ : List ℕ) : Type 0 where
   pub values : v′ ≡ v
   pub words : d′ ≡ d
 
--- else T, sigma and the smaller rows lie at the front of what was lent, and both measures and the number of rows come back
-pub record Made (n w : ℕ) (rs : List Row) (t s m v d t′ s′ m′ v′ d′ : List ℕ) (r : RowWork) : Type 0 where
-  pub basis : t′ ≡ over (basisOf (ofRows rs) n w) t
-  pub sigma : s′ ≡ over (sigmaOf (ofRows rs) n w) s
-  pub list : ListPut (smallerList n w rs) m v d m′ v′ d′
-  pub earlier : r .before ≡ measure (ofRows rs) n
-  pub later : r .after ≡ measure (smallerOf (ofRows rs) n w) n
-  pub counted : r .count ≡ length (smallerList n w rs)
+-- else T, sigma and the smaller rows lie at the front of what was lent, and both measures and the number of rows come back; `missing` is
+-- the word of a missing point
+pub record Made (missing n w : ℕ) (rs : List Row) (t s m v d t′ s′ m′ v′ d′ : List ℕ) (r : RowWork) : Type 0 where
+  pub basis : t′ ≡ over (basisOf (ofRows missing rs) n w) t
+  pub sigma : s′ ≡ over (sigmaOf (ofRows missing rs) n w) s
+  pub list : ListPut (smallerList missing n w rs) m v d m′ v′ d′
+  pub earlier : r .before ≡ measure (ofRows missing rs) n
+  pub later : r .after ≡ measure (smallerOf (ofRows missing rs) n w) n
+  pub counted : r .count ≡ length (smallerList missing n w rs)
 
 -- the step at which the list passes 512 rows says which of the two it is
-pub record RowsWorked (n w : ℕ) (rs : List Row) (t s m v d t′ s′ m′ v′ d′ : List ℕ) (r : RowWork) : Type 0 where
-  pub stopped : r .step ≡ cond (ltb (passing n w rs) n) (suc (passing n w rs)) 0
+pub record RowsWorked (missing n w : ℕ) (rs : List Row) (t s m v d t′ s′ m′ v′ d′ : List ℕ) (r : RowWork) : Type 0 where
+  pub stopped : r .step ≡ cond (ltb (passing missing n w rs) n) (suc (passing missing n w rs)) 0
   pub kept : (r .step ≡ 0 → ⊥) → Kept t s m v d t′ s′ m′ v′ d′
-  pub made : r .step ≡ 0 → Made n w rs t s m v d t′ s′ m′ v′ d′ r
+  pub made : r .step ≡ 0 → Made missing n w rs t s m v d t′ s′ m′ v′ d′ r
 
 -- ---- T, sigma and the steps, by what was found in working storage
 
-module _ (n w : ℕ) (hw : 1 ≤ w) (rs : List Row) (t s t′ s′ : List ℕ) (r : Measures) (o : Found (ofRows rs) n w t s t′ s′ r) where
-  basis-length : length (basisOf (ofRows rs) n w) ≡ n
+module _ (missing n w : ℕ) (hw : 1 ≤ w) (rs : List Row) (t s t′ s′ : List ℕ) (r : Measures) (o : Found (ofRows missing rs) n w t s t′ s′ r) where
+  basis-length : length (basisOf (ofRows missing rs) n w) ≡ n
   unfolding basisOf
-  basis-length = length-chosen (shift (ofRows rs) n) n w n
+  basis-length = length-chosen (shift (ofRows missing rs) n) n w n
 
-  sigma-length : length (sigmaOf (ofRows rs) n w) ≡ n
+  sigma-length : length (sigmaOf (ofRows missing rs) n w) ≡ n
   unfolding sigmaOf
-  sigma-length = length-inverse (at (basisOf (ofRows rs) n w)) n
+  sigma-length = length-inverse (at (basisOf (ofRows missing rs) n w)) n
 
-  column : (j : ℕ) → j < n → at t′ j ≡ at (basisOf (ofRows rs) n w) j
+  column : (j : ℕ) → j < n → at t′ j ≡ at (basisOf (ofRows missing rs) n w) j
   column j h =
       ap (λ (l : List ℕ). at l j) (o .basis)
-      ∙ List·getD-append (basisOf (ofRows rs) n w) (drop (length (basisOf (ofRows rs) n w)) t) 0 j (omega (arith, basis-length))
+      ∙ List·getD-append (basisOf (ofRows missing rs) n w) (drop (length (basisOf (ofRows missing rs) n w)) t) 0 j (omega (arith, basis-length))
 
   -- the columns found are independent
   pub found-independent : Independent (at t′) n n
   found-independent =
-      independent-cong (at (basisOf (ofRows rs) n w)) (at t′) n n (λ j h. sym (column j h)) (basis-independent (ofRows rs) n w hw)
+      independent-cong (at (basisOf (ofRows missing rs) n w)) (at t′) n n (λ j h. sym (column j h)) (basis-independent (ofRows missing rs) n w hw)
 
-  after : (i : ℕ) → i ≤ n → moved n (at t′) i rs ≡ rowsAfter n w i rs
+  after : (i : ℕ) → i ≤ n → moved n (at t′) i rs ≡ rowsAfter missing n w i rs
   unfolding rowsAfter
-  after i h = moved-cong n (at t′) (at (basisOf (ofRows rs) n w)) i rs (λ j l. column j (omega arith))
+  after i h = moved-cong n (at t′) (at (basisOf (ofRows missing rs) n w)) i rs (λ j l. column j (omega arith))
 
-  moved-all : moved n (at t′) n rs ≡ smallerList n w rs
+  moved-all : moved n (at t′) n rs ≡ smallerList missing n w rs
   unfolding smallerList
   moved-all = after n (omega arith)
 
-  passing-same : passingBy n (at t′) rs ≡ passing n w rs
+  passing-same : passingBy n (at t′) rs ≡ passing missing n w rs
   unfolding passingBy passing
   passing-same =
-      first-cong n (λ i. ltb smallerRows (length (moved n (at t′) (suc i) rs))) (λ i. ltb smallerRows (length (rowsAfter n w (suc i) rs)))
+      first-cong n (λ i. ltb smallerRows (length (moved n (at t′) (suc i) rs))) (λ i. ltb smallerRows (length (rowsAfter missing n w (suc i) rs)))
       (λ i h. ap (λ (l : List Row). ltb smallerRows (length l)) (after (suc i) (omega arith)))
 
   module _ (a b c : List ℕ) (k : Replay) (p : Replayed n (at t′) rs a b c k) where
-    stops : k .step ≡ cond (ltb (passing n w rs) n) (suc (passing n w rs)) 0
+    stops : k .step ≡ cond (ltb (passing missing n w rs) n) (suc (passing missing n w rs)) 0
     stops = p .stopped ∙ ap (λ (i : ℕ). cond (ltb i n) (suc i) 0) passing-same
 
     -- the list passes 512 rows
     pub work-stopped : (T S m v d : List ℕ) → (k .step ≡ 0 → ⊥)
-        → RowsWorked n w rs T S m v d T S m v d (record { step = k .step; before = 0; after = 0; count = 0 })
+        → RowsWorked missing n w rs T S m v d T S m v d (record { step = k .step; before = 0; after = 0; count = 0 })
     work-stopped T S m v d h =
         record {
           stopped = stops;
@@ -105,9 +106,9 @@ module _ (n w : ℕ) (hw : 1 ≤ w) (rs : List Row) (t s t′ s′ : List ℕ) (
     -- or it never does
     pub work-done : (T S m v d T′ S′ m′ v′ d′ : List ℕ) → k .step ≡ 0 → T′ ≡ over (tab n (at t′)) T → S′ ≡ over (tab n (at s′)) S
         → ListPut (rowsFrom (k .count) a b c) m v d m′ v′ d′
-        → RowsWorked n w rs T S m v d T′ S′ m′ v′ d′ (record { step = 0; before = r .before; after = r .after; count = k .count })
+        → RowsWorked missing n w rs T S m v d T′ S′ m′ v′ d′ (record { step = 0; before = r .before; after = r .after; count = k .count })
     work-done T S m v d T′ S′ m′ v′ d′ h e g l =
-        let rows : rowsFrom (k .count) a b c ≡ smallerList n w rs = p .rows h ∙ moved-all in
+        let rows : rowsFrom (k .count) a b c ≡ smallerList missing n w rs = p .rows h ∙ moved-all in
         record {
           stopped = sym h ∙ stops;
           kept = λ z. absurd (z refl);
@@ -116,11 +117,11 @@ module _ (n w : ℕ) (hw : 1 ≤ w) (rs : List Row) (t s t′ s′ : List ℕ) (
                 basis =
                     e
                     ∙ ap (λ (x : List ℕ). over x T)
-                    (ap (λ (x : List ℕ). tab n (at x)) (o .basis) ∙ tab-front n (basisOf (ofRows rs) n w) t 0 basis-length);
+                    (ap (λ (x : List ℕ). tab n (at x)) (o .basis) ∙ tab-front n (basisOf (ofRows missing rs) n w) t 0 basis-length);
                 sigma =
                     g
                     ∙ ap (λ (x : List ℕ). over x S)
-                    (ap (λ (x : List ℕ). tab n (at x)) (o .sigma) ∙ tab-front n (sigmaOf (ofRows rs) n w) s 0 sigma-length);
+                    (ap (λ (x : List ℕ). tab n (at x)) (o .sigma) ∙ tab-front n (sigmaOf (ofRows missing rs) n w) s 0 sigma-length);
                 list = rw (sym rows) l;
                 earlier = o .earlier;
                 later = o .later;

@@ -18,13 +18,15 @@ pub struct RowWork {
     pub count: usize,
 }
 
-// T, sigma, the smaller rows and both measures of a list that passed the checks. Nothing lent is written before the last step.
+// T, sigma, the smaller rows and both measures of a list that passed the checks; `missing` is the word of a missing point. Nothing lent is
+// written before the last step.
 pub fn work_rows(
     n: usize,
     w: usize,
     masks: &[u32],
     values: &[u32],
     words: &[u32],
+    missing: u32,
     basis: &mut [u32],
     sigma: &mut [u32],
     out_masks: &mut [u32],
@@ -35,13 +37,13 @@ pub fn work_rows(
     requires { ⌜ (smallerRows ≤ length (now «out_masks»)) × (smallerRows ≤ length (now «out_values»)) × (smallerRows ≤ length (now «out_words»)) ⌝ }
     requires { ⌜ Listed givenRows (now masks) (now values) (now words) ⌝ }
     requires { ⌜ Disjoint n (rowsOf (now masks) (now values) (now words)) ⌝ }
-    ensures { λ r. ⌜ RowsWorked n w (rowsOf (now (masks .entry)) (now (values .entry)) (now (words .entry)))
+    ensures { λ r. ⌜ RowsWorked missing n w (rowsOf (now (masks .entry)) (now (values .entry)) (now (words .entry)))
         (now (basis .entry)) (now (sigma .entry)) (now («out_masks» .entry)) (now («out_values» .entry)) (now («out_words» .entry))
         (now (basis .exit)) (now (sigma .exit)) (now («out_masks» .exit)) (now («out_values» .exit)) (now («out_words» .exit)) r ⌝ }
 {
     let mut t = [0u32; LIST_INPUTS];
     let mut s = [0u32; LIST_INPUTS];
-    let measures = row_basis::find_basis(n, w, masks, values, words, &mut t, &mut s);
+    let measures = row_basis::find_basis(n, w, masks, values, words, missing, &mut t, &mut s);
     let mut new_masks = [0u32; SMALLER_ROWS];
     let mut new_values = [0u32; SMALLER_ROWS];
     let mut new_words = [0u32; SMALLER_ROWS];

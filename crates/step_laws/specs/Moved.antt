@@ -9,7 +9,7 @@ use native.Mathlib.Decide.{ℕ-discrete}
 use native.Mathlib.Omega.{arith}
 use lib.Arith.{lt-one}
 use lib.ListN.{length}
-use Rattle.block.specs.Words.{wordAt}
+use Rattle.block.specs.Words.{ofRows}
 use Rattle.block.specs.Rows.{partner, rest, reached, moved}
 use Rattle.block.specs.Refusals.{badRow}
 use Rattle.block.specs.declared.Row.{Row}
@@ -90,7 +90,7 @@ module _ (n : ℕ) (c : ℕ → ℕ) where
 
   -- the rows after the steps, at the coordinates reached, are the rows at the point
   pub moved-word : (k : ℕ) → Steps n c k → (missing : ℕ) (rs : List Row) (x : ℕ) → Every (Sound n) rs → x < 2 ^ n
-      → wordAt missing (moved n c k rs) (reached n c k x) ≡ wordAt missing rs x
+      → ofRows missing (moved n c k rs) (reached n c k x) ≡ ofRows missing rs x
   unfolding moved reached
   moved-word zero s missing rs x h l = refl
   moved-word (suc k) s missing rs x h l =

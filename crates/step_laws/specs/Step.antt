@@ -15,7 +15,7 @@ use Rattle.bits.specs.Digits.{bit}
 use Rattle.bits.specs.Bit.{bit-lt}
 use Rattle.sums.specs.Sums.{one, count}
 use Rattle.sums.specs.Laws.{sum-append, sum-zero, sum-suc, count-once, count-same}
-use Rattle.block.specs.Words.{none, under, wordAt, row}
+use Rattle.block.specs.Words.{none, under, ofRows, row}
 use Rattle.block.specs.Rows.{exchange, shear, exchangeRow, flipRow, half, splitRow, splitRows}
 use Rattle.block.specs.Refusals.{badRow, rowAt}
 use Rattle.block.specs.declared.Row.{Row}
@@ -130,11 +130,11 @@ both-one false b h = refl
 
 module _ {n k v : ℕ} {r : Row} where
   became-word : {l : List Row} → Became n k v r l → (missing : ℕ) (rs : List Row) (x : ℕ)
-      → wordAt missing (l ++ rs) (shear k v x) ≡ cond (under r x) (r .word) (wordAt missing rs (shear k v x))
-  unfolding wordAt
+      → ofRows missing (l ++ rs) (shear k v x) ≡ cond (under r x) (r .word) (ofRows missing rs (shear k v x))
+  unfolding ofRows
   became-word (single s e a u) missing rs x = rw (u x, e)
   became-word (double s t e f a b u w) missing rs x =
-      rw (u x, w x, e, f) (both-cond (under r x) (bit x k) (r .word) (wordAt missing rs (shear k v x)) (bit-lt x k))
+      rw (u x, w x, e, f) (both-cond (under r x) (bit x k) (r .word) (ofRows missing rs (shear k v x)) (bit-lt x k))
 
   became-hits : {l : List Row} → Became n k v r l → (x : ℕ) → hits l (shear k v x) ≡ one (under r x)
   became-hits (single s e a u) x = hits-one s (shear k v x) ∙ ap one (u x)
@@ -200,8 +200,8 @@ module _ (n k h v : ℕ) (d : Ready n k h v) where
 
   -- the exchange alone
   word-exchange : (missing : ℕ) (rs : List Row) (x : ℕ) → Every (Sound n) rs → x < 2 ^ n
-      → wordAt missing (map (exchangeRow k h) rs) (exchange k h x) ≡ wordAt missing rs x
-  unfolding wordAt
+      → ofRows missing (map (exchangeRow k h) rs) (exchange k h x) ≡ ofRows missing rs x
+  unfolding ofRows
   word-exchange missing [] x s l = refl
   word-exchange missing (r ∷ rs) x s l =
       rw (
@@ -223,8 +223,8 @@ module _ (n k h v : ℕ) (d : Ready n k h v) where
 
   -- the splits alone
   word-split : (missing : ℕ) (rs : List Row) (x : ℕ) → Every (Sound n) rs
-      → wordAt missing (splitRows k v rs) (shear k v x) ≡ wordAt missing rs x
-  unfolding wordAt splitRows
+      → ofRows missing (splitRows k v rs) (shear k v x) ≡ ofRows missing rs x
+  unfolding ofRows splitRows
   word-split missing [] x s = refl
   word-split missing (r ∷ rs) x s =
       became-word (became n k h v r d (s 0 (omega arith))) missing (splitRows k v rs) x
@@ -256,7 +256,7 @@ module _ (n k h v : ℕ) (d : Ready n k h v) where
 
   -- the list after the step, at the point after it, is the list at the point
   pub step-word : (missing : ℕ) (rs : List Row) (x : ℕ) → Every (Sound n) rs → x < 2 ^ n
-      → wordAt missing (stepRows k h v rs) (stepPoint k h v x) ≡ wordAt missing rs x
+      → ofRows missing (stepRows k h v rs) (stepPoint k h v x) ≡ ofRows missing rs x
   step-word missing rs x s l =
       word-split missing (map (exchangeRow k h) rs) (exchange k h x) (exchanged rs s) ∙ word-exchange missing rs x s l
 

@@ -9,6 +9,7 @@ use lib.Dec.{eqb, ltb}
 use lib.ListN.{length}
 use Rattle.slices.specs.Places.{at}
 use Rattle.block.specs.Limits.{tableInputs, outputs}
+use Rattle.block.specs.Words.{fr, fd, missing}
 use Rattle.block.specs.Refusals.{verdict, outside, badEntry, badNumber}
 use Rattle.block.specs.Tables.{tableValueVerdict, tableMethodVerdict}
 use Rattle.block.specs.declared.Answer.{Answer}
@@ -21,11 +22,11 @@ pub record ValuePassed (n k t : ℕ) (table : List ℕ) : Type 0 where
   pub asked : t < 2 ^ n
   pub entries : length table ≡ 2 ^ n
 
-pub value-passed : (n k t : ℕ) (table : List ℕ) (v : Answer) → v ≡ tableValueVerdict n k t table → v .number ≡ 0
+pub value-passed : (n k y t : ℕ) (table : List ℕ) (v : Answer) → v ≡ tableValueVerdict n k y t table → v .number ≡ 0
     → ValuePassed n k t table
 unfolding tableValueVerdict
-value-passed n k t table v e h =
-    let sizes = sizes-pass tableInputs n k _ (zero-too e h) in
+value-passed n k y t table v e h =
+    let sizes = sizes-pass tableInputs n k y _ (zero-too e h) in
     let point = passes _ _ refl (sizes .1) in
     let whole = passes _ _ refl (point .1) in
     record {
@@ -43,12 +44,12 @@ pub record MethodPassed (n w : ℕ) (table : List ℕ) (roomT roomSigma roomTabl
   pub rows : n ≤ roomSigma
   pub smaller : 2 ^ n ≤ roomTable
 
-module _ (n k w : ℕ) (table : List ℕ) (roomT roomSigma roomTable : ℕ) (v : Answer)
-    (e : v ≡ tableMethodVerdict n k w table roomT roomSigma roomTable) (h : v .number ≡ 0) where
+module _ (n k y w : ℕ) (table : List ℕ) (roomT roomSigma roomTable : ℕ) (v : Answer)
+    (e : v ≡ tableMethodVerdict n k y w table roomT roomSigma roomTable) (h : v .number ≡ 0) where
   pub method-passed : MethodPassed n w table roomT roomSigma roomTable
   unfolding tableMethodVerdict
   method-passed =
-      let sizes = sizes-pass tableInputs n k _ (zero-too e h) in
+      let sizes = sizes-pass tableInputs n k y _ (zero-too e h) in
       let weight = passes _ _ refl (sizes .1) in
       let whole = passes _ _ refl (weight .1) in
       let lent = passes _ _ refl (whole .1) in
@@ -64,23 +65,23 @@ module _ (n k w : ℕ) (table : List ℕ) (roomT roomSigma roomTable : ℕ) (v :
         smaller = room .2;
       }
 
-  -- n and k were in their ranges
-  pub method-sizes : (outside 1 tableInputs n ≡ false) × (outside 1 outputs k ≡ false)
+  -- n, k and the type were in their ranges
+  pub method-sizes : (outside 1 tableInputs n ≡ false) × (outside 1 outputs k ≡ false) × (outside fr fd y ≡ false)
   unfolding tableMethodVerdict
   method-sizes =
       let one = passes _ _ refl (zero-too e h) in
       let two = passes _ _ refl (one .1) in
-      (one .0, two .0)
+      (one .0, two .0, passes _ _ refl (two .1) .0)
 
   -- no entry was malformed
-  pub method-entries : (i : ℕ) → i < length table → badEntry k (at table i) ≡ false
+  pub method-entries : (i : ℕ) → i < length table → badEntry (missing y) k (at table i) ≡ false
   unfolding tableMethodVerdict
   method-entries =
-      let sizes = sizes-pass tableInputs n k _ (zero-too e h) in
+      let sizes = sizes-pass tableInputs n k y _ (zero-too e h) in
       let weight = passes _ _ refl (sizes .1) in
       let whole = passes _ _ refl (weight .1) in
       let lent = passes _ _ refl (whole .1) in
-      passes-none (length table) (λ i. badEntry k (at table i)) (passes _ _ refl (lent .1) .0)
+      passes-none (length table) (λ i. badEntry (missing y) k (at table i)) (passes _ _ refl (lent .1) .0)
 
 pub record RestorePassed (n : ℕ) (sigma table : List ℕ) (room : ℕ) : Type 0 where
   pub inputs : n ≤ tableInputs
@@ -89,11 +90,11 @@ pub record RestorePassed (n : ℕ) (sigma table : List ℕ) (room : ℕ) : Type 
   pub space : 2 ^ n ≤ room
   pub below : (j : ℕ) → j < n → at sigma j < 2 ^ n
 
-pub restore-passed : (n k : ℕ) (sigma table : List ℕ) (room : ℕ) (v : Answer)
-    → v ≡ verdict (restoreChecked n k sigma table room) → v .number ≡ 0 → RestorePassed n sigma table room
+pub restore-passed : (n k y : ℕ) (sigma table : List ℕ) (room : ℕ) (v : Answer)
+    → v ≡ verdict (restoreChecked n k y sigma table room) → v .number ≡ 0 → RestorePassed n sigma table room
 unfolding restoreChecked
-restore-passed n k sigma table room v e h =
-    let sizes = sizes-pass tableInputs n k _ (zero-too e h) in
+restore-passed n k y sigma table room v e h =
+    let sizes = sizes-pass tableInputs n k y _ (zero-too e h) in
     let whole = passes _ _ refl (sizes .1) in
     let lent = passes _ _ refl (whole .1) in
     let matrix = passes _ _ refl (lent .1) in

@@ -9,7 +9,8 @@ use lib.Dec.{eqb, ltb}
 use lib.ListN.{length}
 use Rattle.slices.specs.Places.{at, first}
 use Rattle.block.specs.Limits.{listInputs, tableInputs, outputs}
-use Rattle.block.specs.Refusals.{Check, check, verdict, andThen, outside, sizeChecks, badEntry, badNumber, malformed}
+use Rattle.block.specs.Words.{missing}
+use Rattle.block.specs.Refusals.{Check, check, verdict, andThen, outside, typedChecks, badEntry, badNumber, malformed}
 use Rattle.block.specs.Tables.{tableValueVerdict, tableMethodVerdict}
 use Rattle.block.specs.declared.Answer.{Answer}
 use Rattle.refusal_laws.specs.Verdicts.{zero-too, then-answered, Asked, asked-then, asked-where}
@@ -22,45 +23,45 @@ pub malformed-asked : (v r : Answer) (a i : ℕ) (bad : ℕ → Bool) (l : List 
 malformed-asked v r a i bad l h e f =
     f ∙ ap (λ (i : ℕ). verdict (check (ltb i (length l)) 6 a i ∷ [])) e ∙ then-answered v _ h
 
-module _ (n k size : ℕ) (table : List ℕ) (power : n ≤ listInputs → size ≡ 2 ^ n) where
+module _ (n k y size : ℕ) (table : List ℕ) (power : n ≤ listInputs → size ≡ 2 ^ n) where
   -- where the sizes and what follows them answer 0
-  same-size : (cs : List Check) → verdict (sizeChecks tableInputs n k cs) .number ≡ 0 → size ≡ 2 ^ n
+  same-size : (cs : List Check) → verdict (typedChecks tableInputs n k y cs) .number ≡ 0 → size ≡ 2 ^ n
   same-size cs h =
-      let range = sizes-pass tableInputs n k cs h .0 .0 in
+      let range = sizes-pass tableInputs n k y cs h .0 .0 in
       power (omega (arith, range .1))
 
-  few-outputs : (cs : List Check) (v : Answer) → Asked (sizeChecks tableInputs n k cs) v → v .number ≡ 0 → k ≤ outputs
-  few-outputs cs v p h = sizes-pass tableInputs n k cs (zero-too (p .told) h) .0 .1 .1
+  few-outputs : (cs : List Check) (v : Answer) → Asked (typedChecks tableInputs n k y cs) v → v .number ≡ 0 → k ≤ outputs
+  few-outputs cs v p h = sizes-pass tableInputs n k y cs (zero-too (p .told) h) .0 .1 .1
 
   -- ---- a single shift value
 
-  module _ (t : ℕ) (sizes point whole : Answer) (first : sizes ≡ verdict (sizeChecks tableInputs n k []))
+  module _ (t : ℕ) (sizes point whole : Answer) (first : sizes ≡ verdict (typedChecks tableInputs n k y []))
       (second : point ≡ andThen sizes (verdict (check (not (ltb t size)) 3 0 0 ∷ [])))
       (third : whole ≡ andThen point (verdict (check (not (eqb (length table) size)) 4 0 0 ∷ []))) where
-    value-asked : Asked (sizeChecks tableInputs n k (check (not (ltb t (2 ^ n))) 3 0 0 ∷ check (not (eqb (length table) (2 ^ n))) 4 0 0 ∷ [])) whole
+    value-asked : Asked (typedChecks tableInputs n k y (check (not (ltb t (2 ^ n))) 3 0 0 ∷ check (not (eqb (length table) (2 ^ n))) 4 0 0 ∷ [])) whole
     value-asked =
         asked-where _ (not (eqb (length table) (2 ^ n))) 4 0 0 whole
-        (asked-where _ (not (ltb t (2 ^ n))) 3 0 0 point (asked-sizes tableInputs n k sizes first) refl second
+        (asked-where _ (not (ltb t (2 ^ n))) 3 0 0 point (asked-sizes tableInputs n k y sizes first) refl second
         (λ h. ap (λ (p : ℕ). not (ltb t p)) (same-size [] h)))
         refl third (λ h. ap (λ (p : ℕ). not (eqb (length table) p)) (same-size _ h))
 
     pub value-outputs : whole .number ≡ 0 → k ≤ outputs
     value-outputs = few-outputs _ whole value-asked
 
-    pub value-verdict : (v : Answer) → v ≡ andThen whole (verdict (malformed 0 (badEntry k) table ∷ [])) → v ≡ tableValueVerdict n k t table
+    pub value-verdict : (v : Answer) → v ≡ andThen whole (verdict (malformed 0 (badEntry (missing y) k) table ∷ [])) → v ≡ tableValueVerdict n k y t table
     unfolding tableValueVerdict
-    value-verdict v e = asked-then (malformed 0 (badEntry k) table ∷ []) v value-asked (refl, tt) e .told
+    value-verdict v e = asked-then (malformed 0 (badEntry (missing y) k) table ∷ []) v value-asked (refl, tt) e .told
 
   -- ---- the table method; `light` is the test of w, and `short` that of the rooms
 
   module _ (w roomT roomSigma roomTable : ℕ) (light short : Bool) (test : light ≡ outside 1 n w)
       (rooms : short ≡ ltb roomT n || (ltb roomSigma n || ltb roomTable size)) (sizes weight whole lent : Answer)
-      (first : sizes ≡ verdict (sizeChecks tableInputs n k [])) (second : weight ≡ andThen sizes (verdict (check light 3 0 0 ∷ [])))
+      (first : sizes ≡ verdict (typedChecks tableInputs n k y [])) (second : weight ≡ andThen sizes (verdict (check light 3 0 0 ∷ [])))
       (third : whole ≡ andThen weight (verdict (check (not (eqb (length table) size)) 4 0 0 ∷ [])))
       (fourth : lent ≡ andThen whole (verdict (check short 5 0 0 ∷ []))) where
     method-asked :
         Asked
-        (sizeChecks tableInputs n k (
+        (typedChecks tableInputs n k y (
         check (outside 1 n w) 3 0 0
         ∷ check (not (eqb (length table) (2 ^ n))) 4 0 0
         ∷ check (ltb roomT n || (ltb roomSigma n || ltb roomTable (2 ^ n))) 5 0 0
@@ -68,44 +69,44 @@ module _ (n k size : ℕ) (table : List ℕ) (power : n ≤ listInputs → size 
     method-asked =
         asked-where short (ltb roomT n || (ltb roomSigma n || ltb roomTable (2 ^ n))) 5 0 0 lent
         (asked-where _ (not (eqb (length table) (2 ^ n))) 4 0 0 whole
-        (asked-where light (outside 1 n w) 3 0 0 weight (asked-sizes tableInputs n k sizes first) refl second (λ h. test))
+        (asked-where light (outside 1 n w) 3 0 0 weight (asked-sizes tableInputs n k y sizes first) refl second (λ h. test))
         refl third (λ h. ap (λ (p : ℕ). not (eqb (length table) p)) (same-size _ h)))
         refl fourth (λ h. rooms ∙ ap (λ (p : ℕ). ltb roomT n || (ltb roomSigma n || ltb roomTable p)) (same-size _ h))
 
     pub method-outputs : lent .number ≡ 0 → k ≤ outputs
     method-outputs = few-outputs _ lent method-asked
 
-    pub method-verdict : (v : Answer) → v ≡ andThen lent (verdict (malformed 0 (badEntry k) table ∷ []))
-        → v ≡ tableMethodVerdict n k w table roomT roomSigma roomTable
+    pub method-verdict : (v : Answer) → v ≡ andThen lent (verdict (malformed 0 (badEntry (missing y) k) table ∷ []))
+        → v ≡ tableMethodVerdict n k y w table roomT roomSigma roomTable
     unfolding tableMethodVerdict
-    method-verdict v e = asked-then (malformed 0 (badEntry k) table ∷ []) v method-asked (refl, tt) e .told
+    method-verdict v e = asked-then (malformed 0 (badEntry (missing y) k) table ∷ []) v method-asked (refl, tt) e .told
 
   -- ---- restoring before 8; `unfit` is the test of the two lengths
 
   module _ (sigma : List ℕ) (room : ℕ) (unfit : Bool) (test : unfit ≡ not (eqb (length sigma) n) || not (eqb (length table) size))
-      (sizes whole lent : Answer) (first : sizes ≡ verdict (sizeChecks tableInputs n k []))
+      (sizes whole lent : Answer) (first : sizes ≡ verdict (typedChecks tableInputs n k y []))
       (second : whole ≡ andThen sizes (verdict (check unfit 4 0 0 ∷ [])))
       (third : lent ≡ andThen whole (verdict (check (ltb room size) 5 0 0 ∷ []))) where
     restore-asked :
         Asked
-        (sizeChecks tableInputs n k (
+        (typedChecks tableInputs n k y (
         check (not (eqb (length sigma) n) || not (eqb (length table) (2 ^ n))) 4 0 0
         ∷ check (ltb room (2 ^ n)) 5 0 0
         ∷ [])) lent
     restore-asked =
         asked-where _ (ltb room (2 ^ n)) 5 0 0 lent
         (asked-where unfit (not (eqb (length sigma) n) || not (eqb (length table) (2 ^ n))) 4 0 0 whole
-        (asked-sizes tableInputs n k sizes first) refl second
+        (asked-sizes tableInputs n k y sizes first) refl second
         (λ h. test ∙ ap (λ (p : ℕ). not (eqb (length sigma) n) || not (eqb (length table) p)) (same-size [] h)))
         refl third (λ h. ap (ltb room) (same-size _ h))
 
     pub restore-inputs : lent .number ≡ 0 → n ≤ tableInputs
-    restore-inputs h = sizes-pass tableInputs n k _ (zero-too (restore-asked .told) h) .0 .0 .1
+    restore-inputs h = sizes-pass tableInputs n k y _ (zero-too (restore-asked .told) h) .0 .0 .1
 
     module _ (rows : Answer) (fourth : rows ≡ andThen lent (verdict (malformed 1 (badNumber n) sigma ∷ []))) where
       rows-asked :
           Asked
-          (sizeChecks tableInputs n k (
+          (typedChecks tableInputs n k y (
           check (not (eqb (length sigma) n) || not (eqb (length table) (2 ^ n))) 4 0 0
           ∷ check (ltb room (2 ^ n)) 5 0 0
           ∷ malformed 1 (badNumber n) sigma
@@ -115,7 +116,7 @@ module _ (n k size : ℕ) (table : List ℕ) (power : n ≤ listInputs → size 
       pub restore-outputs : rows .number ≡ 0 → k ≤ outputs
       restore-outputs = few-outputs _ rows rows-asked
 
-      pub restore-verdict : (v : Answer) → v ≡ andThen rows (verdict (malformed 0 (badEntry k) table ∷ []))
-          → v ≡ verdict (restoreChecked n k sigma table room)
+      pub restore-verdict : (v : Answer) → v ≡ andThen rows (verdict (malformed 0 (badEntry (missing y) k) table ∷ []))
+          → v ≡ verdict (restoreChecked n k y sigma table room)
       unfolding restoreChecked
-      restore-verdict v e = asked-then (malformed 0 (badEntry k) table ∷ []) v rows-asked (refl, tt) e .told
+      restore-verdict v e = asked-then (malformed 0 (badEntry (missing y) k) table ∷ []) v rows-asked (refl, tt) e .told

@@ -10,29 +10,30 @@ ghost use lib.Dec.{eqb};
 ghost use lib.ListN.{length};
 ghost use Rattle.slices.specs.Places.{at, first};
 ghost use Rattle.block.specs.Limits.{tableInputs, outputs};
+ghost use Rattle.block.specs.Words.{missing};
 ghost use Rattle.block.specs.Refusals.{verdict, andThen, badEntry, badNumber, malformed};
 ghost use Rattle.block.specs.Tables.{tableValueVerdict, tableMethodVerdict};
 ghost use Rattle.table_checks.specs.Restoring.{restoreChecked};
 
-// Whether a table entry is neither below 2^k nor no output.
-pub fn is_bad_entry(k: usize, x: u16) -> bool
+// Whether a table entry is neither below 2^k nor the word of a missing point.
+pub fn is_bad_entry(missing: u32, k: usize, x: u16) -> bool
     requires { ⌜ k ≤ outputs ⌝ }
-    ensures { λ r. ⌜ r ≡ badEntry k x ⌝ }
+    ensures { λ r. ⌜ r ≡ badEntry missing k x ⌝ }
 {
     if (x as u32) < bit_work::power(k) {
         return false;
     }
-    x != 65535
+    (x as u32) != missing
 }
 
 // The least entry that is malformed, or the table's length.
-pub fn first_bad_entry(k: usize, table: &[u16]) -> usize
+pub fn first_bad_entry(missing: u32, k: usize, table: &[u16]) -> usize
     requires { ⌜ k ≤ outputs ⌝ }
-    ensures { λ r. ⌜ r ≡ first (length (now (table .entry))) (λ i. badEntry k (at (now (table .entry)) i)) ⌝ }
+    ensures { λ r. ⌜ r ≡ first (length (now (table .entry))) (λ i. badEntry missing k (at (now (table .entry)) i)) ⌝ }
 {
     let mut i: usize = 0;
     while i < table.len() {
-        if is_bad_entry(k, table[i]) {
+        if is_bad_entry(missing, k, table[i]) {
             return i;
         }
         i += 1;
@@ -76,49 +77,51 @@ pub fn then_matrix(v: Answer, n: usize, rows: &[u32]) -> Answer
     shared_checks::refuse_where(i < rows.len(), 6, 1, i)
 }
 
-// 6 for a table.
-pub fn then_entries(v: Answer, k: usize, table: &[u16]) -> Answer
+// 6 for a table of a type.
+pub fn then_entries(v: Answer, k: usize, block_type: usize, table: &[u16]) -> Answer
     requires { ⌜ (v .number ≡ 0 → k ≤ outputs) ⌝ }
-    ensures { λ r. ⌜ r ≡ andThen v (verdict (malformed 0 (badEntry k) (now (table .entry)) ∷ [])) ⌝ }
+    ensures { λ r. ⌜ r ≡ andThen v (verdict (malformed 0 (badEntry (missing «block_type») k) (now (table .entry)) ∷ [])) ⌝ }
 {
     if v.number != 0 {
         return v;
     }
-    let i = first_bad_entry(k, table);
+    let missing = shared_checks::missing_word(block_type);
+    let i = first_bad_entry(missing, k, table);
     shared_checks::refuse_where(i < table.len(), 6, 0, i)
 }
 
 // The verdict on a single shift value of a table.
-pub fn table_value_verdict(n: usize, k: usize, t: usize, table: &[u16]) -> Answer
-    ensures { λ r. ⌜ r ≡ tableValueVerdict n k t (now (table .entry)) ⌝ }
+pub fn table_value_verdict(n: usize, k: usize, block_type: usize, t: usize, table: &[u16]) -> Answer
+    ensures { λ r. ⌜ r ≡ tableValueVerdict n k «block_type» t (now (table .entry)) ⌝ }
 {
-    let sizes = shared_checks::sizes(TABLE_INPUTS, n, k);
+    let sizes = shared_checks::sizes(TABLE_INPUTS, n, k, block_type);
     let size = shared_checks::size_of(n);
     let below = t < size;
     let point = shared_checks::then_where(sizes, !below, 3, 0, 0);
     let whole = shared_checks::then_where(point, table.len() != size, 4, 0, 0);
-    then_entries(whole, k, table)
+    then_entries(whole, k, block_type, table)
 }
 
 // The verdict on the table method.
 pub fn table_method_verdict(
     n: usize,
     k: usize,
+    block_type: usize,
     w: usize,
     table: &[u16],
     room_t: usize,
     room_sigma: usize,
     room_table: usize,
 ) -> Answer
-    ensures { λ r. ⌜ r ≡ tableMethodVerdict n k w (now (table .entry)) «room_t» «room_sigma» «room_table» ⌝ }
+    ensures { λ r. ⌜ r ≡ tableMethodVerdict n k «block_type» w (now (table .entry)) «room_t» «room_sigma» «room_table» ⌝ }
 {
-    let sizes = shared_checks::sizes(TABLE_INPUTS, n, k);
+    let sizes = shared_checks::sizes(TABLE_INPUTS, n, k, block_type);
     let size = shared_checks::size_of(n);
     let weight = shared_checks::then_where(sizes, shared_checks::is_outside(1, n, w), 3, 0, 0);
     let whole = shared_checks::then_where(weight, table.len() != size, 4, 0, 0);
     let short = shared_checks::is_short(n, room_t, room_sigma, size, room_table);
     let lent = shared_checks::then_where(whole, short, 5, 0, 0);
-    then_entries(lent, k, table)
+    then_entries(lent, k, block_type, table)
 }
 
 // Whether one of two lengths is not what it should be.
@@ -132,14 +135,21 @@ pub fn is_unfit(rows: usize, n: usize, entries: usize, size: usize) -> bool
 }
 
 // The verdict on restoring, but for 8.
-pub fn restore_checked(n: usize, k: usize, sigma: &[u32], table: &[u16], room: usize) -> Answer
-    ensures { λ r. ⌜ r ≡ verdict (restoreChecked n k (now (sigma .entry)) (now (table .entry)) room) ⌝ }
+pub fn restore_checked(
+    n: usize,
+    k: usize,
+    block_type: usize,
+    sigma: &[u32],
+    table: &[u16],
+    room: usize,
+) -> Answer
+    ensures { λ r. ⌜ r ≡ verdict (restoreChecked n k «block_type» (now (sigma .entry)) (now (table .entry)) room) ⌝ }
 {
-    let sizes = shared_checks::sizes(TABLE_INPUTS, n, k);
+    let sizes = shared_checks::sizes(TABLE_INPUTS, n, k, block_type);
     let size = shared_checks::size_of(n);
     let unfit = is_unfit(sigma.len(), n, table.len(), size);
     let whole = shared_checks::then_where(sizes, unfit, 4, 0, 0);
     let lent = shared_checks::then_where(whole, room < size, 5, 0, 0);
     let rows = then_matrix(lent, n, sigma);
-    then_entries(rows, k, table)
+    then_entries(rows, k, block_type, table)
 }

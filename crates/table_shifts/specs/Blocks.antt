@@ -31,14 +31,14 @@ pub record FullTable (table : List ℕ) (n : ℕ) : Type 0 where
   pub most : n ≤ tableInputs
   pub unmarked : (i : ℕ) → i < 2 ^ n → at table i ≡ hole → ⊥
 
--- an entry that passes the checks is not the mark
-pub good-unmarked : (k x : ℕ) → k ≤ outputs → badEntry k x ≡ false → x ≡ hole → ⊥
-good-unmarked k x h good e = go (ltb x (2 ^ k)) refl
+-- an entry that passes the checks is not the mark, which is no word of a missing point
+pub good-unmarked : (m k x : ℕ) → (m ≡ hole → ⊥) → k ≤ outputs → badEntry m k x ≡ false → x ≡ hole → ⊥
+good-unmarked m k x other h good e = go (ltb x (2 ^ k)) refl
   where
     go : (b : Bool) → ltb x (2 ^ k) ≡ b → ⊥
     go true d = omega (arith, ltb-true x (2 ^ k) d, pow-mono h)
     go false d =
-        let z : _≡_ {A = Bool} true false = sym (rw (d, ne-eqb x none (omega arith))) ∙ good in
+        let z : _≡_ {A = Bool} true false = sym (rw (d, ne-eqb x m (λ d. other (sym d ∙ e)))) ∙ good in
         let w : _≡_ {A = ℕ} 0 1 = cc in
         omega arith
 

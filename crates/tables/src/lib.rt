@@ -1,17 +1,18 @@
 // The operations on full tables of up to 12 inputs, for every caller: a single shift value, the table method, and restoring a table.
-// Each takes any numbers and any slices, and answers or refuses as 01 says. Entry x of a table is the word at x, 65,535 for no
-// output; T comes by columns, sigma by rows. This crate holds the public operations and nothing else.
+// Each takes any numbers and any slices, and answers or refuses as 01 says. Entry x of a table is the word at x; under type fr 65,535
+// stands for no output, and under fd it is malformed. T comes by columns, sigma by rows. This crate holds the public operations and
+// nothing else.
 use block::Answer;
 use block::TABLE_INPUTS;
 use block::TableMethodAnswer;
 use block::ValueAnswer;
 ghost use Rattle.promises.specs.Tables.{TableValuePromise, TableMethodPromise, RestorePromise};
 
-// R(t) of a table. Refusals: 1, 2, 3 (t), 4, 6.
-pub fn table_value(n: usize, k: usize, t: usize, table: &[u16]) -> ValueAnswer
-    ensures { λ r. ⌜ TableValuePromise n k t (now (table .entry)) r ⌝ }
+// R(t) of a table. Refusals: 1, 2, 3 (the type, t), 4, 6.
+pub fn table_value(n: usize, k: usize, block_type: usize, t: usize, table: &[u16]) -> ValueAnswer
+    ensures { λ r. ⌜ TableValuePromise n k «block_type» t (now (table .entry)) r ⌝ }
 {
-    let v = table_checks::table_value_verdict(n, k, t, table);
+    let v = table_checks::table_value_verdict(n, k, block_type, t, table);
     if v.number != 0 {
         return ValueAnswer {
             number: v.number,
@@ -29,22 +30,24 @@ pub fn table_value(n: usize, k: usize, t: usize, table: &[u16]) -> ValueAnswer
     }
 }
 
-// T, sigma, the smaller table and both measures of a table, with weight limit w. Refusals: 1, 2, 3 (w), 4, 5, 6.
+// T, sigma, the smaller table and both measures of a table, with weight limit w. Refusals: 1, 2, 3 (the type, w), 4, 5, 6.
 pub fn table_method(
     n: usize,
     k: usize,
+    block_type: usize,
     w: usize,
     table: &[u16],
     basis: &mut [u32],
     sigma: &mut [u32],
     smaller: &mut [u16],
 ) -> TableMethodAnswer
-    ensures { λ r. ⌜ TableMethodPromise n k w (now (table .entry))
+    ensures { λ r. ⌜ TableMethodPromise n k «block_type» w (now (table .entry))
         (now (basis .entry)) (now (sigma .entry)) (now (smaller .entry)) r (now (basis .exit)) (now (sigma .exit)) (now (smaller .exit)) ⌝ }
 {
     let v = table_checks::table_method_verdict(
         n,
         k,
+        block_type,
         w,
         table,
         basis.len(),
@@ -70,17 +73,19 @@ pub fn table_method(
     }
 }
 
-// The table whose word at x is the smaller table's at sigma x. Refusals: 1, 2, 4, 5, 6 (the matrix first), 8.
+// The table whose word at x is the smaller table's at sigma x. Refusals: 1, 2, 3 (the type), 4, 5, 6 (the matrix
+// first), 8.
 pub fn restore_table(
     n: usize,
     k: usize,
+    block_type: usize,
     sigma: &[u32],
     smaller: &[u16],
     table: &mut [u16],
 ) -> Answer
-    ensures { λ r. ⌜ RestorePromise n k (now (sigma .entry)) (now (smaller .entry)) (now (table .entry)) r (now (table .exit)) ⌝ }
+    ensures { λ r. ⌜ RestorePromise n k «block_type» (now (sigma .entry)) (now (smaller .entry)) (now (table .entry)) r (now (table .exit)) ⌝ }
 {
-    let v = table_checks::restore_checked(n, k, sigma, smaller, table.len());
+    let v = table_checks::restore_checked(n, k, block_type, sigma, smaller, table.len());
     if v.number != 0 {
         return v;
     }

@@ -35,7 +35,7 @@ no-kind Form e = absurd (omega arith)
 
 pub numbers-one : (r s : Reading) → numbers r ≡ numbers s → r ≡ s
 numbers-one (Accepted h) (Accepted g) e =
-    ap (λ (a : ReadAnswer). Accepted (record { n = a .n; k = a .k; count = a .count })) e
+    ap (λ (a : ReadAnswer). Accepted (record { n = a .n; k = a .k; «block_type» = a .«block_type»; «type_line» = a .«type_line»; count = a .count })) e
 numbers-one (Accepted h) (Refused s) e = no-kind (s .kind) (sym (ap (λ (a : ReadAnswer). a .number) e))
 numbers-one (Refused r) (Accepted g) e = no-kind (r .kind) (ap (λ (a : ReadAnswer). a .number) e)
 numbers-one (Refused r) (Refused s) e = same (kind-one (r .kind) (s .kind) (ap (λ (a : ReadAnswer). a .number) e))

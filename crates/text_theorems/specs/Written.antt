@@ -10,12 +10,14 @@ use lib.ListN.{length, drop}
 use lib.Seq.{drop-drop}
 use Rattle.slices.specs.Places.{tab}
 use Rattle.slices.specs.Tests.{and-both}
+use Rattle.block.specs.Words.{fr}
 use Rattle.block.specs.Refusals.{badRow, rowAt}
-use Rattle.block.specs.Text.{decimal, symbols, bits, headLine, rowLine, rowLines, endLine, textOf, lines, lineAt, every, headDigits, rowForm, rowOn}
+use Rattle.block.specs.Text.{decimal, symbols, bits, headLine, rowLine, rowLines, endLine, typeLine, typeLines, textOf, lines, lineAt, every, headDigits, rowForm, rowOn}
 use Rattle.block.specs.declared.Row.{Row}
 use Rattle.put_bytes.specs.Puts.{lines-append}
 use Rattle.read_laws.specs.Front.{front, start, line-front, front-rest, noLF}
 use Rattle.read_laws.specs.HeadLines.{heading-noLF}
+use Rattle.read_laws.specs.TypeLines.{type-noLF}
 use Rattle.text_theorems.specs.Rows.{form-row, row-noLF}
 
 -- ---- a written text, line by line
@@ -49,20 +51,33 @@ cut-end : lines endLine ≡ endLine ∷ []
 unfolding lines
 cut-end = refl
 
--- the three headings, the rows and the last line
-pub written-lines : (n k : ℕ) (rs : List Row) → n < 10 ^ headDigits → k < 10 ^ headDigits → length rs < 10 ^ headDigits
+-- the lines that the type takes: none where z is 0
+abbrev pub typeOn : ℕ → ℕ → List (List ℕ)
+typeOn y z = cond (eqb z 0) [] (typeLine y ∷ [])
+
+cut-type : (y z : ℕ) (rest : List ℕ) → lines (typeLines y z ++ rest) ≡ typeOn y z ++ lines rest
+cut-type y z rest = go (eqb z 0)
+  where
+    go : (b : Bool) → lines (cond b [] (typeLine y) ++ rest) ≡ cond b [] (typeLine y ∷ []) ++ lines rest
+    go true = refl
+    go false = cut-line (46 ∷ 116 ∷ 121 ∷ 112 ∷ 101 ∷ 32 ∷ 102 ∷ cond (eqb y fr) 114 100 ∷ []) rest (type-noLF y)
+
+-- the headings, the type line between them where it is to stand, the rows and the last line
+pub written-lines : (n k y z : ℕ) (rs : List Row) → n < 10 ^ headDigits → k < 10 ^ headDigits → length rs < 10 ^ headDigits
     → ((i : ℕ) → i < length rs → badRow n k (rowAt rs i) ≡ false)
-    → lines (textOf n k rs)
-    ≡ headLine 105 n ∷ headLine 111 k ∷ headLine 112 (length rs) ∷ (map (rowLine n k) rs ++ (endLine ∷ []))
+    → lines (textOf n k y z rs)
+    ≡ headLine 105 n ∷ headLine 111 k ∷ (typeOn y z ++ (headLine 112 (length rs) ∷ (map (rowLine n k) rs ++ (endLine ∷ []))))
 unfolding textOf
-written-lines n k rs hn hk hp good =
+written-lines n k y z rs hn hk hp good =
     simp append-assoc
     (cut-heading 105 n _ (omega arith) hn
     ∙ ap (λ (ls : List (List ℕ)). headLine 105 n ∷ ls)
     (cut-heading 111 k _ (omega arith) hk
     ∙ ap (λ (ls : List (List ℕ)). headLine 111 k ∷ ls)
+    (cut-type y z _
+    ∙ ap (λ (ls : List (List ℕ)). typeOn y z ++ ls)
     (cut-heading 112 (length rs) _ (omega arith) hp
-    ∙ ap (λ (ls : List (List ℕ)). headLine 112 (length rs) ∷ ls) (cut-rows n k rs endLine good ∙ ap (λ (ls : List (List ℕ)). map (rowLine n k) rs ++ ls) cut-end))))
+    ∙ ap (λ (ls : List (List ℕ)). headLine 112 (length rs) ∷ ls) (cut-rows n k rs endLine good ∙ ap (λ (ls : List (List ℕ)). map (rowLine n k) rs ++ ls) cut-end)))))
 
 -- ---- the text that lines make up
 

@@ -11,9 +11,9 @@ use lib.Seq.{take-at}
 use Rattle.slices.specs.Places.{at}
 use Rattle.slices.specs.Filled.{tab-cong, tab-list}
 use Rattle.block.specs.Limits.{sheetRoom, givenRows, readBytes}
-use Rattle.block.specs.Words.{row, rowsOf, maskPart, valuesPart, wordPart}
+use Rattle.block.specs.Words.{missing, row, rowsOf, maskPart, valuesPart, wordPart}
 use Rattle.block.specs.Refusals.{answer, verdict, stored}
-use Rattle.block.specs.Text.{inputsIn, outputsIn, countIn, readChecks, readVerdict, readText, rowsIn, kindNumber, numbers}
+use Rattle.block.specs.Text.{typeIn, inputsIn, outputsIn, countIn, readChecks, readVerdict, readText, rowsIn, kindNumber, numbers}
 use Rattle.block.specs.Lists.{methodChecks}
 use Rattle.block.specs.Sheet.{sheetText, sheetVerdict}
 use Rattle.block.specs.declared.Row.{Row}
@@ -68,9 +68,9 @@ rows-parts rs =
     ∙ tab-list (row 0 0 0) rs
 
 -- the verdict of a room that is long enough
-enough : (n k w : ℕ) (rs : List Row) (room : ℕ) → sheetRoom ≤ room → sheetVerdict n k w rs room ≡ sheetVerdict n k w rs sheetRoom
+enough : (n k y w : ℕ) (rs : List Row) (room : ℕ) → sheetRoom ≤ room → sheetVerdict n k y w rs room ≡ sheetVerdict n k y w rs sheetRoom
 unfolding sheetVerdict
-enough n k w rs room h = ap (λ (b : Bool). verdict (methodChecks n k w rs b)) (le-ltb room sheetRoom h ∙ sym (le-ltb sheetRoom sheetRoom (omega arith)))
+enough n k y w rs room h = ap (λ (b : Bool). verdict (methodChecks n k y w rs b)) (le-ltb room sheetRoom h ∙ sym (le-ltb sheetRoom sheetRoom (omega arith)))
 
 -- the number is the reader's where it refuses, and else the sheet's
 pub verdict-reader : (input : List ℕ) → (readVerdict (take readBytes input) givenRows .number ≡ 0 → ⊥)
@@ -79,7 +79,7 @@ unfolding textVerdict
 verdict-reader input h = rw (ne-eqb (readVerdict (take readBytes input) givenRows .number) 0 h)
 
 pub verdict-sheet : (input : List ℕ) → readVerdict (take readBytes input) givenRows .number ≡ 0
-    → textVerdict input ≡ sheetVerdict (inputsIn (take readBytes input)) (outputsIn (take readBytes input)) (min 3 (inputsIn (take readBytes input))) (rowsIn (take readBytes input)) sheetRoom
+    → textVerdict input ≡ sheetVerdict (inputsIn (take readBytes input)) (outputsIn (take readBytes input)) (typeIn (take readBytes input)) (min 3 (inputsIn (take readBytes input))) (rowsIn (take readBytes input)) sheetRoom
 unfolding textVerdict
 verdict-sheet input h = rw (eq-eqb (readVerdict (take readBytes input) givenRows .number) 0 h)
 
@@ -124,6 +124,10 @@ module _ (input text : List ℕ) (reading : Reading) (cut : text ≡ take readBy
     unfolding readText
     columns = ap (λ (x : ReadAnswer). x .k) same ∙ carried-yes u (outputsIn text) zero
 
+    typed : h .«block_type» ≡ typeIn text
+    unfolding readText
+    typed = ap (λ (x : ReadAnswer). x .«block_type») same ∙ carried-yes u (typeIn text) zero
+
     counted : h .count ≡ countIn text
     unfolding readText
     counted = ap (λ (x : ReadAnswer). x .count) same ∙ carried-yes u (countIn text) zero
@@ -142,9 +146,9 @@ module _ (input text : List ℕ) (reading : Reading) (cut : text ≡ take readBy
     pub reader-accepted : (m v d m′ v′ d′ : List ℕ) → m′ ≡ stored u (map maskPart (rowsIn text)) m
         → v′ ≡ stored u (map valuesPart (rowsIn text)) v → d′ ≡ stored u (map wordPart (rowsIn text)) d
         → (l l′ : List ℕ) (r : SheetWork) → sheetRoom ≤ length l
-        → r ≡ sheetWork (h .n) (h .k) (min 3 (h .n)) (firstRows (h .count) m′ v′ d′) (length l)
-        → l′ ≡ stored (sheetVerdict (h .n) (h .k) (min 3 (h .n)) (firstRows (h .count) m′ v′ d′) (length l))
-        (sheetText (h .n) (h .k) (min 3 (h .n)) (firstRows (h .count) m′ v′ d′)) l
+        → r ≡ sheetWork (h .n) (h .k) (h .«block_type») (min 3 (h .n)) (firstRows (h .count) m′ v′ d′) (length l)
+        → l′ ≡ stored (sheetVerdict (h .n) (h .k) (h .«block_type») (min 3 (h .n)) (firstRows (h .count) m′ v′ d′) (length l))
+        (sheetText (missing (h .«block_type»)) (h .n) (h .k) (min 3 (h .n)) (firstRows (h .count) m′ v′ d′)) l
         → (r ≡ textWork input) × (l′ ≡ stored (textVerdict input) (sheetIn input) l)
     unfolding sheetWork textWork textVerdict sheetIn
     reader-accepted m v d m′ v′ d′ a b c l l′ r long e q =
@@ -155,6 +159,6 @@ module _ (input text : List ℕ) (reading : Reading) (cut : text ≡ take readBy
           front wordPart d d′ c,
           rows-parts (rowsIn text),
         ) in (
-          e ∙ rw (← cut, eq-eqb (u .number) 0 zero, inputs, columns, rows, enough (inputsIn text) (outputsIn text) (min 3 (inputsIn text)) (rowsIn text) (length l) long),
-          q ∙ rw (← cut, eq-eqb (u .number) 0 zero, inputs, columns, rows, enough (inputsIn text) (outputsIn text) (min 3 (inputsIn text)) (rowsIn text) (length l) long),
+          e ∙ rw (← cut, eq-eqb (u .number) 0 zero, inputs, columns, typed, rows, enough (inputsIn text) (outputsIn text) (typeIn text) (min 3 (inputsIn text)) (rowsIn text) (length l) long),
+          q ∙ rw (← cut, eq-eqb (u .number) 0 zero, inputs, columns, typed, rows, enough (inputsIn text) (outputsIn text) (typeIn text) (min 3 (inputsIn text)) (rowsIn text) (length l) long),
         )

@@ -8,7 +8,7 @@ ghost use mathlib.Core.Path.{_≡_};
 ghost use Prim.Native.Nat.{_≤_, min};
 ghost use lib.ListN.{length};
 ghost use Rattle.block.specs.Limits.{sheetRoom};
-ghost use Rattle.block.specs.Words.{rowsOf};
+ghost use Rattle.block.specs.Words.{missing, rowsOf};
 ghost use Rattle.block.specs.Refusals.{stored};
 ghost use Rattle.block.specs.Sheet.{sheetText, sheetVerdict};
 ghost use Rattle.sheet_work.specs.Work.{sheetWork};
@@ -21,27 +21,29 @@ pub fn weight_limit(n: usize) -> usize
     if n < 3 { n } else { 3 }
 }
 
-// Writes the sheet of a list with that weight limit to the front of out, or refuses.
+// Writes the sheet of a list of a type with that weight limit to the front of out, or refuses.
 pub fn work_list(
     n: usize,
     k: usize,
+    block_type: usize,
     masks: &[u32],
     values: &[u32],
     words: &[u32],
     out: &mut [u8],
 ) -> SheetWork
-    ensures { λ r. ⌜ r ≡ sheetWork n k (min 3 n) (rowsOf (now (masks .entry)) (now (values .entry)) (now (words .entry))) (length (now (out .entry))) ⌝ }
+    ensures { λ r. ⌜ r ≡ sheetWork n k «block_type» (min 3 n) (rowsOf (now (masks .entry)) (now (values .entry)) (now (words .entry))) (length (now (out .entry))) ⌝ }
     ensures { λ r. ⌜ (let rs = rowsOf (now (masks .entry)) (now (values .entry)) (now (words .entry)) in
-        now (out .exit) ≡ stored (sheetVerdict n k (min 3 n) rs (length (now (out .entry)))) (sheetText n k (min 3 n) rs) (now (out .entry))) ⌝ }
+        now (out .exit) ≡ stored (sheetVerdict n k «block_type» (min 3 n) rs (length (now (out .entry)))) (sheetText (missing «block_type») n k (min 3 n) rs) (now (out .entry))) ⌝ }
 {
     let w = weight_limit(n);
-    sheet_work::make_sheet(n, k, w, masks, values, words, out)
+    sheet_work::make_sheet(n, k, block_type, w, masks, values, words, out)
 }
 
 // Writes the sheet of the list of the first `count` rows in storage to the front of out, or refuses.
 pub fn work_rows(
     n: usize,
     k: usize,
+    block_type: usize,
     count: usize,
     masks: &[u32],
     values: &[u32],
@@ -49,13 +51,14 @@ pub fn work_rows(
     out: &mut [u8],
 ) -> SheetWork
     requires { ⌜ (count ≤ length (now masks)) × (count ≤ length (now values)) × (count ≤ length (now words)) ⌝ }
-    ensures { λ r. ⌜ r ≡ sheetWork n k (min 3 n) (firstRows count (now (masks .entry)) (now (values .entry)) (now (words .entry))) (length (now (out .entry))) ⌝ }
+    ensures { λ r. ⌜ r ≡ sheetWork n k «block_type» (min 3 n) (firstRows count (now (masks .entry)) (now (values .entry)) (now (words .entry))) (length (now (out .entry))) ⌝ }
     ensures { λ r. ⌜ (let rs = firstRows count (now (masks .entry)) (now (values .entry)) (now (words .entry)) in
-        now (out .exit) ≡ stored (sheetVerdict n k (min 3 n) rs (length (now (out .entry)))) (sheetText n k (min 3 n) rs) (now (out .entry))) ⌝ }
+        now (out .exit) ≡ stored (sheetVerdict n k «block_type» (min 3 n) rs (length (now (out .entry)))) (sheetText (missing «block_type») n k (min 3 n) rs) (now (out .entry))) ⌝ }
 {
     work_list(
         n,
         k,
+        block_type,
         &masks[..count],
         &values[..count],
         &words[..count],
@@ -87,6 +90,15 @@ pub fn work_text(input: &[u8], out: &mut [u8]) -> SheetWork
                 count: 0,
             }
         }
-        Reading::Accepted(h) => work_rows(h.n, h.k, h.count, &masks, &values, &words, out),
+        Reading::Accepted(h) => work_rows(
+            h.n,
+            h.k,
+            h.block_type,
+            h.count,
+            &masks,
+            &values,
+            &words,
+            out,
+        ),
     }
 }

@@ -1,5 +1,5 @@
 //! The product's operations, from its static library, as one more implementation
-//! of 01: so that the tests and the times that are written over
+//! of 01 and 02: so that the tests and the times that are written over
 //! `reference::Operations` run over the product too. The functions are those that
 //! the Rust binding declares, as C has them: with a refusal, too, every result
 //! that comes back is looked at.
@@ -50,6 +50,8 @@ fn head(r: ReadAnswer) -> Answer<TextHead> {
     let results = TextHead {
         n: r.n,
         k: r.k,
+        block_type: r.block_type,
+        type_line: r.type_line,
         rows: r.count,
     };
     answer(r.number, r.a, r.b, results)
@@ -68,13 +70,14 @@ fn lent(rows: &mut [Row]) -> *mut irwystl::Row {
 /// together with that slice's length, and no slice that is written overlaps
 /// another.
 impl Operations for Product {
-    fn table_value(n: usize, k: usize, t: usize, table: &[u16]) -> Answer<u64> {
-        value(unsafe { raw::irwystl_table_value(n, k, t, table.as_ptr(), table.len()) })
+    fn table_value(n: usize, k: usize, block_type: usize, t: usize, table: &[u16]) -> Answer<u64> {
+        value(unsafe { raw::irwystl_table_value(n, k, block_type, t, table.as_ptr(), table.len()) })
     }
 
     fn table_method(
         n: usize,
         k: usize,
+        block_type: usize,
         w: usize,
         table: &[u16],
         smaller: &mut [u16],
@@ -85,6 +88,7 @@ impl Operations for Product {
             raw::irwystl_table_method(
                 n,
                 k,
+                block_type,
                 w,
                 table.as_ptr(),
                 table.len(),
@@ -101,6 +105,7 @@ impl Operations for Product {
     fn restore(
         n: usize,
         k: usize,
+        block_type: usize,
         sigma: &[u32],
         smaller: &[u16],
         table: &mut [u16],
@@ -109,6 +114,7 @@ impl Operations for Product {
             raw::irwystl_restore_table(
                 n,
                 k,
+                block_type,
                 sigma.as_ptr(),
                 sigma.len(),
                 smaller.as_ptr(),
@@ -119,11 +125,12 @@ impl Operations for Product {
         })
     }
 
-    fn row_value(n: usize, k: usize, t: usize, rows: Flat) -> Answer<u64> {
+    fn row_value(n: usize, k: usize, block_type: usize, t: usize, rows: Flat) -> Answer<u64> {
         value(unsafe {
             raw::irwystl_row_value(
                 n,
                 k,
+                block_type,
                 t,
                 rows.masks.as_ptr(),
                 rows.masks.len(),
@@ -135,13 +142,22 @@ impl Operations for Product {
         })
     }
 
-    fn row_value_records(n: usize, k: usize, t: usize, rows: &[Row]) -> Answer<u64> {
-        value(unsafe { raw::irwystl_records_row_value(n, k, t, given(rows), rows.len()) })
+    fn row_value_records(
+        n: usize,
+        k: usize,
+        block_type: usize,
+        t: usize,
+        rows: &[Row],
+    ) -> Answer<u64> {
+        value(unsafe {
+            raw::irwystl_records_row_value(n, k, block_type, t, given(rows), rows.len())
+        })
     }
 
     fn row_method(
         n: usize,
         k: usize,
+        block_type: usize,
         w: usize,
         rows: Flat,
         smaller: FlatRoom,
@@ -152,6 +168,7 @@ impl Operations for Product {
             raw::irwystl_row_method(
                 n,
                 k,
+                block_type,
                 w,
                 rows.masks.as_ptr(),
                 rows.masks.len(),
@@ -176,6 +193,7 @@ impl Operations for Product {
     fn row_method_records(
         n: usize,
         k: usize,
+        block_type: usize,
         w: usize,
         rows: &[Row],
         smaller: &mut [Row],
@@ -186,6 +204,7 @@ impl Operations for Product {
             raw::irwystl_records_row_method(
                 n,
                 k,
+                block_type,
                 w,
                 given(rows),
                 rows.len(),
@@ -199,11 +218,12 @@ impl Operations for Product {
         })
     }
 
-    fn fill(n: usize, k: usize, rows: Flat, table: &mut [u16]) -> Answer<()> {
+    fn fill(n: usize, k: usize, block_type: usize, rows: Flat, table: &mut [u16]) -> Answer<()> {
         plain(unsafe {
             raw::irwystl_fill_table(
                 n,
                 k,
+                block_type,
                 rows.masks.as_ptr(),
                 rows.masks.len(),
                 rows.values.as_ptr(),
@@ -216,11 +236,18 @@ impl Operations for Product {
         })
     }
 
-    fn fill_records(n: usize, k: usize, rows: &[Row], table: &mut [u16]) -> Answer<()> {
+    fn fill_records(
+        n: usize,
+        k: usize,
+        block_type: usize,
+        rows: &[Row],
+        table: &mut [u16],
+    ) -> Answer<()> {
         plain(unsafe {
             raw::irwystl_records_fill_table(
                 n,
                 k,
+                block_type,
                 given(rows),
                 rows.len(),
                 table.as_mut_ptr(),
@@ -250,11 +277,20 @@ impl Operations for Product {
         })
     }
 
-    fn write_text(n: usize, k: usize, rows: Flat, text: &mut [u8]) -> Answer<usize> {
+    fn write_text(
+        n: usize,
+        k: usize,
+        block_type: usize,
+        type_line: usize,
+        rows: Flat,
+        text: &mut [u8],
+    ) -> Answer<usize> {
         bytes_written(unsafe {
             raw::irwystl_write_text(
                 n,
                 k,
+                block_type,
+                type_line,
                 rows.masks.as_ptr(),
                 rows.masks.len(),
                 rows.values.as_ptr(),
@@ -267,11 +303,20 @@ impl Operations for Product {
         })
     }
 
-    fn write_text_records(n: usize, k: usize, rows: &[Row], text: &mut [u8]) -> Answer<usize> {
+    fn write_text_records(
+        n: usize,
+        k: usize,
+        block_type: usize,
+        type_line: usize,
+        rows: &[Row],
+        text: &mut [u8],
+    ) -> Answer<usize> {
         bytes_written(unsafe {
             raw::irwystl_records_write_text(
                 n,
                 k,
+                block_type,
+                type_line,
                 given(rows),
                 rows.len(),
                 text.as_mut_ptr(),
@@ -280,11 +325,19 @@ impl Operations for Product {
         })
     }
 
-    fn sheet(n: usize, k: usize, w: usize, rows: Flat, bytes: &mut [u8]) -> Answer<usize> {
+    fn sheet(
+        n: usize,
+        k: usize,
+        block_type: usize,
+        w: usize,
+        rows: Flat,
+        bytes: &mut [u8],
+    ) -> Answer<usize> {
         bytes_written(unsafe {
             raw::irwystl_sheet(
                 n,
                 k,
+                block_type,
                 w,
                 rows.masks.as_ptr(),
                 rows.masks.len(),
@@ -301,6 +354,7 @@ impl Operations for Product {
     fn sheet_records(
         n: usize,
         k: usize,
+        block_type: usize,
         w: usize,
         rows: &[Row],
         bytes: &mut [u8],
@@ -309,6 +363,7 @@ impl Operations for Product {
             raw::irwystl_records_sheet(
                 n,
                 k,
+                block_type,
                 w,
                 given(rows),
                 rows.len(),

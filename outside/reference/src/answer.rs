@@ -18,7 +18,7 @@ impl Refusal {
     /// The refusal with this number and these places.
     pub fn at(number: u32, a: usize, b: usize) -> Self {
         // Places are indices of rows, of table entries, of steps and of lines
-        // among the first 133, so they always fit.
+        // among the first 134, so they always fit.
         let place = |p| u32::try_from(p).expect("a place fits in 32 bits");
         Refusal {
             number,
@@ -72,10 +72,13 @@ pub struct Smaller {
     pub rows: usize,
 }
 
-/// The results of reading text: inputs, outputs and the number of rows.
+/// The results of reading text: inputs, outputs, the type, whether its line stood
+/// there (1, else 0), and the number of rows.
 #[derive(Clone, Copy, Debug, Default, PartialEq, Eq)]
 pub struct TextHead {
     pub n: usize,
     pub k: usize,
+    pub block_type: usize,
+    pub type_line: usize,
     pub rows: usize,
 }

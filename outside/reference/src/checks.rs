@@ -1,8 +1,8 @@
-//! The refusals 1 to 8 (01, Numbers that come back), one function each. An
+//! The refusals 1 to 8 (01, Numbers that come back; 02), one function each. An
 //! operation calls them in the order of the numbers. Not here: 9, which the row
 //! method finds at its steps, and 10, which the reader of text finds.
 
-use crate::{Refusal, Row, NO_OUTPUT, OUTPUTS};
+use crate::{missing, Refusal, Row, FD, FR, OUTPUTS};
 
 type Check = Result<(), Refusal>;
 
@@ -23,6 +23,16 @@ pub fn inputs(n: usize, most: usize) -> Check {
 /// 2: k outside 1 to 15.
 pub fn outputs(k: usize) -> Check {
     demand((1..=OUTPUTS).contains(&k), 2)
+}
+
+/// 3: another type number than those of fr and fd.
+pub fn block_type(block_type: usize) -> Check {
+    demand(block_type == FR || block_type == FD, 3)
+}
+
+/// 3: a type for the writer that the text would not tell: fr with no line.
+pub fn type_told(block_type: usize, type_line: usize) -> Check {
+    demand(block_type != FR || type_line != 0, 3)
 }
 
 /// 3: w outside 1 to n.
@@ -64,9 +74,10 @@ pub fn records(n: usize, k: usize, rows: &[Row]) -> Check {
     }
 }
 
-/// 6: the least index of a table entry neither below 2^k nor 65,535.
-pub fn entries(k: usize, table: &[u16]) -> Check {
-    let malformed = |&entry: &u16| entry != NO_OUTPUT && entry >= 1 << k;
+/// 6: the least index of a table entry neither below 2^k nor that of a missing
+/// point, so that 65,535 is malformed under fd.
+pub fn entries(k: usize, block_type: usize, table: &[u16]) -> Check {
+    let malformed = |&entry: &u16| entry != missing(block_type) && entry >= 1 << k;
     match table.iter().position(malformed) {
         Some(index) => Err(Refusal::at(6, 0, index)),
         None => Ok(()),

@@ -4,15 +4,17 @@
 //!
 //! R is worked out once for every candidate: over a table by counting each pair
 //! of points once, over rows from the list of the cubes of t that pairs of rows
-//! add to. The steps then look for the greatest R outside the span of the
-//! chosen numbers, kept in echelon form.
+//! of one word add to (document 003, Theorem 1). Where missing points have a word
+//! (02, Ticket 2), the points of that word stand in a bitmap, and its pairs are
+//! counted there by the one-bits of two copies of it. The steps then look for the
+//! greatest R outside the span of the chosen numbers, kept in echelon form.
 
 use crate::list::{answer_method, check_fill, check_value, Found};
 use crate::matrix::highest;
 use crate::table::{check_method, check_restore};
 use crate::{
-    matrix, sheet as texts, Answer, List, Measures, Refusal, Room, Row, Smaller, NO_OUTPUT,
-    SMALLER_ROWS,
+    matrix, missing, sheet as texts, Answer, List, Measures, Refusal, Room, Row, Smaller,
+    NO_OUTPUT, SMALLER_ROWS,
 };
 
 pub use crate::table::table_value;
@@ -117,6 +119,7 @@ fn all_sums(numbers: &[u32]) -> Vec<u32> {
 pub fn table_method(
     n: usize,
     k: usize,
+    block_type: usize,
     w: usize,
     table: &[u16],
     smaller: &mut [u16],
@@ -124,7 +127,7 @@ pub fn table_method(
     sigma: &mut [u32],
 ) -> Answer<Measures> {
     let room = [smaller.len(), columns.len(), sigma.len()];
-    if let Err(refusal) = check_method(n, k, w, table, room) {
+    if let Err(refusal) = check_method(n, k, block_type, w, table, room) {
         return Err(refusal).into();
     }
     // Points without output get words of their own, equal to no other.
@@ -172,11 +175,12 @@ fn equal_pairs(words: &[u32], t: u32) -> u64 {
 pub fn restore(
     n: usize,
     k: usize,
+    block_type: usize,
     sigma: &[u32],
     smaller: &[u16],
     table: &mut [u16],
 ) -> Answer<()> {
-    let checked = check_restore(n, k, sigma, smaller, table.len());
+    let checked = check_restore(n, k, block_type, sigma, smaller, table.len());
     if let Err(refusal) = checked.and_then(|()| independent(sigma)) {
         return Err(refusal).into();
     }
@@ -201,6 +205,32 @@ fn independent(matrix: &[u32]) -> Result<(), Refusal> {
     Ok(())
 }
 
+/// Whether missing points have a word.
+fn have_word(block_type: usize) -> bool {
+    missing(block_type) != NO_OUTPUT
+}
+
+/// The rows of other words than missing points have, whose points are called set
+/// here: all rows where missing points have no output.
+fn set_rows(block_type: usize, rows: &[Row]) -> Vec<Row> {
+    let word = u32::from(missing(block_type));
+    let set = rows.iter().filter(|row| row.word != word);
+    set.copied().collect()
+}
+
+/// The number of points of disjoint rows.
+fn points(n: usize, rows: &[Row]) -> u64 {
+    let covered = rows
+        .iter()
+        .map(|row| 1 << (n as u32 - row.mask.count_ones()));
+    covered.sum()
+}
+
+/// 1 for rows of equal words, else 0.
+fn equal(p: &Row, q: &Row) -> u32 {
+    u32::from(p.word == q.word)
+}
+
 /// The cubes of t that pairs of rows add to, by mask, value and weight.
 #[derive(Default)]
 struct Cubes {
@@ -210,26 +240,30 @@ struct Cubes {
 }
 
 impl Cubes {
-    /// The cubes of all pairs of rows with equal words; that of two different
-    /// rows counts twice, once for each order.
-    fn new(n: usize, rows: &[Row]) -> Cubes {
+    /// The cubes of all pairs of rows that count, so many times; that of two
+    /// different rows counts for each order.
+    fn new(n: usize, rows: &[Row], times: impl Fn(&Row, &Row) -> u32) -> Cubes {
         let mut cubes = Cubes::default();
         for (i, p) in rows.iter().enumerate() {
             for (j, q) in rows[i..].iter().enumerate() {
-                if p.word != q.word {
+                let times = times(p, q);
+                if times == 0 {
                     continue;
                 }
                 let mask = p.mask & q.mask;
                 let free_in_both = n as u32 - (p.mask | q.mask).count_ones();
                 cubes.masks.push(mask);
                 cubes.values.push(mask & (p.values ^ q.values));
-                cubes.weights.push(1 << (free_in_both + u32::from(j > 0)));
+                cubes
+                    .weights
+                    .push(times << (free_in_both + u32::from(j > 0)));
             }
         }
         cubes
     }
 
-    /// R(t). It is at most 2^n, so it fits in 32 bits.
+    /// What the pairs add at t. It is at most 2^n so many times as a pair counts,
+    /// so it fits in 32 bits.
     fn sum(&self, t: u32) -> u64 {
         let cubes = self.masks.iter().zip(&self.values).zip(&self.weights);
         let sum: u32 = cubes
@@ -239,21 +273,163 @@ impl Cubes {
     }
 }
 
-/// A single value of R, each pair of different rows looked at once.
-pub fn row_value(n: usize, k: usize, t: usize, rows: impl List) -> Answer<u64> {
-    let rows = rows.rows();
-    let outcome = check_value(n, k, t, &rows).map(|()| {
-        let t = t as u32;
-        let mut sum = 0;
-        for (i, p) in rows.iter().enumerate() {
-            for (j, q) in rows[i..].iter().enumerate() {
-                if p.word == q.word && (t ^ p.values ^ q.values) & p.mask & q.mask == 0 {
-                    let free_in_both = n as u32 - (p.mask | q.mask).count_ones();
-                    sum += 1 << (free_in_both + u32::from(j > 0));
+/// Points as a bitmap, 512 to a part: point x is bit x mod 64 of number
+/// x / 64 mod 8 of part x / 512.
+struct Points {
+    parts: Vec<[u64; 8]>,
+}
+
+impl Points {
+    /// The points that are not set.
+    fn not_set(n: usize, set: &[Row]) -> Points {
+        let mut parts = vec![[0; 8]; 1 << n.saturating_sub(9)];
+        for number in parts.iter_mut().flatten().take(1 << n.saturating_sub(6)) {
+            *number = if n < 6 { (1 << (1 << n)) - 1 } else { u64::MAX };
+        }
+        for row in set {
+            // Its points among 64 by the six lowest inputs, then by the rest.
+            let covered = (0..64)
+                .filter(|&x| (x ^ row.values) & row.mask & 63 == 0)
+                .fold(0u64, |bits, x| bits | 1 << x);
+            let [mask, values] = [row.mask >> 6, row.values >> 6];
+            let free = !mask & ((1 << n.saturating_sub(6)) - 1);
+            let mut rest = free;
+            loop {
+                let place = (values | rest) as usize;
+                parts[place / 8][place % 8] &= !covered;
+                if rest == 0 {
+                    break;
+                }
+                rest = (rest - 1) & free;
+            }
+        }
+        Points { parts }
+    }
+
+    /// How many of these points x have x XOR t among them, at each t below 2^n
+    /// with at most w one-bits.
+    fn pairs(&self, n: usize, w: usize) -> Vec<u64> {
+        let mut counts = vec![0; 1 << n];
+        let within = |t: usize| t.count_ones() as usize <= w;
+        for low in (0..1usize << n.min(6)).filter(|&low| within(low)) {
+            let moved = self.moved(low);
+            for high in 0..1 << n.saturating_sub(6) {
+                let t = high << 6 | low;
+                if within(t) {
+                    counts[t] = self.pairs_with(&moved, high);
                 }
             }
         }
-        sum
+        counts
+    }
+
+    /// The bitmap with bit x taken at x XOR t, for t below 64: neighbouring groups
+    /// of 1, 2, 4, .. bits change places at each one-bit of t.
+    fn moved(&self, t: usize) -> Vec<[u64; 8]> {
+        const LOWER: [u64; 6] = [
+            0x5555_5555_5555_5555,
+            0x3333_3333_3333_3333,
+            0x0F0F_0F0F_0F0F_0F0F,
+            0x00FF_00FF_00FF_00FF,
+            0x0000_FFFF_0000_FFFF,
+            0x0000_0000_FFFF_FFFF,
+        ];
+        let mut parts = self.parts.clone();
+        for bit in (0..6).filter(|bit| t >> bit & 1 == 1) {
+            for number in parts.iter_mut().flatten() {
+                let [lower, size] = [LOWER[bit], 1 << bit];
+                *number = (*number & lower) << size | *number >> size & lower;
+            }
+        }
+        parts
+    }
+
+    /// How many of these points are among those of the other bitmap, its numbers
+    /// taken at their place XOR `high`. Where that leads to another part each pair
+    /// is looked at once.
+    fn pairs_with(&self, moved: &[[u64; 8]], high: usize) -> u64 {
+        let [number, part] = [high % 8, high / 8];
+        let mut count = Count::default();
+        if part == 0 {
+            for (these, others) in self.parts.iter().zip(moved) {
+                count.add(these, others, number);
+            }
+            return count.total();
+        }
+        let half = 1 << highest(part as u32);
+        let low = part - half;
+        let blocks = self.parts.chunks_exact(2 * half);
+        for (block, others) in blocks.zip(moved.chunks_exact(2 * half)) {
+            for (i, these) in block[..half].iter().enumerate() {
+                count.add(these, &others[half + (i ^ low)], number);
+            }
+        }
+        2 * count.total()
+    }
+}
+
+/// A number of one-bits, added up eight numbers at a time: of so many at each bit,
+/// the ones, twos and fours are kept as bits, and the eights counted.
+#[derive(Default)]
+struct Count {
+    ones: u64,
+    twos: u64,
+    fours: u64,
+    eights: u64,
+}
+
+impl Count {
+    /// Adds what two parts have in common, the second's numbers taken at their
+    /// place XOR `number`, which is below 8.
+    fn add(&mut self, these: &[u64; 8], others: &[u64; 8], number: usize) {
+        let common = |i: usize| these[i] & others[(i ^ number) % 8];
+        let first = carried(&mut self.ones, common(0), common(1));
+        let second = carried(&mut self.ones, common(2), common(3));
+        let low = carried(&mut self.twos, first, second);
+        let first = carried(&mut self.ones, common(4), common(5));
+        let second = carried(&mut self.ones, common(6), common(7));
+        let high = carried(&mut self.twos, first, second);
+        let carry = carried(&mut self.fours, low, high);
+        self.eights += u64::from(carry.count_ones());
+    }
+
+    fn total(&self) -> u64 {
+        let ones = |bits: u64| u64::from(bits.count_ones());
+        ones(self.ones) + 2 * ones(self.twos) + 4 * ones(self.fours) + 8 * self.eights
+    }
+}
+
+/// Adds two numbers to a third at each bit; what is carried is given.
+fn carried(sum: &mut u64, a: u64, b: u64) -> u64 {
+    let either = a ^ b;
+    let carry = a & b | either & *sum;
+    *sum ^= either;
+    carry
+}
+
+/// A single value of R, each pair of different rows looked at once. Where missing
+/// points have a word, x and x XOR t both have it for 2^n points x, less those
+/// where x is set, less those where x XOR t is, and those where both are were taken
+/// away twice: so a pair of set rows counts once more.
+pub fn row_value(n: usize, k: usize, block_type: usize, t: usize, rows: impl List) -> Answer<u64> {
+    let rows = rows.rows();
+    let outcome = check_value(n, k, block_type, t, &rows).map(|()| {
+        let set = set_rows(block_type, &rows);
+        let more = u32::from(have_word(block_type));
+        let mut sum = 0;
+        for (i, p) in set.iter().enumerate() {
+            for (j, q) in set[i..].iter().enumerate() {
+                let times = equal(p, q) + more;
+                if times > 0 && (t as u32 ^ p.values ^ q.values) & p.mask & q.mask == 0 {
+                    let free_in_both = n as u32 - (p.mask | q.mask).count_ones();
+                    sum += u64::from(times << (free_in_both + u32::from(j > 0)));
+                }
+            }
+        }
+        match more {
+            0 => sum,
+            _ => sum + (1 << n) - 2 * points(n, &set),
+        }
     });
     outcome.into()
 }
@@ -262,21 +438,46 @@ pub fn row_value(n: usize, k: usize, t: usize, rows: impl List) -> Answer<u64> {
 pub fn row_method(
     n: usize,
     k: usize,
+    block_type: usize,
     w: usize,
     rows: impl List,
     smaller: impl Room,
     columns: &mut [u32],
     sigma: &mut [u32],
 ) -> Answer<Smaller> {
-    answer_method(n, k, w, rows, smaller, [columns, sigma], find)
+    answer_method(n, k, block_type, w, rows, smaller, [columns, sigma], find)
+}
+
+/// R of a list at every candidate, smallest candidate first. Where missing points
+/// have a word, the pairs of points that are not set are worked out from pairs of
+/// set rows, as for a single value, where these are few; else they are counted.
+fn shifts(n: usize, block_type: usize, w: usize, rows: &[Row]) -> Vec<(u32, u64)> {
+    let candidates = matrix::candidates(n, w);
+    let set = set_rows(block_type, rows);
+    let covered = points(n, &set);
+    if !have_word(block_type) {
+        let cubes = Cubes::new(n, &set, equal);
+        return candidates.map(|t| (t, cubes.sum(t))).collect();
+    }
+    if 10 * set.len() * set.len() < 1 << n {
+        let cubes = Cubes::new(n, &set, |p, q| equal(p, q) + 1);
+        let shift = |t| cubes.sum(t) + (1 << n) - 2 * covered;
+        return candidates.map(|t| (t, shift(t))).collect();
+    }
+    let pairs = Points::not_set(n, &set).pairs(n, w);
+    if set.windows(2).all(|rows| rows[0].word == rows[1].word) {
+        // The set points have one word too, so that all their pairs count.
+        let shift = |t| 2 * (pairs[t as usize] + covered) - (1 << n);
+        return candidates.map(|t| (t, shift(t))).collect();
+    }
+    let cubes = Cubes::new(n, &set, equal);
+    let shift = |t| cubes.sum(t) + pairs[t as usize];
+    candidates.map(|t| (t, shift(t))).collect()
 }
 
 /// The row method on a list that was checked.
-fn find(n: usize, w: usize, rows: &[Row]) -> Result<Found, Refusal> {
-    let cubes = Cubes::new(n, rows);
-    let candidates: Vec<(u32, u64)> = matrix::candidates(n, w)
-        .map(|t| (t, cubes.sum(t)))
-        .collect();
+fn find(n: usize, block_type: usize, w: usize, rows: &[Row]) -> Result<Found, Refusal> {
+    let candidates = shifts(n, block_type, w, rows);
     let chosen = basis(n, &candidates);
     let columns: Vec<u32> = chosen.iter().map(|&(t, _)| t).collect();
     Ok(Found {
@@ -344,13 +545,19 @@ fn transformed(rows: &[Row], columns: &[u32]) -> Result<Vec<Row>, Refusal> {
 }
 
 /// Filling, row by row over the points that each covers.
-pub fn fill(n: usize, k: usize, rows: impl List, table: &mut [u16]) -> Answer<()> {
+pub fn fill(
+    n: usize,
+    k: usize,
+    block_type: usize,
+    rows: impl List,
+    table: &mut [u16],
+) -> Answer<()> {
     let rows = rows.rows();
-    if let Err(refusal) = check_fill(n, k, &rows, table.len()) {
+    if let Err(refusal) = check_fill(n, k, block_type, &rows, table.len()) {
         return Err(refusal).into();
     }
     let table = &mut table[..1 << n];
-    table.fill(NO_OUTPUT);
+    table.fill(missing(block_type));
     for row in &rows {
         let free = !row.mask & ((1 << n) - 1);
         let mut part = free;
@@ -366,8 +573,15 @@ pub fn fill(n: usize, k: usize, rows: impl List, table: &mut [u16]) -> Answer<()
 }
 
 /// The sheet.
-pub fn sheet(n: usize, k: usize, w: usize, rows: impl List, bytes: &mut [u8]) -> Answer<usize> {
-    texts::answer_sheet(n, k, w, rows, bytes, find)
+pub fn sheet(
+    n: usize,
+    k: usize,
+    block_type: usize,
+    w: usize,
+    rows: impl List,
+    bytes: &mut [u8],
+) -> Answer<usize> {
+    texts::answer_sheet(n, k, block_type, w, rows, bytes, find)
 }
 
 /// What the program prints.

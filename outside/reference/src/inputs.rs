@@ -1,13 +1,13 @@
 //! Inputs from a seed, the same for the same seed: tables, lists of disjoint
-//! rows, matrices, row texts, and all of these damaged; numbers in and out of
-//! range; rooms short, exact and long. [`Case::new`] draws a whole call of one
+//! rows, matrices, row texts, and all of these damaged; their types; numbers in
+//! and out of range; rooms short, exact and long. [`Case::new`] draws a whole call of one
 //! operation with everything it is lent.
 
 use crate::list::Step;
 use crate::{
-    fast, matrix, write_text, Answer, Flat, FlatRoom, List, Operations, Row, Smaller, TextHead,
-    FILL_ROWS, NO_OUTPUT, OUTPUTS, ROWS, ROW_INPUTS, SHEET_ROOM, SMALLER_ROWS, TABLE_INPUTS,
-    TEXT_ROOM,
+    fast, matrix, missing, write_text, Answer, Flat, FlatRoom, List, Operations, Row, Smaller,
+    TextHead, FD, FILL_ROWS, FR, NO_OUTPUT, OUTPUTS, ROWS, ROW_INPUTS, SHEET_ROOM, SMALLER_ROWS,
+    TABLE_INPUTS, TEXT_ROOM,
 };
 
 /// A source of numbers that depend on the seed alone (SplitMix64).
@@ -152,8 +152,9 @@ pub fn hidden_rows(random: &mut Random, n: usize, k: usize, count: usize) -> Vec
 }
 
 /// A list whose number of smaller rows is near 512, on either side of it, with
-/// its n, k and w: the nearest of so many drawn.
-pub fn rows_near_512(random: &mut Random, draws: usize) -> (usize, usize, usize, Vec<Row>) {
+/// its n, k, type and w: the nearest of so many drawn.
+pub fn rows_near_512(random: &mut Random, draws: usize) -> ([usize; 4], Vec<Row>) {
+    let block_type = random.pick(&[FR, FD]);
     let draw = |_| {
         let n = random.between(12, ROW_INPUTS);
         let k = random.between(1, OUTPUTS);
@@ -162,20 +163,21 @@ pub fn rows_near_512(random: &mut Random, draws: usize) -> (usize, usize, usize,
         let list = hidden_rows(random, n, k, count);
         // Where the list passes 512 its length is not known; it counts as
         // somewhat far.
-        let after = smaller_rows(n, k, w, &list);
+        let after = smaller_rows([n, k, block_type, w], &list);
         let distance = after.map_or(40, |after| SMALLER_ROWS - after);
-        (distance, (n, k, w, list))
+        (distance, ([n, k, block_type, w], list))
     };
     let nearest = (0..draws).map(draw).min_by_key(|(distance, _)| *distance);
     nearest.expect("at least one list is drawn").1
 }
 
 /// The number of smaller rows, where the row method answers.
-fn smaller_rows(n: usize, k: usize, w: usize, rows: &[Row]) -> Option<usize> {
+fn smaller_rows([n, k, block_type, w]: [usize; 4], rows: &[Row]) -> Option<usize> {
     let mut smaller = [Row::default(); SMALLER_ROWS];
     let [mut columns, mut sigma] = [[0; ROW_INPUTS]; 2];
     let room = &mut smaller[..];
-    let answer = fast::row_method(n, k, w, rows, room, &mut columns, &mut sigma);
+    let [t, s] = [&mut columns, &mut sigma];
+    let answer = fast::row_method(n, k, block_type, w, rows, room, t, s);
     (answer.number == 0).then_some(answer.results.rows)
 }
 
@@ -211,6 +213,14 @@ pub fn number(random: &mut Random, low: usize, high: usize) -> usize {
         2 => low,
         3 => high,
         _ => random.between(low, high),
+    }
+}
+
+/// A type number, mostly that of fr or fd.
+pub fn any_type(random: &mut Random) -> usize {
+    match random.below(24) {
+        0 => random.pick(&[0, 3, 4, 255, 256, 257, 65_537, (1 << 32) + 1, usize::MAX]),
+        _ => random.pick(&[FR, FD]),
     }
 }
 
@@ -266,16 +276,18 @@ pub fn overlap(random: &mut Random, n: usize, rows: &mut Vec<Row>) {
     }
 }
 
-/// The text of a list within its ranges.
-pub fn text_of(n: usize, k: usize, rows: &[Row]) -> Vec<u8> {
+/// The text of a list within its ranges, with this type and type line.
+pub fn text_of(head: TextHead, rows: &[Row]) -> Vec<u8> {
     let mut text = vec![0; TEXT_ROOM];
-    let written = write_text(n, k, rows, &mut text);
+    let [block_type, type_line] = [head.block_type, head.type_line];
+    let written = write_text(head.n, head.k, block_type, type_line, rows, &mut text);
     assert_eq!(written.number, 0, "the list is within its ranges");
     text.truncate(written.results);
     text
 }
 
-/// A row text that has form and ranges; its rows may share points.
+/// A row text that has form and ranges, with a type line or without; its rows may
+/// share points.
 pub fn text(random: &mut Random) -> Vec<u8> {
     let n = random.between(1, ROW_INPUTS);
     let k = random.between(1, OUTPUTS);
@@ -284,7 +296,15 @@ pub fn text(random: &mut Random) -> Vec<u8> {
         overlap(random, n, &mut rows);
         rows.truncate(ROWS);
     }
-    text_of(n, k, &rows)
+    let [block_type, type_line] = random.pick(&[[FR, 1], [FD, 1], [FD, 0]]);
+    let head = TextHead {
+        n,
+        k,
+        block_type,
+        type_line,
+        rows: rows.len(),
+    };
+    text_of(head, &rows)
 }
 
 /// A row text with one to three damages, which may undo each other.
@@ -299,7 +319,7 @@ pub fn damaged_text(random: &mut Random) -> Vec<u8> {
 /// One damage to a text.
 fn damage(random: &mut Random, text: &mut Vec<u8>) {
     let place = random.below(text.len() + 1);
-    match random.below(14) {
+    match random.below(16) {
         // A byte flipped, another byte, one more, one less.
         0 if place < text.len() => text[place] ^= 1 << random.below(8),
         1 if place < text.len() => text[place] = random.pick(b"01- .\n\r\t2e\0"),
@@ -322,7 +342,7 @@ fn damage(random: &mut Random, text: &mut Vec<u8>) {
         }
         // A heading's number replaced by one that has form, or has not.
         9..=11 => {
-            let line = random.below(3);
+            let line = random.below(4);
             let number = match random.below(3) {
                 0 => random.pick(&["0", "16", "17", "129", "130", "512", "999"]),
                 1 => random.pick(&["1", "2", "9", "12", "15", "99", "127", "128"]),
@@ -346,21 +366,56 @@ fn damage(random: &mut Random, text: &mut Vec<u8>) {
                 line.extend_from_slice(number.as_bytes());
             });
         }
+        // A type line more, near its place or anywhere: so one is doubled,
+        // misplaced, misspelt, or stands where it may.
+        12 | 13 => {
+            let line = random.pick(&TYPE_LINES);
+            let place = random.pick(&[0, 1, 2, 2, 2, 3, 4, usize::MAX]);
+            insert_line(random, text, place, line);
+        }
         // A line inserted, or a line gone.
+        14 => {
+            let extra = random.pick(&["", "# note", ".e", ".i 3", "0 1", "-"]);
+            insert_line(random, text, usize::MAX, extra);
+        }
         _ => {
-            let count = text.iter().filter(|&&byte| byte == b'\n').count() + 1;
-            let line = random.below(count);
-            let extra = random.pick(&["", "# note", ".e", ".type fr", ".i 3", "0 1", "-"]);
-            let insert = random.one_in(2);
-            let mut lines: Vec<Vec<u8>> = split(text);
-            if insert {
-                lines.insert(line, extra.into());
-            } else {
-                lines.remove(line);
-            }
+            let mut lines = split(text);
+            lines.remove(random.below(lines.len()));
             *text = lines.join(&b'\n');
         }
     }
+}
+
+/// Type lines, sound and misspelt.
+const TYPE_LINES: [&str; 16] = [
+    ".type fr",
+    ".type fd",
+    ".type fr",
+    ".type fd",
+    ".type f",
+    ".type fdr",
+    ".type",
+    ".type ",
+    ".type  fr",
+    ".type fr ",
+    ".type FD",
+    " .type fd",
+    ".type\tfr",
+    ".type fr\r",
+    ".type 1",
+    ".Type fd",
+];
+
+/// Inserts a line before the one of this index, or anywhere where there is none.
+fn insert_line(random: &mut Random, text: &mut Vec<u8>, line: usize, extra: &str) {
+    let mut lines = split(text);
+    let place = if line < lines.len() {
+        line
+    } else {
+        random.below(lines.len())
+    };
+    lines.insert(place, extra.into());
+    *text = lines.join(&b'\n');
 }
 
 /// The lines of a text, the part after its last LF included.
@@ -453,12 +508,14 @@ pub enum Case {
     TableValue {
         n: usize,
         k: usize,
+        block_type: usize,
         t: usize,
         table: Vec<u16>,
     },
     TableMethod {
         n: usize,
         k: usize,
+        block_type: usize,
         w: usize,
         table: Vec<u16>,
         smaller: Vec<u16>,
@@ -468,6 +525,7 @@ pub enum Case {
     Restore {
         n: usize,
         k: usize,
+        block_type: usize,
         sigma: Vec<u32>,
         smaller: Vec<u16>,
         table: Vec<u16>,
@@ -475,12 +533,14 @@ pub enum Case {
     RowValue {
         n: usize,
         k: usize,
+        block_type: usize,
         t: usize,
         rows: LentRows,
     },
     RowMethod {
         n: usize,
         k: usize,
+        block_type: usize,
         w: usize,
         rows: LentRows,
         smaller: LentRows,
@@ -490,6 +550,7 @@ pub enum Case {
     Fill {
         n: usize,
         k: usize,
+        block_type: usize,
         rows: LentRows,
         table: Vec<u16>,
     },
@@ -500,12 +561,15 @@ pub enum Case {
     WriteText {
         n: usize,
         k: usize,
+        block_type: usize,
+        type_line: usize,
         rows: LentRows,
         text: Vec<u8>,
     },
     Sheet {
         n: usize,
         k: usize,
+        block_type: usize,
         w: usize,
         rows: LentRows,
         bytes: Vec<u8>,
@@ -521,15 +585,22 @@ impl Case {
         let random = &mut Random::new(seed);
         match random.below(10) {
             0 => {
-                let (n, k, table) = any_table(random);
+                let ([n, k, block_type], table) = any_table(random);
                 let t = number(random, 0, (1 << n.min(16)) - 1);
-                Case::TableValue { n, k, t, table }
+                Case::TableValue {
+                    n,
+                    k,
+                    block_type,
+                    t,
+                    table,
+                }
             }
             1 => {
-                let (n, k, table) = any_table(random);
+                let ([n, k, block_type], table) = any_table(random);
                 Case::TableMethod {
                     n,
                     k,
+                    block_type,
                     w: number(random, 1, n.clamp(1, 16)),
                     table,
                     smaller: entries(random, 1 << n.min(16)),
@@ -538,7 +609,7 @@ impl Case {
                 }
             }
             2 => {
-                let (n, k, smaller) = any_table(random);
+                let ([n, k, block_type], smaller) = any_table(random);
                 let mut sigma = matrix_rows(random, n.clamp(1, 16));
                 if random.one_in(12) {
                     let index = random.below(sigma.len());
@@ -551,18 +622,25 @@ impl Case {
                 Case::Restore {
                     n,
                     k,
+                    block_type,
                     sigma,
                     smaller,
                     table,
                 }
             }
             3 => {
-                let (n, k, rows) = any_list(random, ROW_INPUTS, ROWS);
+                let ([n, k, block_type], rows) = any_list(random, ROW_INPUTS, ROWS);
                 let t = number(random, 0, (1 << n.min(16)) - 1);
-                Case::RowValue { n, k, t, rows }
+                Case::RowValue {
+                    n,
+                    k,
+                    block_type,
+                    t,
+                    rows,
+                }
             }
             4 => {
-                let (n, k, w, rows) = method_list(random);
+                let ([n, k, block_type, w], rows) = method_list(random);
                 let mut smaller = LentRows {
                     masks: numbers(random, SMALLER_ROWS),
                     ..LentRows::default()
@@ -575,6 +653,7 @@ impl Case {
                 Case::RowMethod {
                     n,
                     k,
+                    block_type,
                     w,
                     rows,
                     smaller,
@@ -583,16 +662,23 @@ impl Case {
                 }
             }
             5 => {
-                let (n, k, rows) = any_list(random, TABLE_INPUTS, FILL_ROWS);
+                let ([n, k, block_type], rows) = any_list(random, TABLE_INPUTS, FILL_ROWS);
                 let table = entries(random, 1 << n.min(16));
-                Case::Fill { n, k, rows, table }
+                Case::Fill {
+                    n,
+                    k,
+                    block_type,
+                    rows,
+                    table,
+                }
             }
             6 => {
                 let text = any_text(random);
                 // The .p count where the text still has it, else any.
                 let due = split(&text)
-                    .get(2)
-                    .and_then(|line| std::str::from_utf8(line.get(3..)?).ok()?.parse().ok())
+                    .iter()
+                    .find_map(|line| line.strip_prefix(b".p "))
+                    .and_then(|digits| std::str::from_utf8(digits).ok()?.parse().ok())
                     .map_or(ROWS, |due: usize| due.min(1_000));
                 let masks = numbers(random, due);
                 let mut rows = LentRows {
@@ -606,16 +692,27 @@ impl Case {
                 Case::ReadText { text, rows }
             }
             7 => {
-                let (n, k, rows) = any_list(random, ROW_INPUTS, ROWS);
+                let ([n, k, block_type], rows) = any_list(random, ROW_INPUTS, ROWS);
+                // Under fr the line is asked for; any number but 0 asks for it.
+                let least = usize::from(block_type == FR && !random.one_in(12));
+                let type_line = random.pick(&[least, 1, 1, 2, usize::MAX]);
                 let text = bytes(random, TEXT_ROOM);
-                Case::WriteText { n, k, rows, text }
+                Case::WriteText {
+                    n,
+                    k,
+                    block_type,
+                    type_line,
+                    rows,
+                    text,
+                }
             }
             8 => {
-                let (n, k, w, rows) = method_list(random);
+                let ([n, k, block_type, w], rows) = method_list(random);
                 let bytes = bytes(random, SHEET_ROOM);
                 Case::Sheet {
                     n,
                     k,
+                    block_type,
                     w,
                     rows,
                     bytes,
@@ -632,61 +729,104 @@ impl Case {
     /// prints takes the place of its input.
     pub fn run<O: Operations>(&mut self) -> Answer<Vec<u64>> {
         match self {
-            Case::TableValue { n, k, t, table } => {
-                flat(O::table_value(*n, *k, *t, table), |value| vec![value])
-            }
+            Case::TableValue {
+                n,
+                k,
+                block_type,
+                t,
+                table,
+            } => flat(O::table_value(*n, *k, *block_type, *t, table), |value| {
+                vec![value]
+            }),
             Case::TableMethod {
                 n,
                 k,
+                block_type,
                 w,
                 table,
                 smaller,
                 columns,
                 sigma,
             } => flat(
-                O::table_method(*n, *k, *w, table, smaller, columns, sigma),
+                O::table_method(*n, *k, *block_type, *w, table, smaller, columns, sigma),
                 |measures| vec![measures.before, measures.after],
             ),
             Case::Restore {
                 n,
                 k,
+                block_type,
                 sigma,
                 smaller,
                 table,
-            } => flat(O::restore(*n, *k, sigma, smaller, table), |()| vec![]),
-            Case::RowValue { n, k, t, rows } => {
-                flat(O::row_value(*n, *k, *t, rows.list()), |value| vec![value])
-            }
+            } => flat(
+                O::restore(*n, *k, *block_type, sigma, smaller, table),
+                |()| vec![],
+            ),
+            Case::RowValue {
+                n,
+                k,
+                block_type,
+                t,
+                rows,
+            } => flat(
+                O::row_value(*n, *k, *block_type, *t, rows.list()),
+                |value| vec![value],
+            ),
             Case::RowMethod {
                 n,
                 k,
+                block_type,
                 w,
                 rows,
                 smaller,
                 columns,
                 sigma,
             } => flat(
-                O::row_method(*n, *k, *w, rows.list(), smaller.room(), columns, sigma),
+                O::row_method(
+                    *n,
+                    *k,
+                    *block_type,
+                    *w,
+                    rows.list(),
+                    smaller.room(),
+                    columns,
+                    sigma,
+                ),
                 smaller_results,
             ),
-            Case::Fill { n, k, rows, table } => {
-                flat(O::fill(*n, *k, rows.list(), table), |()| vec![])
-            }
+            Case::Fill {
+                n,
+                k,
+                block_type,
+                rows,
+                table,
+            } => flat(
+                O::fill(*n, *k, *block_type, rows.list(), table),
+                |()| vec![],
+            ),
             Case::ReadText { text, rows } => flat(O::read_text(text, rows.room()), head_results),
-            Case::WriteText { n, k, rows, text } => {
-                flat(O::write_text(*n, *k, rows.list(), text), |count| {
-                    vec![count as u64]
-                })
-            }
+            Case::WriteText {
+                n,
+                k,
+                block_type,
+                type_line,
+                rows,
+                text,
+            } => flat(
+                O::write_text(*n, *k, *block_type, *type_line, rows.list(), text),
+                |count| vec![count as u64],
+            ),
             Case::Sheet {
                 n,
                 k,
+                block_type,
                 w,
                 rows,
                 bytes,
-            } => flat(O::sheet(*n, *k, *w, rows.list(), bytes), |count| {
-                vec![count as u64]
-            }),
+            } => flat(
+                O::sheet(*n, *k, *block_type, *w, rows.list(), bytes),
+                |count| vec![count as u64],
+            ),
             Case::Program { input } => {
                 *input = O::program(input);
                 Answer::default()
@@ -698,13 +838,23 @@ impl Case {
     /// slices have equal lengths.
     pub fn run_records<O: Operations>(&mut self) -> Option<Answer<Vec<u64>>> {
         let answer = match self {
-            Case::RowValue { n, k, t, rows } => {
+            Case::RowValue {
+                n,
+                k,
+                block_type,
+                t,
+                rows,
+            } => {
                 let rows = rows.records()?;
-                flat(O::row_value_records(*n, *k, *t, &rows), |value| vec![value])
+                flat(
+                    O::row_value_records(*n, *k, *block_type, *t, &rows),
+                    |value| vec![value],
+                )
             }
             Case::RowMethod {
                 n,
                 k,
+                block_type,
                 w,
                 rows,
                 smaller,
@@ -712,13 +862,31 @@ impl Case {
                 sigma,
             } => {
                 let [rows, mut room] = [rows.records()?, smaller.records()?];
-                let answer = O::row_method_records(*n, *k, *w, &rows, &mut room, columns, sigma);
+                let answer = O::row_method_records(
+                    *n,
+                    *k,
+                    *block_type,
+                    *w,
+                    &rows,
+                    &mut room,
+                    columns,
+                    sigma,
+                );
                 *smaller = LentRows::new(&room);
                 flat(answer, smaller_results)
             }
-            Case::Fill { n, k, rows, table } => {
+            Case::Fill {
+                n,
+                k,
+                block_type,
+                rows,
+                table,
+            } => {
                 let rows = rows.records()?;
-                flat(O::fill_records(*n, *k, &rows, table), |()| vec![])
+                flat(
+                    O::fill_records(*n, *k, *block_type, &rows, table),
+                    |()| vec![],
+                )
             }
             Case::ReadText { text, rows } => {
                 let mut room = rows.records()?;
@@ -726,23 +894,33 @@ impl Case {
                 *rows = LentRows::new(&room);
                 flat(answer, head_results)
             }
-            Case::WriteText { n, k, rows, text } => {
+            Case::WriteText {
+                n,
+                k,
+                block_type,
+                type_line,
+                rows,
+                text,
+            } => {
                 let rows = rows.records()?;
-                flat(O::write_text_records(*n, *k, &rows, text), |count| {
-                    vec![count as u64]
-                })
+                flat(
+                    O::write_text_records(*n, *k, *block_type, *type_line, &rows, text),
+                    |count| vec![count as u64],
+                )
             }
             Case::Sheet {
                 n,
                 k,
+                block_type,
                 w,
                 rows,
                 bytes,
             } => {
                 let rows = rows.records()?;
-                flat(O::sheet_records(*n, *k, *w, &rows, bytes), |count| {
-                    vec![count as u64]
-                })
+                flat(
+                    O::sheet_records(*n, *k, *block_type, *w, &rows, bytes),
+                    |count| vec![count as u64],
+                )
             }
             _ => return None,
         };
@@ -765,15 +943,31 @@ fn smaller_results(smaller: Smaller) -> Vec<u64> {
 }
 
 fn head_results(head: TextHead) -> Vec<u64> {
-    vec![head.n as u64, head.k as u64, head.rows as u64]
+    let TextHead {
+        n,
+        k,
+        block_type,
+        type_line,
+        rows,
+    } = head;
+    [n, k, block_type, type_line, rows]
+        .map(|result| result as u64)
+        .to_vec()
 }
 
-/// n, k and a table, mostly within their ranges.
-fn any_table(random: &mut Random) -> (usize, usize, Vec<u16>) {
+/// n, k, the type and a table, mostly within their ranges. At times it has 65,535
+/// where that is malformed.
+fn any_table(random: &mut Random) -> ([usize; 3], Vec<u16>) {
     let most = random.pick(&[4, 6, 8, TABLE_INPUTS]);
     let n = number(random, 1, most);
     let k = number(random, 1, OUTPUTS);
+    let block_type = any_type(random);
     let mut table = table(random, n.clamp(1, 13), k.clamp(1, OUTPUTS));
+    if !random.one_in(8) {
+        for entry in table.iter_mut().filter(|entry| **entry == NO_OUTPUT) {
+            *entry = missing(block_type);
+        }
+    }
     if random.one_in(12) {
         let index = random.below(table.len());
         let above = 1u16.checked_shl(k as u32).unwrap_or(40_000);
@@ -783,29 +977,30 @@ fn any_table(random: &mut Random) -> (usize, usize, Vec<u16>) {
     if random.one_in(16) {
         uneven(random, &mut table);
     }
-    (n, k, table)
+    ([n, k, block_type], table)
 }
 
-/// n, k and a list, mostly within their ranges and disjoint.
-fn any_list(random: &mut Random, inputs: usize, most: usize) -> (usize, usize, LentRows) {
+/// n, k, the type and a list, mostly within their ranges and disjoint.
+fn any_list(random: &mut Random, inputs: usize, most: usize) -> ([usize; 3], LentRows) {
     let n = number(random, 1, inputs);
     let k = number(random, 1, OUTPUTS);
     let mut rows = any_rows(random, n.clamp(1, 20), k.clamp(1, OUTPUTS), most);
     let lent = harmed(random, n, k, most, &mut rows);
-    (n, k, lent)
+    ([n, k, any_type(random)], lent)
 }
 
-/// n, k, w and a list for the row method, at times with about 512 smaller rows.
-fn method_list(random: &mut Random) -> (usize, usize, usize, LentRows) {
+/// n, k, the type, w and a list for the row method, at times with about 512
+/// smaller rows.
+fn method_list(random: &mut Random) -> ([usize; 4], LentRows) {
     if random.one_in(12) {
-        let (n, k, w, rows) = rows_near_512(random, 24);
-        return (n, k, w, LentRows::new(&rows));
+        let (numbers, rows) = rows_near_512(random, 24);
+        return (numbers, LentRows::new(&rows));
     }
-    let (n, k, rows) = any_list(random, ROW_INPUTS, ROWS);
+    let ([n, k, block_type], rows) = any_list(random, ROW_INPUTS, ROWS);
     // Few cases with many candidates, for they take long.
-    let most = if random.one_in(40) { 16 } else { 4 };
-    let w = number(random, 1, n.clamp(1, most));
-    (n, k, w, rows)
+    let most = if n < 14 && random.one_in(20) { n } else { 4 };
+    let w = number(random, 1, n.min(most).max(1));
+    ([n, k, block_type, w], rows)
 }
 
 /// The list with harm at times: too many rows or none, records, overlaps,

@@ -1,18 +1,20 @@
-//! The operations of 01 in plain Rust. A client gets: single values of R, the
-//! table method, restoring, the row method, filling, reading and writing row
-//! text, the sheet, and what the program prints. Every operation takes any
-//! inputs and answers with a number, the places A and B, and its results.
+//! The operations of 01 in plain Rust, with the requests of 02 that are met. A
+//! client gets: single values of R, the table method, restoring, the row method,
+//! filling, reading and writing row text, the sheet, and what the program prints.
+//! Every operation takes any inputs and answers with a number, the places A and
+//! B, and its results. A type goes with every list and table.
 //!
-//! In order: [`answer`] and [`rows`] hold what goes in and out, [`checks`] the
-//! refusals, [`matrix`] the basis and its inverse, [`table`] and [`list`] the
-//! operations on full tables and on rows, [`text`] and [`sheet`] the texts.
+//! In order: [`answer`] and [`rows`] hold what goes in and out, [`types`] what a
+//! missing point means, [`checks`] the refusals, [`matrix`] the basis and its
+//! inverse, [`table`] and [`list`] the operations on full tables and on rows,
+//! [`text`] and [`sheet`] the texts.
 //! These are written to be read beside 01 and take the long way wherever that
 //! is the plain one. [`fast`] has the same operations as one would write them
 //! for speed, [`operations`] both under one trait, [`inputs`] makes inputs
 //! from a seed, and [`data`] holds an implementation to the cases with answers
 //! (outside/CASES.md).
 //!
-//! Not here: anything of the proved product. The two share nothing but 01.
+//! Not here: anything of the proved product. The two share nothing but 01 and 02.
 
 pub mod answer;
 pub mod checks;
@@ -26,11 +28,13 @@ pub mod rows;
 pub mod sheet;
 pub mod table;
 pub mod text;
+pub mod types;
 
 pub use answer::{Answer, Measures, Refusal, Smaller, TextHead};
 pub use operations::{Fast, Operations, Plain};
 pub use plain::*;
 pub use rows::{Flat, FlatRoom, List, Room, Row};
+pub use types::{missing, FD, FR};
 
 /// The operations that are written to be read beside 01.
 mod plain {
@@ -62,7 +66,7 @@ pub const FILL_ROWS: usize = 512;
 pub const SMALLER_ROWS: usize = 512;
 
 /// The room to lend for writing row text.
-pub const TEXT_ROOM: usize = 4_246;
+pub const TEXT_ROOM: usize = 4_255;
 
 /// The room to lend for a sheet.
 pub const SHEET_ROOM: usize = 17_518;

@@ -1,7 +1,7 @@
 //! The operations on lists of rows: single values, the row method, filling.
 
 use crate::{
-    checks, matrix, Answer, List, Refusal, Room, Row, Smaller, FILL_ROWS, NO_OUTPUT, ROWS,
+    checks, matrix, missing, Answer, List, Refusal, Room, Row, Smaller, FILL_ROWS, NO_OUTPUT, ROWS,
     ROW_INPUTS, SMALLER_ROWS, TABLE_INPUTS,
 };
 
@@ -19,35 +19,85 @@ fn pair_adds(n: usize, p: &Row, q: &Row, t: u32) -> u64 {
     }
 }
 
-/// R(t) of disjoint rows: the sum over all ordered pairs, a row with itself
-/// included.
-pub fn sum(n: usize, rows: &[Row], t: u32) -> u64 {
-    rows.iter()
-        .map(|p| rows.iter().map(|q| pair_adds(n, p, q, t)).sum::<u64>())
-        .sum()
+/// What R of disjoint rows is counted from. Points that no row covers may have a
+/// word (02, Ticket 2), and no pair of rows tells of them: the points of that word
+/// are counted one by one, with those of the rows that have it.
+pub struct Shifts {
+    n: usize,
+    /// The rows of every other word.
+    rows: Vec<Row>,
+    /// The points of the word that missing points have, and at each point whether
+    /// it is one. There are none where missing points have no output.
+    points: Vec<u32>,
+    is_point: Vec<bool>,
 }
 
-/// The measure: the sum of R at 1, 2, 4, .. 2^(n-1).
-pub fn measure(n: usize, rows: &[Row]) -> u64 {
-    (0..n).map(|i| sum(n, rows, 1 << i)).sum()
+impl Shifts {
+    pub fn new(n: usize, block_type: usize, rows: &[Row]) -> Shifts {
+        let word = missing(block_type);
+        let others = rows.iter().filter(|row| row.word != u32::from(word));
+        let rows: Vec<Row> = others.copied().collect();
+        let is_point = |x| word != NO_OUTPUT && !rows.iter().any(|row| row.covers(x));
+        let is_point: Vec<bool> = (0..1 << n).map(is_point).collect();
+        let points = (0..1 << n).filter(|&x| is_point[x as usize]).collect();
+        Shifts {
+            n,
+            rows,
+            points,
+            is_point,
+        }
+    }
+
+    /// R(t): the sum over all ordered pairs of rows, a row with itself included,
+    /// and the points x of the other word such that x XOR t has it too.
+    pub fn at(&self, t: u32) -> u64 {
+        let pairs_of = |p| {
+            self.rows
+                .iter()
+                .map(|q| pair_adds(self.n, p, q, t))
+                .sum::<u64>()
+        };
+        let pairs: u64 = self.rows.iter().map(pairs_of).sum();
+        let points = self
+            .points
+            .iter()
+            .filter(|&x| self.is_point[(x ^ t) as usize]);
+        pairs + points.count() as u64
+    }
+
+    /// The measure: the sum of R at 1, 2, 4, .. 2^(n-1).
+    pub fn measure(&self) -> u64 {
+        (0..self.n).map(|i| self.at(1 << i)).sum()
+    }
 }
 
 /// A single value of R.
-pub fn row_value(n: usize, k: usize, t: usize, rows: impl List) -> Answer<u64> {
+pub fn row_value(n: usize, k: usize, block_type: usize, t: usize, rows: impl List) -> Answer<u64> {
     let rows = rows.rows();
-    let outcome = check_value(n, k, t, &rows).map(|()| sum(n, &rows, t as u32));
+    let checked = check_value(n, k, block_type, t, &rows);
+    let outcome = checked.map(|()| Shifts::new(n, block_type, &rows).at(t as u32));
     outcome.into()
 }
 
 /// The refusals of a single value of a list.
-pub(crate) fn check_value(n: usize, k: usize, t: usize, rows: &[Row]) -> Result<(), Refusal> {
+pub(crate) fn check_value(
+    n: usize,
+    k: usize,
+    block_type: usize,
+    t: usize,
+    rows: &[Row],
+) -> Result<(), Refusal> {
     checks::inputs(n, ROW_INPUTS)?;
     checks::outputs(k)?;
+    checks::block_type(block_type)?;
     checks::shift(t, n)?;
     checks::rows_given(rows.len(), ROWS)?;
     checks::records(n, k, rows)?;
     checks::disjoint(rows)
 }
+
+/// A way to find the row method's results: from n, the type, w and the rows.
+pub(crate) type Find = fn(usize, usize, usize, &[Row]) -> Result<Found, Refusal>;
 
 /// What the row method finds.
 #[derive(Clone, Debug, PartialEq, Eq)]
@@ -63,24 +113,26 @@ pub struct Found {
 pub fn row_method(
     n: usize,
     k: usize,
+    block_type: usize,
     w: usize,
     rows: impl List,
     smaller: impl Room,
     columns: &mut [u32],
     sigma: &mut [u32],
 ) -> Answer<Smaller> {
-    answer_method(n, k, w, rows, smaller, [columns, sigma], find)
+    answer_method(n, k, block_type, w, rows, smaller, [columns, sigma], find)
 }
 
 /// The row method with this way to find its results.
 pub(crate) fn answer_method(
     n: usize,
     k: usize,
+    block_type: usize,
     w: usize,
     rows: impl List,
     mut smaller: impl Room,
     [columns, sigma]: [&mut [u32]; 2],
-    find: fn(usize, usize, &[Row]) -> Result<Found, Refusal>,
+    find: Find,
 ) -> Answer<Smaller> {
     let rows = rows.rows();
     let room = || {
@@ -88,7 +140,8 @@ pub(crate) fn answer_method(
         checks::room(columns.len(), n)?;
         checks::room(sigma.len(), n)
     };
-    let outcome = check_method(n, k, w, &rows, room).and_then(|()| find(n, w, &rows));
+    let checked = check_method(n, k, block_type, w, &rows, room);
+    let outcome = checked.and_then(|()| find(n, block_type, w, &rows));
     let outcome = outcome.map(|found| {
         smaller.put(&found.rows);
         columns[..n].copy_from_slice(&found.columns);
@@ -107,12 +160,14 @@ pub(crate) fn answer_method(
 pub(crate) fn check_method(
     n: usize,
     k: usize,
+    block_type: usize,
     w: usize,
     rows: &[Row],
     room: impl FnOnce() -> Result<(), Refusal>,
 ) -> Result<(), Refusal> {
     checks::inputs(n, ROW_INPUTS)?;
     checks::outputs(k)?;
+    checks::block_type(block_type)?;
     checks::weight_limit(w, n)?;
     checks::rows_given(rows.len(), ROWS)?;
     room()?;
@@ -122,15 +177,16 @@ pub(crate) fn check_method(
 
 /// The row method on a list that was checked: T, sigma, the measures and the
 /// smaller rows, or refusal 9.
-pub(crate) fn find(n: usize, w: usize, rows: &[Row]) -> Result<Found, Refusal> {
+pub(crate) fn find(n: usize, block_type: usize, w: usize, rows: &[Row]) -> Result<Found, Refusal> {
+    let shifts = Shifts::new(n, block_type, rows);
     let candidates: Vec<(u32, u64)> = matrix::candidates(n, w)
-        .map(|t| (t, sum(n, rows, t)))
+        .map(|t| (t, shifts.at(t)))
         .collect();
     let columns = matrix::basis(n, &candidates);
     let smaller = transformed(rows, &columns)?;
     Ok(Found {
-        before: measure(n, rows),
-        after: measure(n, &smaller),
+        before: shifts.measure(),
+        after: Shifts::new(n, block_type, &smaller).measure(),
         sigma: matrix::inverse(&columns),
         columns,
         rows: smaller,
@@ -238,23 +294,37 @@ fn exchange(x: u32, first: usize, second: usize) -> u32 {
     }
 }
 
-/// Filling: entry x is the word of the row that covers x, or 65,535.
-pub fn fill(n: usize, k: usize, rows: impl List, table: &mut [u16]) -> Answer<()> {
+/// Filling: entry x is the word of the row that covers x, or that of a missing
+/// point.
+pub fn fill(
+    n: usize,
+    k: usize,
+    block_type: usize,
+    rows: impl List,
+    table: &mut [u16],
+) -> Answer<()> {
     let rows = rows.rows();
-    if let Err(refusal) = check_fill(n, k, &rows, table.len()) {
+    if let Err(refusal) = check_fill(n, k, block_type, &rows, table.len()) {
         return Err(refusal).into();
     }
     for (x, entry) in (0..1 << n).zip(table) {
         let row = rows.iter().find(|row| row.covers(x));
-        *entry = row.map_or(NO_OUTPUT, |row| row.word as u16);
+        *entry = row.map_or(missing(block_type), |row| row.word as u16);
     }
     Ok(()).into()
 }
 
 /// The refusals of filling.
-pub(crate) fn check_fill(n: usize, k: usize, rows: &[Row], room: usize) -> Result<(), Refusal> {
+pub(crate) fn check_fill(
+    n: usize,
+    k: usize,
+    block_type: usize,
+    rows: &[Row],
+    room: usize,
+) -> Result<(), Refusal> {
     checks::inputs(n, TABLE_INPUTS)?;
     checks::outputs(k)?;
+    checks::block_type(block_type)?;
     checks::rows_given(rows.len(), FILL_ROWS)?;
     checks::room(room, 1 << n)?;
     checks::records(n, k, rows)?;

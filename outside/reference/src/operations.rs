@@ -1,16 +1,17 @@
 //! All operations under one trait, each operation on rows in both forms, so that
-//! one test or one timing runs over any implementation of 01.
+//! one test or one timing runs over any implementation of 01 and 02.
 
 use crate::{Answer, Flat, FlatRoom, Measures, Row, Smaller, TextHead};
 
-/// An implementation of 01. What a function is lent and gives is said at the
+/// An implementation of 01 and 02. What a function is lent and gives is said at the
 /// function of the same name in this library.
 pub trait Operations {
-    fn table_value(n: usize, k: usize, t: usize, table: &[u16]) -> Answer<u64>;
+    fn table_value(n: usize, k: usize, block_type: usize, t: usize, table: &[u16]) -> Answer<u64>;
 
     fn table_method(
         n: usize,
         k: usize,
+        block_type: usize,
         w: usize,
         table: &[u16],
         smaller: &mut [u16],
@@ -18,16 +19,29 @@ pub trait Operations {
         sigma: &mut [u32],
     ) -> Answer<Measures>;
 
-    fn restore(n: usize, k: usize, sigma: &[u32], smaller: &[u16], table: &mut [u16])
-        -> Answer<()>;
+    fn restore(
+        n: usize,
+        k: usize,
+        block_type: usize,
+        sigma: &[u32],
+        smaller: &[u16],
+        table: &mut [u16],
+    ) -> Answer<()>;
 
-    fn row_value(n: usize, k: usize, t: usize, rows: Flat) -> Answer<u64>;
+    fn row_value(n: usize, k: usize, block_type: usize, t: usize, rows: Flat) -> Answer<u64>;
 
-    fn row_value_records(n: usize, k: usize, t: usize, rows: &[Row]) -> Answer<u64>;
+    fn row_value_records(
+        n: usize,
+        k: usize,
+        block_type: usize,
+        t: usize,
+        rows: &[Row],
+    ) -> Answer<u64>;
 
     fn row_method(
         n: usize,
         k: usize,
+        block_type: usize,
         w: usize,
         rows: Flat,
         smaller: FlatRoom,
@@ -38,6 +52,7 @@ pub trait Operations {
     fn row_method_records(
         n: usize,
         k: usize,
+        block_type: usize,
         w: usize,
         rows: &[Row],
         smaller: &mut [Row],
@@ -45,22 +60,55 @@ pub trait Operations {
         sigma: &mut [u32],
     ) -> Answer<Smaller>;
 
-    fn fill(n: usize, k: usize, rows: Flat, table: &mut [u16]) -> Answer<()>;
+    fn fill(n: usize, k: usize, block_type: usize, rows: Flat, table: &mut [u16]) -> Answer<()>;
 
-    fn fill_records(n: usize, k: usize, rows: &[Row], table: &mut [u16]) -> Answer<()>;
+    fn fill_records(
+        n: usize,
+        k: usize,
+        block_type: usize,
+        rows: &[Row],
+        table: &mut [u16],
+    ) -> Answer<()>;
 
     fn read_text(text: &[u8], room: FlatRoom) -> Answer<TextHead>;
 
     fn read_text_records(text: &[u8], room: &mut [Row]) -> Answer<TextHead>;
 
-    fn write_text(n: usize, k: usize, rows: Flat, text: &mut [u8]) -> Answer<usize>;
+    fn write_text(
+        n: usize,
+        k: usize,
+        block_type: usize,
+        type_line: usize,
+        rows: Flat,
+        text: &mut [u8],
+    ) -> Answer<usize>;
 
-    fn write_text_records(n: usize, k: usize, rows: &[Row], text: &mut [u8]) -> Answer<usize>;
+    fn write_text_records(
+        n: usize,
+        k: usize,
+        block_type: usize,
+        type_line: usize,
+        rows: &[Row],
+        text: &mut [u8],
+    ) -> Answer<usize>;
 
-    fn sheet(n: usize, k: usize, w: usize, rows: Flat, bytes: &mut [u8]) -> Answer<usize>;
+    fn sheet(
+        n: usize,
+        k: usize,
+        block_type: usize,
+        w: usize,
+        rows: Flat,
+        bytes: &mut [u8],
+    ) -> Answer<usize>;
 
-    fn sheet_records(n: usize, k: usize, w: usize, rows: &[Row], bytes: &mut [u8])
-        -> Answer<usize>;
+    fn sheet_records(
+        n: usize,
+        k: usize,
+        block_type: usize,
+        w: usize,
+        rows: &[Row],
+        bytes: &mut [u8],
+    ) -> Answer<usize>;
 
     fn program(input: &[u8]) -> Vec<u8>;
 }
@@ -75,14 +123,21 @@ pub struct Fast;
 macro_rules! operations_of {
     ($name:ident, $module:path) => {
         impl Operations for $name {
-            fn table_value(n: usize, k: usize, t: usize, table: &[u16]) -> Answer<u64> {
+            fn table_value(
+                n: usize,
+                k: usize,
+                block_type: usize,
+                t: usize,
+                table: &[u16],
+            ) -> Answer<u64> {
                 use $module as operations;
-                operations::table_value(n, k, t, table)
+                operations::table_value(n, k, block_type, t, table)
             }
 
             fn table_method(
                 n: usize,
                 k: usize,
+                block_type: usize,
                 w: usize,
                 table: &[u16],
                 smaller: &mut [u16],
@@ -90,33 +145,47 @@ macro_rules! operations_of {
                 sigma: &mut [u32],
             ) -> Answer<Measures> {
                 use $module as operations;
-                operations::table_method(n, k, w, table, smaller, columns, sigma)
+                operations::table_method(n, k, block_type, w, table, smaller, columns, sigma)
             }
 
             fn restore(
                 n: usize,
                 k: usize,
+                block_type: usize,
                 sigma: &[u32],
                 smaller: &[u16],
                 table: &mut [u16],
             ) -> Answer<()> {
                 use $module as operations;
-                operations::restore(n, k, sigma, smaller, table)
+                operations::restore(n, k, block_type, sigma, smaller, table)
             }
 
-            fn row_value(n: usize, k: usize, t: usize, rows: Flat) -> Answer<u64> {
+            fn row_value(
+                n: usize,
+                k: usize,
+                block_type: usize,
+                t: usize,
+                rows: Flat,
+            ) -> Answer<u64> {
                 use $module as operations;
-                operations::row_value(n, k, t, rows)
+                operations::row_value(n, k, block_type, t, rows)
             }
 
-            fn row_value_records(n: usize, k: usize, t: usize, rows: &[Row]) -> Answer<u64> {
+            fn row_value_records(
+                n: usize,
+                k: usize,
+                block_type: usize,
+                t: usize,
+                rows: &[Row],
+            ) -> Answer<u64> {
                 use $module as operations;
-                operations::row_value(n, k, t, rows)
+                operations::row_value(n, k, block_type, t, rows)
             }
 
             fn row_method(
                 n: usize,
                 k: usize,
+                block_type: usize,
                 w: usize,
                 rows: Flat,
                 smaller: FlatRoom,
@@ -124,12 +193,13 @@ macro_rules! operations_of {
                 sigma: &mut [u32],
             ) -> Answer<Smaller> {
                 use $module as operations;
-                operations::row_method(n, k, w, rows, smaller, columns, sigma)
+                operations::row_method(n, k, block_type, w, rows, smaller, columns, sigma)
             }
 
             fn row_method_records(
                 n: usize,
                 k: usize,
+                block_type: usize,
                 w: usize,
                 rows: &[Row],
                 smaller: &mut [Row],
@@ -137,17 +207,29 @@ macro_rules! operations_of {
                 sigma: &mut [u32],
             ) -> Answer<Smaller> {
                 use $module as operations;
-                operations::row_method(n, k, w, rows, smaller, columns, sigma)
+                operations::row_method(n, k, block_type, w, rows, smaller, columns, sigma)
             }
 
-            fn fill(n: usize, k: usize, rows: Flat, table: &mut [u16]) -> Answer<()> {
+            fn fill(
+                n: usize,
+                k: usize,
+                block_type: usize,
+                rows: Flat,
+                table: &mut [u16],
+            ) -> Answer<()> {
                 use $module as operations;
-                operations::fill(n, k, rows, table)
+                operations::fill(n, k, block_type, rows, table)
             }
 
-            fn fill_records(n: usize, k: usize, rows: &[Row], table: &mut [u16]) -> Answer<()> {
+            fn fill_records(
+                n: usize,
+                k: usize,
+                block_type: usize,
+                rows: &[Row],
+                table: &mut [u16],
+            ) -> Answer<()> {
                 use $module as operations;
-                operations::fill(n, k, rows, table)
+                operations::fill(n, k, block_type, rows, table)
             }
 
             fn read_text(text: &[u8], room: FlatRoom) -> Answer<TextHead> {
@@ -160,35 +242,52 @@ macro_rules! operations_of {
                 operations::read_text(text, room)
             }
 
-            fn write_text(n: usize, k: usize, rows: Flat, text: &mut [u8]) -> Answer<usize> {
+            fn write_text(
+                n: usize,
+                k: usize,
+                block_type: usize,
+                type_line: usize,
+                rows: Flat,
+                text: &mut [u8],
+            ) -> Answer<usize> {
                 use $module as operations;
-                operations::write_text(n, k, rows, text)
+                operations::write_text(n, k, block_type, type_line, rows, text)
             }
 
             fn write_text_records(
                 n: usize,
                 k: usize,
+                block_type: usize,
+                type_line: usize,
                 rows: &[Row],
                 text: &mut [u8],
             ) -> Answer<usize> {
                 use $module as operations;
-                operations::write_text(n, k, rows, text)
+                operations::write_text(n, k, block_type, type_line, rows, text)
             }
 
-            fn sheet(n: usize, k: usize, w: usize, rows: Flat, bytes: &mut [u8]) -> Answer<usize> {
+            fn sheet(
+                n: usize,
+                k: usize,
+                block_type: usize,
+                w: usize,
+                rows: Flat,
+                bytes: &mut [u8],
+            ) -> Answer<usize> {
                 use $module as operations;
-                operations::sheet(n, k, w, rows, bytes)
+                operations::sheet(n, k, block_type, w, rows, bytes)
             }
 
             fn sheet_records(
                 n: usize,
                 k: usize,
+                block_type: usize,
                 w: usize,
                 rows: &[Row],
                 bytes: &mut [u8],
             ) -> Answer<usize> {
                 use $module as operations;
-                operations::sheet(n, k, w, rows, bytes)
+                operations::sheet(n, k, block_type, w, rows, bytes)
             }
 
             fn program(input: &[u8]) -> Vec<u8> {

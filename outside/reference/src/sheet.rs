@@ -1,26 +1,35 @@
 //! The sheet and what the program prints (01, The sheet).
 
-use crate::list::{check_method, find, Found};
+use crate::list::{check_method, find, Find, Found};
 use crate::text::{push_bits, row_line};
-use crate::{checks, read_text, Answer, List, Refusal, Row, PROGRAM_READS, ROWS, SHEET_ROOM};
+use crate::{checks, read_text, Answer, List, Row, PROGRAM_READS, ROWS, SHEET_ROOM};
 
 /// Makes the sheet in the lent bytes, and gives the number of its bytes.
-pub fn sheet(n: usize, k: usize, w: usize, rows: impl List, bytes: &mut [u8]) -> Answer<usize> {
-    answer_sheet(n, k, w, rows, bytes, find)
+pub fn sheet(
+    n: usize,
+    k: usize,
+    block_type: usize,
+    w: usize,
+    rows: impl List,
+    bytes: &mut [u8],
+) -> Answer<usize> {
+    answer_sheet(n, k, block_type, w, rows, bytes, find)
 }
 
 /// The sheet with this way to find the row method's results.
 pub(crate) fn answer_sheet(
     n: usize,
     k: usize,
+    block_type: usize,
     w: usize,
     rows: impl List,
     bytes: &mut [u8],
-    find: fn(usize, usize, &[Row]) -> Result<Found, Refusal>,
+    find: Find,
 ) -> Answer<usize> {
     let rows = rows.rows();
     let room = || checks::room(bytes.len(), SHEET_ROOM);
-    let outcome = check_method(n, k, w, &rows, room).and_then(|()| find(n, w, &rows));
+    let checked = check_method(n, k, block_type, w, &rows, room);
+    let outcome = checked.and_then(|()| find(n, block_type, w, &rows));
     let outcome = outcome.map(|found| {
         let sheet = compose(n, k, w, &found);
         bytes[..sheet.len()].copy_from_slice(sheet.as_bytes());
@@ -55,10 +64,7 @@ pub fn program(input: &[u8]) -> Vec<u8> {
 }
 
 /// What the program prints, with this way to find the row method's results.
-pub(crate) fn print(
-    input: &[u8],
-    find: fn(usize, usize, &[Row]) -> Result<Found, Refusal>,
-) -> Vec<u8> {
+pub(crate) fn print(input: &[u8], find: Find) -> Vec<u8> {
     let text = &input[..input.len().min(PROGRAM_READS)];
     let mut rows = [Row::default(); ROWS];
     let read = read_text(text, &mut rows[..]);
@@ -68,7 +74,8 @@ pub(crate) fn print(
     let head = read.results;
     let mut bytes = vec![0; SHEET_ROOM];
     let list = &rows[..head.rows];
-    let made = answer_sheet(head.n, head.k, head.n.min(3), list, &mut bytes, find);
+    let w = head.n.min(3);
+    let made = answer_sheet(head.n, head.k, head.block_type, w, list, &mut bytes, find);
     if made.number != 0 {
         return refused(made.number, made.a, made.b);
     }

@@ -20,18 +20,25 @@ pub fn measure(n: usize, table: &[u16]) -> u64 {
 }
 
 /// A single value of R.
-pub fn table_value(n: usize, k: usize, t: usize, table: &[u16]) -> Answer<u64> {
-    let outcome = check_value(n, k, t, table).map(|()| count(table, t as u32));
-    outcome.into()
+pub fn table_value(n: usize, k: usize, block_type: usize, t: usize, table: &[u16]) -> Answer<u64> {
+    let checked = check_value(n, k, block_type, t, table);
+    checked.map(|()| count(table, t as u32)).into()
 }
 
 /// The refusals of a single value of a table.
-pub(crate) fn check_value(n: usize, k: usize, t: usize, table: &[u16]) -> Result<(), Refusal> {
+fn check_value(
+    n: usize,
+    k: usize,
+    block_type: usize,
+    t: usize,
+    table: &[u16],
+) -> Result<(), Refusal> {
     checks::inputs(n, TABLE_INPUTS)?;
     checks::outputs(k)?;
+    checks::block_type(block_type)?;
     checks::shift(t, n)?;
     checks::length(table.len(), 1 << n)?;
-    checks::entries(k, table)
+    checks::entries(k, block_type, table)
 }
 
 /// The table method: T into `columns`, sigma, and the smaller table, whose
@@ -39,6 +46,7 @@ pub(crate) fn check_value(n: usize, k: usize, t: usize, table: &[u16]) -> Result
 pub fn table_method(
     n: usize,
     k: usize,
+    block_type: usize,
     w: usize,
     table: &[u16],
     smaller: &mut [u16],
@@ -46,7 +54,7 @@ pub fn table_method(
     sigma: &mut [u32],
 ) -> Answer<Measures> {
     let room = [smaller.len(), columns.len(), sigma.len()];
-    if let Err(refusal) = check_method(n, k, w, table, room) {
+    if let Err(refusal) = check_method(n, k, block_type, w, table, room) {
         return Err(refusal).into();
     }
     let candidates: Vec<(u32, u64)> = matrix::candidates(n, w)
@@ -70,29 +78,32 @@ pub fn table_method(
 pub(crate) fn check_method(
     n: usize,
     k: usize,
+    block_type: usize,
     w: usize,
     table: &[u16],
     room: [usize; 3],
 ) -> Result<(), Refusal> {
     checks::inputs(n, TABLE_INPUTS)?;
     checks::outputs(k)?;
+    checks::block_type(block_type)?;
     checks::weight_limit(w, n)?;
     checks::length(table.len(), 1 << n)?;
     checks::room(room[0], 1 << n)?;
     checks::room(room[1], n)?;
     checks::room(room[2], n)?;
-    checks::entries(k, table)
+    checks::entries(k, block_type, table)
 }
 
 /// Restoring: entry x of the table is the smaller table's entry sigma x.
 pub fn restore(
     n: usize,
     k: usize,
+    block_type: usize,
     sigma: &[u32],
     smaller: &[u16],
     table: &mut [u16],
 ) -> Answer<()> {
-    let checked = check_restore(n, k, sigma, smaller, table.len());
+    let checked = check_restore(n, k, block_type, sigma, smaller, table.len());
     if let Err(refusal) = checked.and_then(|()| checks::independent(sigma)) {
         return Err(refusal).into();
     }
@@ -106,15 +117,17 @@ pub fn restore(
 pub(crate) fn check_restore(
     n: usize,
     k: usize,
+    block_type: usize,
     sigma: &[u32],
     smaller: &[u16],
     room: usize,
 ) -> Result<(), Refusal> {
     checks::inputs(n, TABLE_INPUTS)?;
     checks::outputs(k)?;
+    checks::block_type(block_type)?;
     checks::length(sigma.len(), n)?;
     checks::length(smaller.len(), 1 << n)?;
     checks::room(room, 1 << n)?;
     checks::matrix_rows(n, sigma)?;
-    checks::entries(k, smaller)
+    checks::entries(k, block_type, smaller)
 }

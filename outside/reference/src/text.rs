@@ -1,9 +1,15 @@
-//! Row text (01, Row text): reading and writing. Neither looks for rows that
-//! share a point.
+//! Row text (01, Row text), with its type line (02, Ticket 2): reading and
+//! writing. Neither looks for rows that share a point.
 
-use crate::{checks, Answer, List, Refusal, Room, Row, TextHead, ROWS, ROW_INPUTS, TEXT_ROOM};
+use crate::{
+    checks, Answer, List, Refusal, Room, Row, TextHead, FD, FR, ROWS, ROW_INPUTS, TEXT_ROOM,
+};
 
-/// Reads row text: the rows into the lent room, and n, k and their number.
+/// Each type with its line.
+const TYPE_LINES: [(usize, &str); 2] = [(FR, ".type fr"), (FD, ".type fd")];
+
+/// Reads row text: the rows into the lent room, and n, k, the type, whether its
+/// line stood there, and the number of rows.
 pub fn read_text(text: &[u8], mut room: impl Room) -> Answer<TextHead> {
     let outcome = parse(text, room.room()).map(|(head, rows)| {
         room.put(&rows);
@@ -20,6 +26,7 @@ fn parse(text: &[u8], room: usize) -> Result<(TextHead, Vec<Row>), Refusal> {
     };
     let n = lines.heading(b".i ")?;
     let k = lines.heading(b".o ")?;
+    let told = lines.type_line();
     let count = lines.heading(b".p ")?;
     checks::inputs(n, ROW_INPUTS)?;
     checks::outputs(k)?;
@@ -30,7 +37,13 @@ fn parse(text: &[u8], room: usize) -> Result<(TextHead, Vec<Row>), Refusal> {
         rows.push(lines.row(n, k)?);
     }
     lines.end()?;
-    let head = TextHead { n, k, rows: count };
+    let head = TextHead {
+        n,
+        k,
+        block_type: told.unwrap_or(FD),
+        type_line: usize::from(told.is_some()),
+        rows: count,
+    };
     Ok((head, rows))
 }
 
@@ -63,6 +76,19 @@ impl<'a> Lines<'a> {
     fn heading(&mut self, start: &[u8]) -> Result<usize, Refusal> {
         let digits = self.take()?.strip_prefix(start);
         digits.and_then(number).ok_or(self.lacks_form())
+    }
+
+    /// Takes a type line, if the next line is one, and gives its type.
+    fn type_line(&mut self) -> Option<usize> {
+        for (block_type, words) in TYPE_LINES {
+            let line = format!("{words}\n");
+            if let Some(rest) = self.rest.strip_prefix(line.as_bytes()) {
+                self.rest = rest;
+                self.line += 1;
+                return Some(block_type);
+            }
+        }
+        None
     }
 
     /// Takes a row.
@@ -120,13 +146,27 @@ fn row(line: &[u8], n: usize, k: usize) -> Option<Row> {
     Some(row)
 }
 
-/// Writes row text into the lent bytes, and gives the number of its bytes.
-pub fn write_text(n: usize, k: usize, rows: impl List, text: &mut [u8]) -> Answer<usize> {
+/// Writes row text into the lent bytes, and gives the number of its bytes. The
+/// type line stands there unless `type_line` is 0.
+pub fn write_text(
+    n: usize,
+    k: usize,
+    block_type: usize,
+    type_line: usize,
+    rows: impl List,
+    text: &mut [u8],
+) -> Answer<usize> {
     let rows = rows.rows();
-    if let Err(refusal) = check_write(n, k, &rows, text.len()) {
+    if let Err(refusal) = check_write(n, k, block_type, type_line, &rows, text.len()) {
         return Err(refusal).into();
     }
-    let mut written = format!(".i {n}\n.o {k}\n.p {}\n", rows.len());
+    let mut written = format!(".i {n}\n.o {k}\n");
+    for (told, words) in TYPE_LINES {
+        if type_line != 0 && told == block_type {
+            written += &format!("{words}\n");
+        }
+    }
+    written += &format!(".p {}\n", rows.len());
     for row in &rows {
         written += &row_line(n, k, row);
     }
@@ -136,9 +176,18 @@ pub fn write_text(n: usize, k: usize, rows: impl List, text: &mut [u8]) -> Answe
 }
 
 /// The refusals of writing text.
-fn check_write(n: usize, k: usize, rows: &[Row], room: usize) -> Result<(), Refusal> {
+fn check_write(
+    n: usize,
+    k: usize,
+    block_type: usize,
+    type_line: usize,
+    rows: &[Row],
+    room: usize,
+) -> Result<(), Refusal> {
     checks::inputs(n, ROW_INPUTS)?;
     checks::outputs(k)?;
+    checks::block_type(block_type)?;
+    checks::type_told(block_type, type_line)?;
     checks::rows_given(rows.len(), ROWS)?;
     checks::room(room, TEXT_ROOM)?;
     checks::records(n, k, rows)

@@ -2,7 +2,7 @@
 //! both forms of rows, and the demands that hold between operations.
 
 use reference::inputs::{self, Case, LentRows, Random};
-use reference::{Fast, Operations, Plain, Row};
+use reference::{Fast, Operations, Plain, Row, FD, FR};
 use std::collections::BTreeMap;
 
 /// How many seeds the cases below are drawn from.
@@ -43,12 +43,12 @@ fn plain_and_fast_give_the_same_and_refusals_change_nothing() {
     for (name, numbers) in [
         ("TableValue", &[0, 1, 2, 3, 4, 6][..]),
         ("TableMethod", &[0, 1, 2, 3, 4, 5, 6]),
-        ("Restore", &[0, 1, 2, 4, 5, 6, 8]),
+        ("Restore", &[0, 1, 2, 3, 4, 5, 6, 8]),
         ("RowValue", &[0, 1, 2, 3, 4, 6, 7]),
         ("RowMethod", &[0, 1, 2, 3, 4, 5, 6, 7, 9]),
-        ("Fill", &[0, 1, 2, 4, 5, 6, 7]),
+        ("Fill", &[0, 1, 2, 3, 4, 5, 6, 7]),
         ("ReadText", &[0, 1, 2, 4, 5, 10]),
-        ("WriteText", &[0, 1, 2, 4, 5, 6]),
+        ("WriteText", &[0, 1, 2, 3, 4, 5, 6]),
         ("Sheet", &[0, 1, 2, 3, 4, 5, 6, 7, 9]),
         ("Program", &[0, 1, 2, 4, 7, 10]),
     ] {
@@ -77,9 +77,10 @@ fn refusal(printed: &[u8]) -> u32 {
     }
 }
 
-/// Demands 2 and 3 of the request on lists of at most 12 inputs: both methods
-/// give the same, the smaller rows fill the smaller table, no two of them share
-/// a point, and restoring gives the filled table back.
+/// Demands 2 and 3 of the request on lists of at most 12 inputs, for each type,
+/// with the same type on both sides: both methods give the same, the smaller rows
+/// fill the smaller table, no two of them share a point, and restoring gives the
+/// filled table back.
 #[test]
 fn both_methods_agree_and_restoring_goes_back() {
     let mut answered = 0;
@@ -93,10 +94,11 @@ fn both_methods_agree_and_restoring_goes_back() {
             0 => inputs::rows(random, n, k, count),
             _ => inputs::hidden_rows(random, n, k, count),
         };
+        let y = random.pick(&[FR, FD]);
         let mut smaller = [Row::default(); 512];
         let [mut columns, mut sigma] = [vec![0; n], vec![0; n]];
         let room = &mut smaller[..];
-        let by_rows = Plain::row_method_records(n, k, w, &rows, room, &mut columns, &mut sigma);
+        let by_rows = Plain::row_method_records(n, k, y, w, &rows, room, &mut columns, &mut sigma);
         if by_rows.number != 0 {
             assert_eq!(by_rows.number, 9);
             continue;
@@ -104,12 +106,13 @@ fn both_methods_agree_and_restoring_goes_back() {
         answered += 1;
         let size = 1 << n;
         let mut table = vec![0; size];
-        assert_eq!(Plain::fill_records(n, k, &rows, &mut table).number, 0);
+        assert_eq!(Plain::fill_records(n, k, y, &rows, &mut table).number, 0);
         let mut smaller_table = vec![0; size];
         let [mut table_columns, mut table_sigma] = [vec![0; n], vec![0; n]];
         let by_table = Plain::table_method(
             n,
             k,
+            y,
             w,
             &table,
             &mut smaller_table,
@@ -122,15 +125,15 @@ fn both_methods_agree_and_restoring_goes_back() {
         assert_eq!((columns, &sigma), (table_columns, &table_sigma));
         let smaller = &smaller[..by_rows.results.rows];
         let mut filled = vec![0; size];
-        assert_eq!(Plain::fill_records(n, k, smaller, &mut filled).number, 0);
+        assert_eq!(Plain::fill_records(n, k, y, smaller, &mut filled).number, 0);
         assert_eq!(filled, smaller_table);
         let mut restored = vec![0; size];
-        let back = Plain::restore(n, k, &sigma, &smaller_table, &mut restored);
+        let back = Plain::restore(n, k, y, &sigma, &smaller_table, &mut restored);
         assert_eq!(back.number, 0);
         assert_eq!(restored, table);
         for t in [0, 1, size - 1, random.below(size)] {
-            let value = Plain::row_value_records(n, k, t, &rows);
-            assert_eq!(value, Plain::table_value(n, k, t, &table));
+            let value = Plain::row_value_records(n, k, y, t, &rows);
+            assert_eq!(value, Plain::table_value(n, k, y, t, &table));
         }
     }
     assert!(answered > 350);
@@ -140,6 +143,8 @@ fn both_methods_agree_and_restoring_goes_back() {
 /// are the same rows.
 #[test]
 fn text_goes_there_and_back() {
+    // How many texts of each type have its line, and how many have not.
+    let mut lines = [[0; 2]; 3];
     for seed in 0..300 {
         let random = &mut Random::new(seed);
         let text = inputs::text(random);
@@ -148,11 +153,48 @@ fn text_goes_there_and_back() {
         assert_eq!(read.number, 0);
         let head = read.results;
         let rows = &rows[..head.rows];
-        assert_eq!(inputs::text_of(head.n, head.k, rows), text);
+        lines[head.block_type][head.type_line] += 1;
+        assert_eq!(inputs::text_of(head, rows), text);
         let mut lent = LentRows::new(rows);
         assert_eq!(Plain::read_text(&text, lent.room()), read);
         assert_eq!(lent.records().unwrap(), rows);
     }
+    assert!(lines[FR][1] > 50 && lines[FD].iter().all(|&count| count > 50));
+    assert_eq!(lines[FR][0], 0);
+}
+
+/// The type tells on a list only where a point is missing, and fd is fr with the
+/// missing points given as rows of word 0.
+#[test]
+fn missing_points_count_with_word_0_under_fd() {
+    let mut with_missing = 0;
+    for seed in 0..200 {
+        let random = &mut Random::new(seed);
+        let n = random.between(1, 7);
+        let k = random.between(1, 4);
+        let mut rows = inputs::rows(random, n, k, 24);
+        let covered = |x: u32| rows.iter().any(|row| row.covers(x));
+        let missing: Vec<u32> = (0..1 << n).filter(|&x| !covered(x)).collect();
+        if rows.len() + missing.len() > 128 {
+            continue;
+        }
+        let t = random.below(1 << n);
+        let [fr, fd] = [FR, FD].map(|y| Plain::row_value_records(n, k, y, t, &rows));
+        assert!(fr.results <= fd.results);
+        assert!(!missing.is_empty() || fr == fd);
+        with_missing += usize::from(!missing.is_empty());
+        let whole = (1 << n) - 1;
+        rows.extend(missing.into_iter().map(|values| Row {
+            mask: whole,
+            values,
+            word: 0,
+        }));
+        for y in [FR, FD] {
+            assert_eq!(fd, Plain::row_value_records(n, k, y, t, &rows));
+            assert_eq!(fd, Fast::row_value_records(n, k, y, t, &rows));
+        }
+    }
+    assert!(with_missing > 40);
 }
 
 /// The rows near 512 are there on both sides of it.
@@ -160,11 +202,11 @@ fn text_goes_there_and_back() {
 fn lists_near_512_smaller_rows() {
     let [mut within, mut passed] = [0, 0];
     for seed in 0..30 {
-        let (n, k, w, rows) = inputs::rows_near_512(&mut Random::new(seed), 60);
+        let ([n, k, y, w], rows) = inputs::rows_near_512(&mut Random::new(seed), 60);
         let mut smaller = [Row::default(); 512];
         let [mut columns, mut sigma] = [[0; 16]; 2];
         let room = &mut smaller;
-        let answer = Fast::row_method_records(n, k, w, &rows, room, &mut columns, &mut sigma);
+        let answer = Fast::row_method_records(n, k, y, w, &rows, room, &mut columns, &mut sigma);
         match answer.number {
             0 => within += usize::from(answer.results.rows > 450),
             number => {
@@ -177,21 +219,23 @@ fn lists_near_512_smaller_rows() {
 }
 
 /// Rows of 16 inputs with every number a candidate: slow for the plain form, so
-/// one list alone.
+/// one list for each type alone.
 #[test]
 fn sixteen_inputs_without_weight_limit() {
-    let rows = inputs::hidden_rows(&mut Random::new(5), 16, 15, 128);
-    let lent = || (vec![Row::default(); 512], vec![0; 16], vec![0; 16]);
-    let (mut smaller, mut columns, mut sigma) = lent();
-    let room = &mut smaller;
-    let plain = Plain::row_method_records(16, 15, 16, &rows, room, &mut columns, &mut sigma);
-    let (mut fast_smaller, mut fast_columns, mut fast_sigma) = lent();
-    let room = &mut fast_smaller;
-    let (t, s) = (&mut fast_columns, &mut fast_sigma);
-    let fast = Fast::row_method_records(16, 15, 16, &rows, room, t, s);
-    assert_eq!(plain, fast);
-    assert_eq!(
-        (smaller, columns, sigma),
-        (fast_smaller, fast_columns, fast_sigma)
-    );
+    for y in [FR, FD] {
+        let rows = inputs::hidden_rows(&mut Random::new(5), 16, 15, 128);
+        let lent = || (vec![Row::default(); 512], vec![0; 16], vec![0; 16]);
+        let (mut smaller, mut columns, mut sigma) = lent();
+        let room = &mut smaller;
+        let plain = Plain::row_method_records(16, 15, y, 16, &rows, room, &mut columns, &mut sigma);
+        let (mut fast_smaller, mut fast_columns, mut fast_sigma) = lent();
+        let room = &mut fast_smaller;
+        let (t, s) = (&mut fast_columns, &mut fast_sigma);
+        let fast = Fast::row_method_records(16, 15, y, 16, &rows, room, t, s);
+        assert_eq!(plain, fast);
+        assert_eq!(
+            (smaller, columns, sigma),
+            (fast_smaller, fast_columns, fast_sigma)
+        );
+    }
 }

@@ -1,8 +1,8 @@
-//! 01's blocks to try by hand, cases a to j and those after them, the sheet's
-//! example, and Example 2 of document 000. Each is asked of the plain and of the
-//! fast operations.
+//! 01's blocks to try by hand, cases a to j and those after them, read as fr, the
+//! sheet's example, Example 2 of document 000, and blocks of either type (02,
+//! Ticket 2). Each is asked of the plain and of the fast operations.
 
-use reference::{fast, Row, NO_OUTPUT};
+use reference::{fast, Row, FD, FR, NO_OUTPUT};
 
 /// Rows as 01 writes them: "symbols word".
 fn list(lines: &[&str]) -> Vec<Row> {
@@ -26,12 +26,12 @@ fn list(lines: &[&str]) -> Vec<Row> {
 /// all the room it asks for.
 type TableAnswer = ([u32; 3], [u64; 2], Vec<u32>, Vec<u32>, Vec<u16>);
 
-fn table_method(n: usize, k: usize, w: usize, table: &[u16]) -> TableAnswer {
+fn table_method_of(y: usize, [n, k, w]: [usize; 3], table: &[u16]) -> TableAnswer {
     let mut lent = (vec![7; n], vec![7; n], vec![7; table.len()]);
     let mut fast_lent = lent.clone();
-    let got = reference::table_method(n, k, w, table, &mut lent.2, &mut lent.0, &mut lent.1);
+    let got = reference::table_method(n, k, y, w, table, &mut lent.2, &mut lent.0, &mut lent.1);
     let (smaller, columns, sigma) = (&mut fast_lent.2, &mut fast_lent.0, &mut fast_lent.1);
-    let fast = fast::table_method(n, k, w, table, smaller, columns, sigma);
+    let fast = fast::table_method(n, k, y, w, table, smaller, columns, sigma);
     assert_eq!(got, fast);
     assert_eq!(lent, fast_lent);
     let number = [got.number, got.a, got.b];
@@ -39,23 +39,32 @@ fn table_method(n: usize, k: usize, w: usize, table: &[u16]) -> TableAnswer {
     (number, measures, lent.0, lent.1, lent.2)
 }
 
+/// The same of a table of type fr.
+fn table_method(n: usize, k: usize, w: usize, table: &[u16]) -> TableAnswer {
+    table_method_of(FR, [n, k, w], table)
+}
+
 /// The same of the row method.
 type RowAnswer = ([u32; 3], [u64; 2], Vec<u32>, Vec<u32>, Vec<Row>);
 
-fn row_method(n: usize, k: usize, w: usize, rows: &[Row]) -> RowAnswer {
+fn row_method_of(y: usize, [n, k, w]: [usize; 3], rows: &[Row]) -> RowAnswer {
     let mut lent = (vec![7; n], vec![7; n], vec![Row::default(); 512]);
     let mut fast_lent = lent.clone();
     let room = &mut lent.2[..];
-    let got = reference::row_method(n, k, w, rows, room, &mut lent.0, &mut lent.1);
+    let got = reference::row_method(n, k, y, w, rows, room, &mut lent.0, &mut lent.1);
     let room = &mut fast_lent.2[..];
     let (columns, sigma) = (&mut fast_lent.0, &mut fast_lent.1);
-    let fast = fast::row_method(n, k, w, rows, room, columns, sigma);
+    let fast = fast::row_method(n, k, y, w, rows, room, columns, sigma);
     assert_eq!(got, fast);
     assert_eq!(lent, fast_lent);
     lent.2.truncate(got.results.rows);
     let number = [got.number, got.a, got.b];
     let measures = [got.results.before, got.results.after];
     (number, measures, lent.0, lent.1, lent.2)
+}
+
+fn row_method(n: usize, k: usize, w: usize, rows: &[Row]) -> RowAnswer {
+    row_method_of(FR, [n, k, w], rows)
 }
 
 /// The number of the row method's answer.
@@ -68,7 +77,7 @@ const ANSWERED: [u32; 3] = [0, 0, 0];
 #[test]
 fn case_a() {
     let table = [0, 1, 1, 0];
-    let values = (0..4).map(|t| reference::table_value(2, 1, t, &table).results);
+    let values = (0..4).map(|t| reference::table_value(2, 1, FR, t, &table).results);
     assert_eq!(values.collect::<Vec<_>>(), [4, 0, 0, 4]);
     let due = (ANSWERED, [0, 4], vec![3, 1], vec![2, 3], vec![0, 0, 1, 1]);
     assert_eq!(table_method(2, 1, 2, &table), due);
@@ -89,9 +98,9 @@ fn case_c() {
 #[test]
 fn case_d() {
     let rows = list(&["0 011111111", "1 111111111"]);
-    let got = reference::row_value(1, 9, 1, &rows[..]);
+    let got = reference::row_value(1, 9, FR, 1, &rows[..]);
     assert_eq!((got.number, got.results), (0, 0));
-    assert_eq!(got, fast::row_value(1, 9, 1, &rows[..]));
+    assert_eq!(got, fast::row_value(1, 9, FR, 1, &rows[..]));
 }
 
 const SHEET_BLOCK: [&str; 4] = ["00- 01", "11- 01", "01- 10", "10- 10"];
@@ -129,20 +138,20 @@ fn case_h() {
     let (number, measures, columns, ..) = row_method(2, 1, 2, &rows);
     assert_eq!((number, measures), ([7, 0, 1], [0, 0]));
     assert_eq!(columns, [7, 7]);
-    let got = reference::row_value(2, 1, 0, &rows[..]);
+    let got = reference::row_value(2, 1, FR, 0, &rows[..]);
     assert_eq!((got.number, got.a, got.b), (7, 0, 1));
-    let got = reference::fill(2, 1, &rows[..], &mut [0; 4]);
+    let got = reference::fill(2, 1, FR, &rows[..], &mut [0; 4]);
     assert_eq!((got.number, got.a, got.b), (7, 0, 1));
     // Writing text does not look for it.
-    let got = reference::write_text(2, 1, &rows[..], &mut [0; 4_246]);
-    assert_eq!((got.number, got.results), (0, 5 + 5 + 5 + 10 + 3));
+    let got = reference::write_text(2, 1, FR, 1, &rows[..], &mut [0; 4_255]);
+    assert_eq!((got.number, got.results), (0, 5 + 5 + 9 + 5 + 10 + 3));
 }
 
 #[test]
 fn case_i() {
     for restore in [reference::restore, fast::restore] {
         let mut table = [9; 5];
-        let got = restore(2, 1, &[2, 3], &[0, 0, 1, 1], &mut table);
+        let got = restore(2, 1, FR, &[2, 3], &[0, 0, 1, 1], &mut table);
         assert_eq!(got.number, 0);
         assert_eq!(table, [0, 1, 1, 0, 9]);
     }
@@ -153,7 +162,7 @@ fn case_j() {
     for (matrix, due) in [([3, 3], (8, 1, 0)), ([0, 1], (8, 0, 0))] {
         for restore in [reference::restore, fast::restore] {
             let mut table = [9; 4];
-            let got = restore(2, 1, &matrix, &[0, 0, 1, 1], &mut table);
+            let got = restore(2, 1, FR, &matrix, &[0, 0, 1, 1], &mut table);
             assert_eq!((got.number, got.a, got.b), due);
             assert_eq!(table, [9; 4]);
         }
@@ -173,12 +182,12 @@ fn the_sheet_of_the_example() {
     }
     let rows = list(&SHEET_BLOCK);
     let mut bytes = [b'x'; 17_519];
-    let got = reference::sheet(3, 2, 3, &rows[..], &mut bytes);
+    let got = reference::sheet(3, 2, FR, 3, &rows[..], &mut bytes);
     assert_eq!((got.number, got.results), (0, SHEET.len()));
     let (sheet, beyond) = bytes.split_at(SHEET.len());
     assert_eq!(sheet, SHEET.as_bytes());
     assert!(beyond.iter().all(|&byte| byte == b'x'));
-    let got = reference::sheet(3, 2, 3, &rows[..], &mut bytes[..17_517]);
+    let got = reference::sheet(3, 2, FR, 3, &rows[..], &mut bytes[..17_517]);
     assert_eq!((got.number, got.results), (5, 0));
 }
 
@@ -190,8 +199,9 @@ fn text_read_and_written_again_is_the_same() {
     assert_eq!((read.number, head.n, head.k, head.rows), (0, 3, 2, 4));
     assert_eq!(rows[..4], list(&SHEET_BLOCK));
     assert_eq!(rows[4], Row::default());
-    let mut text = [0; 4_246];
-    let wrote = reference::write_text(3, 2, &rows[..4], &mut text);
+    assert_eq!((head.block_type, head.type_line), (FD, 0));
+    let mut text = [0; 4_255];
+    let wrote = reference::write_text(3, 2, FD, 0, &rows[..4], &mut text);
     assert_eq!(&text[..wrote.results], SHEET_TEXT.as_bytes());
 }
 
@@ -256,13 +266,13 @@ fn ranges() {
     assert_eq!(smaller, none);
     let mut lent = ([0; 1 << 13], [0; 13], [0; 13]);
     let table = &[0; 1 << 13];
-    let got = reference::table_method(13, 1, 1, table, &mut lent.0, &mut lent.1, &mut lent.2);
+    let got = reference::table_method(13, 1, FR, 1, table, &mut lent.0, &mut lent.1, &mut lent.2);
     assert_eq!(got.number, 1);
     let most = usize::MAX;
-    assert_eq!(reference::table_value(most, most, most, &[]).number, 1);
-    assert_eq!(reference::table_value(1, most, most, &[]).number, 2);
-    assert_eq!(reference::table_value(1, 1, most, &[]).number, 3);
-    assert_eq!(reference::table_value(1, 1, 1, &[]).number, 4);
+    assert_eq!(reference::table_value(most, most, FR, most, &[]).number, 1);
+    assert_eq!(reference::table_value(1, most, FR, most, &[]).number, 2);
+    assert_eq!(reference::table_value(1, 1, FR, most, &[]).number, 3);
+    assert_eq!(reference::table_value(1, 1, FR, 1, &[]).number, 4);
 }
 
 #[test]
@@ -274,11 +284,11 @@ fn flat_slices_of_unequal_length() {
         words,
     };
     assert_eq!(
-        reference::row_value(1, 1, 0, flat(&[0], &[0], &[0, 0])).number,
+        reference::row_value(1, 1, FR, 0, flat(&[0], &[0], &[0, 0])).number,
         4
     );
     assert_eq!(
-        reference::row_value(1, 1, 0, flat(&[0], &[0], &[0])).number,
+        reference::row_value(1, 1, FR, 0, flat(&[0], &[0], &[0])).number,
         0
     );
     let mut long = [[5; 512], [5; 512]];
@@ -290,7 +300,7 @@ fn flat_slices_of_unequal_length() {
         words: &mut short,
     };
     let list = flat(&[0], &[0], &[0]);
-    let got = reference::row_method(1, 1, 1, list, room, &mut [0], &mut [0]);
+    let got = reference::row_method(1, 1, FR, 1, list, room, &mut [0], &mut [0]);
     assert_eq!(got.number, 5);
     assert_eq!((long, short), ([[5; 512], [5; 512]], [5; 511]));
 }
@@ -302,7 +312,7 @@ fn document_000_example_2() {
         "0100 000", "0011 000", "1-00 001", "0-10 001", "0101 010", "000- 010", "1-1- 010",
         "1-01 011", "0111 100",
     ]);
-    let values = (0..16).map(|t| reference::row_value(4, 3, t, &rows[..]).results);
+    let values = (0..16).map(|t| reference::row_value(4, 3, FR, t, &rows[..]).results);
     let due = [16, 6, 0, 0, 12, 6, 0, 2, 0, 0, 10, 6, 0, 0, 10, 6];
     assert_eq!(values.collect::<Vec<_>>(), due);
     let (number, measures, columns, sigma, smaller) = row_method(4, 3, 4, &rows);
@@ -312,11 +322,215 @@ fn document_000_example_2() {
     assert_eq!(sigma, [0b1110, 0b1000, 0b1011, 0b1010]);
 
     let mut table = [0; 16];
-    assert_eq!(reference::fill(4, 3, &rows[..], &mut table).number, 0);
+    assert_eq!(reference::fill(4, 3, FR, &rows[..], &mut table).number, 0);
     let of_table = table_method(4, 3, 4, &table);
     assert_eq!(of_table.1, [18, 30]);
     assert_eq!((of_table.2, of_table.3), (columns, sigma));
     let mut filled = [0; 16];
-    assert_eq!(reference::fill(4, 3, &smaller[..], &mut filled).number, 0);
+    assert_eq!(
+        reference::fill(4, 3, FR, &smaller[..], &mut filled).number,
+        0
+    );
     assert_eq!(of_table.4, filled);
+}
+
+/// One row, 11 with word 1, over two inputs. Under fr it is the only point that
+/// counts; under fd the others have word 0, so that the block is the AND.
+#[test]
+fn one_row_of_either_type() {
+    let rows = list(&["11 1"]);
+    for (y, due) in [(FR, [1, 0, 0, 0]), (FD, [4, 2, 2, 2])] {
+        for (t, due) in due.into_iter().enumerate() {
+            let got = reference::row_value(2, 1, y, t, &rows[..]);
+            assert_eq!((got.number, got.results), (0, due));
+            assert_eq!(got, fast::row_value(2, 1, y, t, &rows[..]));
+        }
+    }
+    for fill in [reference::fill, fast::fill] {
+        let mut table = [9; 5];
+        assert_eq!(fill(2, 1, FR, &rows[..], &mut table).number, 0);
+        assert_eq!(table, [NO_OUTPUT, NO_OUTPUT, NO_OUTPUT, 1, 9]);
+        assert_eq!(fill(2, 1, FD, &rows[..], &mut table).number, 0);
+        assert_eq!(table, [0, 0, 0, 1, 9]);
+    }
+}
+
+/// Rows 00 1 and 11 1: no two neighbours have an output, so that under fr the
+/// measure is 0, and flipping both inputs leads from one to the other. Under fd
+/// the other two points have word 0: the block is the equality of the inputs.
+#[test]
+fn the_type_changes_the_measures() {
+    let rows = list(&["00 1", "11 1"]);
+    let (number, measures, columns, sigma, smaller) = row_method_of(FR, [2, 1, 2], &rows);
+    assert_eq!((number, measures), (ANSWERED, [0, 2]));
+    assert_eq!((columns, sigma), (vec![3, 1], vec![2, 3]));
+    assert_eq!(smaller, list(&["00 1", "01 1"]));
+    let (number, measures, columns, ..) = row_method_of(FD, [2, 1, 2], &rows);
+    assert_eq!((number, measures), (ANSWERED, [0, 4]));
+    assert_eq!(columns, [3, 1]);
+    let table = [1, 0, 0, 1];
+    let due = (ANSWERED, [0, 4], vec![3, 1], vec![2, 3], vec![1, 1, 0, 0]);
+    assert_eq!(table_method_of(FD, [2, 1, 2], &table), due);
+    assert_eq!(table_method_of(FR, [2, 1, 2], &table), due);
+}
+
+/// Rows --1 1 and 110 1: points 1, 3, 5, 6 and 7 have word 1. By hand, R(1) is 2,
+/// from 6 and 7; R(2), R(4) and R(6) are 4, R(3), R(5) and R(7) are 2. Under fd 0,
+/// 2 and 4 have word 0, so that R(2), R(4) and R(6) have 2 more, each from two of
+/// these.
+#[test]
+fn measures_of_either_type_by_hand() {
+    let rows = list(&["--1 1", "110 1"]);
+    for (y, due) in [
+        (FR, [5, 2, 4, 2, 4, 2, 4, 2]),
+        (FD, [8, 2, 6, 2, 6, 2, 6, 2]),
+    ] {
+        let values = (0..8).map(|t| reference::row_value(3, 1, y, t, &rows[..]).results);
+        assert_eq!(values.collect::<Vec<_>>(), due);
+        let values = (0..8).map(|t| fast::row_value(3, 1, y, t, &rows[..]).results);
+        assert_eq!(values.collect::<Vec<_>>(), due);
+        let (number, measures, columns, ..) = row_method_of(y, [3, 1, 3], &rows);
+        let sum = due[1] + due[2] + due[4];
+        assert_eq!((number, measures), (ANSWERED, [sum, sum]));
+        assert_eq!(columns, [2, 4, 1]);
+    }
+}
+
+#[test]
+fn refusals_of_the_type() {
+    let rows = list(&["11 1"]);
+    for y in [0, 3, 4, usize::MAX] {
+        assert_eq!(row_method_of(y, [2, 1, 2], &rows).0, [3, 0, 0]);
+        assert_eq!(table_method_of(y, [2, 1, 2], &[0; 4]).0, [3, 0, 0]);
+        assert_eq!(reference::row_value(2, 1, y, 0, &rows[..]).number, 3);
+        assert_eq!(reference::table_value(2, 1, y, 0, &[0; 4]).number, 3);
+        assert_eq!(reference::fill(2, 1, y, &rows[..], &mut [0; 4]).number, 3);
+        let mut table = [0; 4];
+        assert_eq!(
+            reference::restore(2, 1, y, &[1, 2], &[0; 4], &mut table).number,
+            3
+        );
+        assert_eq!(
+            reference::sheet(2, 1, y, 2, &rows[..], &mut [0; 17_518]).number,
+            3
+        );
+        for line in [0, 1] {
+            let got = reference::write_text(2, 1, y, line, &rows[..], &mut [0; 4_255]);
+            assert_eq!(got.number, 3);
+        }
+        // 1 and 2 come before, 4 and 5 after.
+        assert_eq!(reference::fill(13, 1, y, &rows[..], &mut []).number, 1);
+        assert_eq!(reference::fill(2, 16, y, &rows[..], &mut []).number, 2);
+        assert_eq!(reference::fill(2, 1, y, &rows[..0], &mut []).number, 3);
+    }
+    // 65,535 is an entry under fr and malformed under fd.
+    let table = [0, 1, NO_OUTPUT, NO_OUTPUT];
+    assert_eq!(table_method_of(FR, [2, 1, 2], &table).0, ANSWERED);
+    assert_eq!(table_method_of(FD, [2, 1, 2], &table).0, [6, 0, 2]);
+    let got = reference::table_value(2, 1, FD, 0, &table);
+    assert_eq!((got.number, got.a, got.b), (6, 0, 2));
+    for restore in [reference::restore, fast::restore] {
+        let mut room = [9; 4];
+        let got = restore(2, 1, FD, &[1, 2], &table, &mut room);
+        assert_eq!((got.number, got.a, got.b, room), (6, 0, 2, [9; 4]));
+    }
+}
+
+/// The reader's answer to a text that begins so and goes on with one row.
+fn read(start: &str) -> ([u32; 3], [usize; 5]) {
+    let mut rows = [Row::default()];
+    let text = format!("{start}1 1\n.e\n");
+    let got = reference::read_text(text.as_bytes(), &mut rows[..]);
+    let head = got.results;
+    let told = [head.n, head.k, head.block_type, head.type_line, head.rows];
+    ([got.number, got.a, got.b], told)
+}
+
+#[test]
+fn type_lines() {
+    let told = |y, line| (ANSWERED, [1, 1, y, line, 1]);
+    let refused = |line| ([10, line, 0], [0; 5]);
+    assert_eq!(read(".i 1\n.o 1\n.p 1\n"), told(FD, 0));
+    assert_eq!(read(".i 1\n.o 1\n.type fd\n.p 1\n"), told(FD, 1));
+    assert_eq!(read(".i 1\n.o 1\n.type fr\n.p 1\n"), told(FR, 1));
+    for line in [
+        ".type f",
+        ".type fdr",
+        ".type FR",
+        ".type  fr",
+        ".type fr ",
+        " .type fr",
+        ".type",
+        ".type ",
+        ".type\tfr",
+        ".type fr\r",
+        ".types fr",
+        "type fr",
+        ".type 1",
+        "",
+    ] {
+        assert_eq!(read(&format!(".i 1\n.o 1\n{line}\n.p 1\n")), refused(3));
+    }
+    assert_eq!(read(".type fr\n.i 1\n.o 1\n.p 1\n"), refused(1));
+    assert_eq!(read(".i 1\n.type fr\n.o 1\n.p 1\n"), refused(2));
+    assert_eq!(read(".i 1\n.o 1\n.p 1\n.type fr\n"), refused(4));
+    assert_eq!(read(".i 1\n.o 1\n.type fr\n.type fr\n.p 1\n"), refused(4));
+    assert_eq!(read(".i 1\n.o 1\n.type fd\n.type fr\n.p 1\n"), refused(4));
+    // All headings are looked at for form before a range.
+    assert_eq!(read(".i 99\n.o 1\n.type f\n.p 1\n"), refused(3));
+    assert_eq!(read(".i 99\n.o 1\n.type fr\n.p x\n"), refused(4));
+    assert_eq!(read(".i 99\n.o 1\n.type fr\n.p 1\n"), ([1, 0, 0], [0; 5]));
+}
+
+#[test]
+fn writing_with_and_without_the_type_line() {
+    let rows = list(&["1 1"]);
+    let write = |y, line, room| {
+        let mut text = vec![b'x'; room];
+        let got = reference::write_text(1, 1, y, line, &rows[..], &mut text);
+        text.truncate(got.results);
+        (got.number, String::from_utf8(text).unwrap())
+    };
+    let text = |line| (0, format!(".i 1\n.o 1\n{line}.p 1\n1 1\n.e\n"));
+    assert_eq!(write(FD, 0, 4_255), text(""));
+    assert_eq!(write(FD, 1, 4_255), text(".type fd\n"));
+    assert_eq!(write(FR, 1, 4_255), text(".type fr\n"));
+    assert_eq!(write(FR, 2, 4_256), text(".type fr\n"));
+    assert_eq!(write(FR, 0, 4_255), (3, String::new()));
+    assert_eq!(write(FD, 0, 4_254), (5, String::new()));
+    assert_eq!(write(FD, 1, 4_254), (5, String::new()));
+}
+
+/// The longest text has 16 inputs, 15 outputs, 128 rows and the type line.
+#[test]
+fn the_longest_text_fills_its_room() {
+    let row = Row {
+        mask: 0xFFFF,
+        values: 0,
+        word: 0,
+    };
+    let mut text = [0; 4_255];
+    let got = reference::write_text(16, 15, FR, 1, &[row; 128][..], &mut text);
+    assert_eq!((got.number, got.results), (0, 4_255));
+    let got = reference::write_text(16, 15, FD, 0, &[row; 128][..], &mut text);
+    assert_eq!((got.number, got.results), (0, 4_246));
+}
+
+/// A list without a type line is one of type fd to the program.
+#[test]
+fn the_program_goes_by_the_type_line() {
+    let text = |line| format!(".i 2\n.o 1\n{line}.p 2\n00 1\n11 1\n.e\n");
+    let sheet = |after| {
+        format!(
+            "sheet 1\nsize 3\n2\n1\n2\nmeasure 2\n0\n{after}\n\
+             basis 2\n11\n01\nsigma 2\n10\n11\ntable 2\n00 1\n01 1\n"
+        )
+    };
+    for program in [reference::program, fast::program] {
+        let printed = |line| String::from_utf8(program(text(line).as_bytes())).unwrap();
+        assert_eq!(printed(""), sheet(4));
+        assert_eq!(printed(".type fd\n"), sheet(4));
+        assert_eq!(printed(".type fr\n"), sheet(2));
+        assert_eq!(printed(".type f\n"), "refused 10 3 0\n");
+    }
 }

@@ -14,7 +14,7 @@ use Rattle.exports.proofs.irwystl_records_row_value as f
 use Rattle.exports.proofs.irwystl_records_row_value.Statement as stated
 use Rattle.exports.proofs.irwystl_records_row_value.Code as code
 
--- What is owned is counted after the 10 of the locals: [the token; n; k; t; rows]
+-- What is owned is counted after the 12 of the locals: [the token; n; k; y; t; rows]
 pub irwystl-records-row-value-spec : {M : Type 1} → stated.statement M
 unfolding code.routine
 irwystl-records-row-value-spec 𝓤 H 𝓜 𝓖 𝓡 =
@@ -23,17 +23,18 @@ irwystl-records-row-value-spec 𝓤 H 𝓜 𝓖 𝓡 =
     let num = a-num 𝓤 H A W w64 in
     let clauses = f.clauses 𝓤 H A (𝓜 .mem) (𝓡 .run) in
     let asked = work.clauses 𝓤 H A (𝓜 .mem) (𝓡 .run) in
-    let known : (κs : Lfts 1) → Knowns 𝓤 H A (typesAt (f.signature .params) κs) = λ κs. (num, (num, (num, (a-slice 𝓤 H A W (named 0) (κs .0) T.the-row, tt)))) in
+    let known : (κs : Lfts 1) → Knowns 𝓤 H A (typesAt (f.signature .params) κs) = λ κs. (num, (num, (num, (num, (a-slice 𝓤 H A W (named 0) (κs .0) T.the-row, tt))))) in
     concludes 𝓤 H 𝓜 𝓖 𝓡 code.env #self code.function (code.unfolded 𝓤 H 𝓜 𝓡) f.ended clauses known (λ κs a p. p) (λ κs qs bounds a g are bs.
     let n = a .0 in
     let k = a .1 .0 in
-    let t = a .1 .1 .0 in
-    let rows = a .1 .1 .1 .0 in
+    let y = a .1 .1 .0 in
+    let t = a .1 .1 .1 .0 in
+    let rows = a .1 .1 .1 .1 .0 in
     asks ! (framing 𝓤 H 𝓜 𝓖 𝓡 code.env) work.ended asked (cited 𝓤 H (B 𝓤 H A W work.ended asked) 𝓜 𝓡 code.env work-def.name work-def.routine code.calls-records·row-value (work-thm.met 𝓤 H 𝓜 𝓖 𝓡))
-    (((κs .0, tt), (qs .0, tt), tt, (n, (k, (t, (rows, tt)))), (vint w64 n ∷ [], (vint w64 k ∷ [], (vint w64 t ∷ [], (slice-vals rows, tt))))), tt)
-    (arg ! refl (arg ! refl (arg ! refl (arg ! refl (no-more !))))) (10 ∷ 14 ∷ [])
-    (made ! (uint-makes 𝓤 H A W w64) (are .0) (made ! (uint-makes 𝓤 H A W w64) (are .1 .0) (made ! (uint-makes 𝓤 H A W w64) (are .1 .1 .0) (held ! (none !))))) refl (id⊢ 𝓤 _)
-    (λ r ws. RowValuePromise n k t (now rows) r)
+    (((κs .0, tt), (qs .0, tt), tt, (n, (k, (y, (t, (rows, tt))))), (vint w64 n ∷ [], (vint w64 k ∷ [], (vint w64 y ∷ [], (vint w64 t ∷ [], (slice-vals rows, tt)))))), tt)
+    (arg ! refl (arg ! refl (arg ! refl (arg ! refl (arg ! refl (no-more !)))))) (12 ∷ 17 ∷ [])
+    (made ! (uint-makes 𝓤 H A W w64) (are .0) (made ! (uint-makes 𝓤 H A W w64) (are .1 .0) (made ! (uint-makes 𝓤 H A W w64) (are .1 .1 .0) (made ! (uint-makes 𝓤 H A W w64) (are .1 .1 .1 .0) (held ! (none !)))))) refl (id⊢ 𝓤 _)
+    (λ r ws. RowValuePromise n k y t (now rows) r)
     (λ r ws. id⊢ 𝓤 _) (λ v r ws e is-r. keeps ! refl (LL.lawful An.the-type An′.the-laws 𝓤 H A W .typed r _ is-r .0) $
-    ends ! f.ended clauses ((κs, qs, bounds, a, valsOf 𝓤 H A W f.ended clauses known κs a), g) _ _ (_ ∷ _ ∷ _ ∷ _ ∷ []) tt refl (3 ∷ 4 ∷ 5 ∷ 6 ∷ 7 ∷ [])
+    ends ! f.ended clauses ((κs, qs, bounds, a, valsOf 𝓤 H A W f.ended clauses known κs a), g) _ _ (_ ∷ _ ∷ _ ∷ _ ∷ _ ∷ []) tt refl (4 ∷ 5 ∷ 6 ∷ 7 ∷ 8 ∷ 9 ∷ [])
     r ws refl ((LL.makes An.the-type An′.the-plain) 𝓤 H A) is-r (so 𝓤 H A e)))

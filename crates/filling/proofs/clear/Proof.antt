@@ -1,21 +1,20 @@
--- `filling::clear` meets its contract. The loop's invariant: the first x entries have no output. The measure is what is left.
--- Assumes nothing.
+-- `filling::clear` meets its contract. The loop's invariant: the first x entries have the word of a missing point. The measure is
+-- what is left. Assumes nothing.
 use mathlib.Core.Path.{_≡_, refl}
 use Prim.Native.Nat.{ℕ, _≤_, _-_}
 use native.Mathlib.Omega.{arith}
 use lib.ListN.{length}
 use Rattle.slices.specs.Places.{tab, over}
 use Rattle.slices.specs.Filled.{over-none, over-more}
-use Rattle.block.specs.Words.{none}
 use borrow.Author.Needs.{needs}
 use Rattle.filling.proofs.clear.Statement.{statement}
 use Rattle.filling.proofs.clear.Tie as tie
 
 abbrev Inv-loop : tie.InvT-loop
-Inv-loop size out₀ x₀ out x = (x ≤ size) × (length out ≡ length out₀) × (out ≡ over (tab x (λ _. none)) out₀)
+Inv-loop size missing out₀ x₀ out x = (x ≤ size) × (length out ≡ length out₀) × (out ≡ over (tab x (λ _. missing)) out₀)
 
 abbrev μ-loop : tie.MeasureT-loop
-μ-loop size out₀ x₀ out x = size - x
+μ-loop size missing out₀ x₀ out x = size - x
 
 loop-holds : tie.Need-loop-holds Inv-loop μ-loop
 loop-holds c = (search needs, search needs, over-none _ _)
@@ -33,7 +32,7 @@ loop-less : tie.Need-loop-less Inv-loop μ-loop
 loop-less c = search needs
 
 loop-again : tie.Need-loop-again Inv-loop μ-loop
-loop-again c = (search needs, search needs, over-more _ (λ (x : ℕ). none) _ _ _ (c .before .loop .inv .2) refl (omega arith))
+loop-again c = (search needs, search needs, over-more _ (λ (x : ℕ). c .before .before .args .missing) _ _ _ (c .before .loop .inv .2) refl (omega arith))
 
 same-length : tie.Need-same-length Inv-loop μ-loop
 same-length c = search needs

@@ -14,11 +14,11 @@ use Rattle.filling.proofs.fill_rows.Statement.{statement}
 use Rattle.filling.proofs.fill_rows.Tie as tie
 
 abbrev Inv-loop : tie.InvT-loop
-Inv-loop n masks values words out₀ i₀ out i =
-    (i ≤ length masks) × (2 ^ n ≤ length out₀) × (length out ≡ length out₀) × TableFrom n (rowsOf masks values words) i out₀ out
+Inv-loop n masks values words missing out₀ i₀ out i =
+    (i ≤ length masks) × (2 ^ n ≤ length out₀) × (length out ≡ length out₀) × TableFrom missing n (rowsOf masks values words) i out₀ out
 
 abbrev μ-loop : tie.MeasureT-loop
-μ-loop n masks values words out₀ i₀ out i = i
+μ-loop n masks values words missing out₀ i₀ out i = i
 
 -- where the function begins, from the loop
 abbrev start : tie.At-loop Inv-loop μ-loop → tie.Start Inv-loop μ-loop
@@ -26,6 +26,9 @@ start c = c .before .before .before .before .before .before .before .before .bef
 
 size-requires : tie.Need-size-requires Inv-loop μ-loop
 size-requires c κs = search needs
+
+cast-clear : tie.Need-cast-clear Inv-loop μ-loop
+cast-clear c = search needs
 
 clear-requires : tie.Need-clear-requires Inv-loop μ-loop
 clear-requires c κs = search needs
@@ -37,7 +40,7 @@ loop-holds c =
       search needs,
       search needs,
       search needs,
-      table-none _ _ _ (length (now (s .args .masks))) _ _ (c .before .before .before .before .size .ensures) (sym (rows-count (now (s .args .masks)) (now (s .args .values)) (now (s .args .words)) (l .values-too) (l .words-too)))
+      table-none _ _ _ _ (length (now (s .args .masks))) _ _ (c .before .before .before .before .size .ensures) (sym (rows-count (now (s .args .masks)) (now (s .args .values)) (now (s .args .words)) (l .values-too) (l .words-too)))
           (c .before .before .clear .ensures),
     )
 
@@ -65,7 +68,7 @@ shared-slice-read-put-row-3 c = search needs
 cast-put-row : tie.Need-cast-put-row Inv-loop μ-loop
 cast-put-row c =
     let turn = c .before .before .before .before in
-    omega (arith, start turn .pre .1 .1 (turn .loop .i - 1) (omega arith))
+    omega (arith, start turn .pre .1 .1 .1 (turn .loop .i - 1) (omega arith))
 
 put-row-requires : tie.Need-put-row-requires Inv-loop μ-loop
 put-row-requires c κs =
@@ -84,7 +87,7 @@ loop-again c =
       search needs,
       search needs,
       table-row (s .args .n) smallerRows (now (s .args .masks)) (now (s .args .values)) (now (s .args .words)) (s .pre .0 .2) (l .i - 1) (omega arith)
-          (l .i) _ _ _ (omega arith) (l .inv .1) (l .inv .3) (c .before .before .put-row .ensures),
+          (s .args .missing) (l .i) _ _ _ (omega arith) (l .inv .1) (l .inv .3) (c .before .before .put-row .ensures),
     )
 
 same-length : tie.Need-same-length Inv-loop μ-loop
@@ -92,7 +95,7 @@ same-length c = search needs
 
 returns : tie.Need-returns Inv-loop μ-loop
 returns c =
-    table-all _ _ _ (c .before .loop .i) _ _ _ (c .before .before .before .before .before .before .size .ensures) (omega arith) (c .before .before .before .before .clear .ensures) (c .before .loop .inv .3)
+    table-all _ _ _ _ (c .before .loop .i) _ _ _ (c .before .before .before .before .before .before .size .ensures) (omega arith) (c .before .before .before .before .clear .ensures) (c .before .loop .inv .3)
 
 pub fill-rows-spec : {M : Type 1} → statement M
 fill-rows-spec =
@@ -101,6 +104,7 @@ fill-rows-spec =
     Inv-loop
     μ-loop
     size-requires
+    cast-clear
     clear-requires
     loop-holds
     sub-i

@@ -54,7 +54,7 @@ returns c =
     let roomT = length (now (a .basis)) in
     let roomSigma = length (now (a .sigma)) in
     let roomRows = shortest (now (a .smaller-masks)) (now (a .smaller-values)) (now (a .smaller-words)) in
-    let m = method-by-rooms (a .n) (a .k) (a .w) (rowsOf (now (a .masks)) (now (a .values)) (now (a .words))) _ roomT roomSigma roomRows
+    let m = method-by-rooms (a .n) (a .k) (a .block-type) (a .w) (rowsOf (now (a .masks)) (now (a .values)) (now (a .words))) _ roomT roomSigma roomRows
     (now (a .basis)) (now (a .sigma)) (now (a .smaller-masks)) (now (a .smaller-values)) (now (a .smaller-words)) _ _ _ _ _ _
     (asked .is-short .ensures ∙ ap (λ (x : ℕ). ltb roomT (a .n) || (ltb roomSigma (a .n) || ltb x smallerRows)) (roomed .least-room .ensures))
     (worked .method-rows .ensures) in

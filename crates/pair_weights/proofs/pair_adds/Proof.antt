@@ -34,18 +34,18 @@ shared-slice-read-if1-2 c = search needs
 weight-of-requires : tie.Need-weight-of-requires
 weight-of-requires c κs =
     let p = c .before .before .before .before .before .before .before .pre in
-    (p .0 .0, p .1 .0, p .1 .1)
+    (p .0 .0, p .1 .0, p .1 .1, p .1 .2)
 
 returns : tie.Need-returns
 returns c =
     let a = c .before .before .before .before .before .before .before .before .args in
     c .weight-of .ensures
-    ∙ sym (hit-taken (a .t) (cubeOf (a .n) (now (a .masks)) (now (a .values)) (a .i) (a .j)) (c .before .if1 .taken))
+    ∙ sym (hit-taken (a .t) (cubeOf (a .n) (a .times) (now (a .masks)) (now (a .values)) (a .i) (a .j)) (c .before .if1 .taken))
 
 returns-2 : tie.Need-returns-2
 returns-2 c =
     let a = c .before .before .before .before .before .before .before .args in
-    sym (hit-left (a .t) (cubeOf (a .n) (now (a .masks)) (now (a .values)) (a .i) (a .j)) (c .if1 .left))
+    sym (hit-left (a .t) (cubeOf (a .n) (a .times) (now (a .masks)) (now (a .values)) (a .i) (a .j)) (c .if1 .left))
 
 pub pair-adds-spec : {M : Type 1} → statement M
 pair-adds-spec =

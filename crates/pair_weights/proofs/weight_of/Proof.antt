@@ -1,13 +1,12 @@
 -- `pair_weights::weight_of` meets its contract: the two fix at most n inputs, so the power is one of 0 to n. Assumes nothing.
-use mathlib.Core.Path.{sym, _∙_}
-use Prim.Native.Nat.{_≤_, _-_, _^_}
+use Prim.Native.Nat.{_≤_, _-_, _*_, _^_}
 use native.Mathlib.Nat.{mul-one}
 use native.Mathlib.Omega.{arith}
 use lib.Bits.{bitOr, or-lt}
 use lib.Count.{ones, ones-le}
-use lib.Pow.{pow-mono}
 use borrow.Author.Needs.{needs}
 use Rattle.block.specs.Limits.{listInputs}
+use Rattle.pair_weights.specs.Places.{weight-small}
 use Rattle.pair_weights.proofs.weight_of.Statement.{statement}
 use Rattle.pair_weights.proofs.weight_of.Tie as tie
 
@@ -24,18 +23,22 @@ sub-power c = omega (arith, few c)
 power-requires : tie.Need-power-requires
 power-requires c κs = search needs
 
+-- what each order weighs
+small : (c : tie.Start) → 2 ^ (c .args .n - ones (bitOr (c .args .mask) (c .args .mask2))) * c .args .times ≤ 2 ^ listInputs * 2
+small c = weight-small (c .args .n) (ones (bitOr (c .args .mask) (c .args .mask2))) (c .args .times) listInputs (c .pre .0) (c .pre .3)
+
+mul-once : tie.Need-mul-once
+mul-once c = rw (c .power .ensures) (omega (arith, small (c .before)))
+
 returns : tie.Need-returns
-returns c = rw (c .if1 .taken) (c .before .power .ensures ∙ sym (mul-one _))
+returns c = rw (c .if1 .taken, c .before .power .ensures, mul-one)
 
 mul-result : tie.Need-mul-result
-mul-result c =
-    let a = c .before .before .args in
-    let small : 2 ^ (a .n - ones (bitOr (a .mask) (a .mask2))) ≤ 2 ^ listInputs = pow-mono {j = listInputs} (omega arith) in
-    omega (arith, c .before .power .ensures)
+mul-result c = rw (c .before .power .ensures) (omega (arith, small (c .before .before)))
 
 returns-2 : tie.Need-returns-2
-returns-2 c = rw (c .if1 .left, c .before .power .ensures)
+returns-2 c = rw (c .if1 .left, c .before .power .ensures) (omega arith)
 
 pub weight-of-spec : {M : Type 1} → statement M
 weight-of-spec =
-    tie.close (tie.spec cast-power sub-power power-requires returns mul-result returns-2)
+    tie.close (tie.spec cast-power sub-power power-requires mul-once returns mul-result returns-2)

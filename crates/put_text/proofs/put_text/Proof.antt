@@ -12,7 +12,7 @@ put-headings-requires : tie.Need-put-headings-requires
 put-headings-requires c κs =
     let start = c .before .before .before .before .before in
     let a = start .args in
-    let parts = text-parts (a .n) (a .k) (now (a .masks)) (now (a .values)) (now (a .words)) (start .pre .1 .0) (start .pre .1 .1) in
+    let parts = text-parts (a .n) (a .k) (a .block-type) (a .type-line) (now (a .masks)) (now (a .values)) (now (a .words)) (start .pre .1 .0) (start .pre .1 .1) in
     let room = simp length-append at (rw parts at (start .pre .0)) in
     simp length-append (omega arith)
 
@@ -20,7 +20,7 @@ put-rows-requires : tie.Need-put-rows-requires
 put-rows-requires c κs =
     let start = c .before .before .before .before .before .before .before .before .before in
     let a = start .args in
-    let parts = text-parts (a .n) (a .k) (now (a .masks)) (now (a .values)) (now (a .words)) (start .pre .1 .0) (start .pre .1 .1) in
+    let parts = text-parts (a .n) (a .k) (a .block-type) (a .type-line) (now (a .masks)) (now (a .values)) (now (a .words)) (start .pre .1 .0) (start .pre .1 .1) in
     let room = simp length-append at (rw parts at (start .pre .0)) in
     let placed = simp length-append at (c .before .before .before .put-headings .ensures .place) in
     omega arith
@@ -32,7 +32,7 @@ put-bytes-requires : tie.Need-put-bytes-requires
 put-bytes-requires c κs =
     let start = c .before .before .before .before .before .before .before .before .before .before .before .before .before .before in
     let a = start .args in
-    let parts = text-parts (a .n) (a .k) (now (a .masks)) (now (a .values)) (now (a .words)) (start .pre .1 .0) (start .pre .1 .1) in
+    let parts = text-parts (a .n) (a .k) (a .block-type) (a .type-line) (now (a .masks)) (now (a .values)) (now (a .words)) (start .pre .1 .0) (start .pre .1 .1) in
     let room = simp length-append at (rw parts at (start .pre .0)) in
     let rows = c .before .before .before .before in
     let placed = simp length-append at (rows .before .before .before .before .put-headings .ensures .place) in
@@ -48,7 +48,7 @@ returns c =
     let headings = rows .before .before .before .before in
     let start = headings .before .before .before .before .before .before in
     let a = start .args in
-    rw (text-parts (a .n) (a .k) (now (a .masks)) (now (a .values)) (now (a .words)) (start .pre .1 .0) (start .pre .1 .1))
+    rw (text-parts (a .n) (a .k) (a .block-type) (a .type-line) (now (a .masks)) (now (a .values)) (now (a .words)) (start .pre .1 .0) (start .pre .1 .1))
     (then (then (headings .put-headings .ensures) (rows .put-rows .ensures)) (end .put-bytes .ensures))
 
 pub put-text-spec : {M : Type 1} → statement M

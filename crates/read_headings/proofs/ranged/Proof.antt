@@ -59,7 +59,7 @@ stop-requires-4 c κs = search needs
 returns-4 : tie.Need-returns-4
 unfolding rangedOf
 returns-4 c =
-    let third = c .before .before in
+    let third = c .before .before .before in
     let second = third .before .before in
     let first = second .before .before in (
       rw (
@@ -74,15 +74,16 @@ returns-4 c =
 returns-5 : tie.Need-returns-5
 unfolding rangedOf
 returns-5 c =
-    let third = c .before in
+    let third = c .before .before in
     let second = third .before .before in
     let first = second .before .before in
-    let a = first .before .before .args in
+    let start = first .before .before in
+    let h = start .args .h in
     let i = sym (first .before .is-outside .ensures) ∙ first .if1 .left in
     let o = sym (second .before .is-outside2 .ensures) ∙ second .if2 .left in
     let p = sym (third .before .is-outside3 .ensures) ∙ third .if3 .left in (
       rw (i, o, p, le-ltb _ _ (c .if4 .left)),
-      (inside 1 listInputs (a .n) i .1, inside 1 outputs (a .k) o .1, inside 1 givenRows (a .p) p .1, c .if4 .left),
+      (inside 1 listInputs (h .n) i .1, inside 1 outputs (h .k) o .1, inside 1 givenRows (h .count) p .1, c .if4 .left, start .pre),
     )
 
 pub ranged-spec : {M : Type 1} → statement M

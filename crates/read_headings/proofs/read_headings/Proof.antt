@@ -50,70 +50,42 @@ returns-2 c =
       rw (c .stop2 .ensures) tt,
     )
 
-add-head-at : tie.Need-add-head-at
-add-head-at c =
+add-type-at : tie.Need-add-type-at
+add-type-at c =
     let outputs = c .before in
     let inputs = outputs .before .before .before .before in
     omega (arith, ap widthOf (inputs .n .given .1), ap widthOf (outputs .k .given .1))
 
-head-at-requires-3 : tie.Need-head-at-requires-3
-head-at-requires-3 c κs =
+type-at-requires : tie.Need-type-at-requires
+type-at-requires c κs =
     let outputs = c .before in
     let inputs = outputs .before .before .before .before in
     omega (arith, ap widthOf (inputs .n .given .1), ap widthOf (outputs .k .given .1))
 
-enum-known-p : tie.Need-enum-known-p
-enum-known-p c = search needs
+add-counted : tie.Need-add-counted
+add-counted c =
+    let outputs = c .before .before in
+    let inputs = outputs .before .before .before .before in
+    omega (arith, ap widthOf (inputs .n .given .1), ap widthOf (outputs .k .given .1))
 
-enum-told-3 : tie.Need-enum-told-3
-enum-told-3 c = search needs
-
-stop-requires-3 : tie.Need-stop-requires-3
-stop-requires-3 c κs = search needs
+counted-requires : tie.Need-counted-requires
+counted-requires c κs =
+    let outputs = c .before .before in
+    let inputs = outputs .before .before .before .before in
+    omega (arith, ap widthOf (inputs .n .given .1), ap widthOf (outputs .k .given .1))
 
 returns-3 : tie.Need-returns-3
 unfolding openingOf
 returns-3 c =
-    let third = c .before .before .before in
-    let outputs = third .before .before in
+    let typed = c .before in
+    let outputs = typed .before .before in
     let inputs = outputs .before .before .before .before in (
       rw (
         sym (inputs .before .before .head-at .ensures .0) ∙ inputs .n .given .1,
         sym (outputs .before .before .head-at2 .ensures .0) ∙ outputs .k .given .1,
-        sym (third .head-at3 .ensures .0) ∙ c .before .enum-told3 .given .1,
-      ) (c .stop3 .ensures),
-      rw (c .stop3 .ensures) tt,
-    )
-
-add-ranged : tie.Need-add-ranged
-add-ranged c =
-    let count = c .before in
-    let outputs = count .before .before .before .before in
-    let inputs = outputs .before .before .before .before in
-    omega (arith, ap widthOf (inputs .n .given .1), ap widthOf (outputs .k .given .1), ap widthOf (count .p .given .1))
-
-add-ranged-2 : tie.Need-add-ranged-2
-add-ranged-2 c =
-    let count = c .before in
-    let outputs = count .before .before .before .before in
-    let inputs = outputs .before .before .before .before in
-    omega (arith, ap widthOf (inputs .n .given .1), ap widthOf (outputs .k .given .1), ap widthOf (count .p .given .1))
-
-ranged-requires : tie.Need-ranged-requires
-ranged-requires c κs = search needs
-
-returns-4 : tie.Need-returns-4
-unfolding openingOf
-returns-4 c =
-    let count = c .before .before in
-    let outputs = count .before .before .before .before in
-    let inputs = outputs .before .before .before .before in (
-      rw (
-        sym (inputs .before .before .head-at .ensures .0) ∙ inputs .n .given .1,
-        sym (outputs .before .before .head-at2 .ensures .0) ∙ outputs .k .given .1,
-        sym (count .before .before .head-at3 .ensures .0) ∙ count .p .given .1,
-      ) (c .ranged .ensures .0),
-      c .ranged .ensures .1,
+        ← (typed .type-at .ensures .0),
+      ) (c .counted .ensures .0),
+      c .counted .ensures .1,
     )
 
 pub read-headings-spec : {M : Type 1} → statement M
@@ -130,13 +102,8 @@ read-headings-spec =
     enum-told-2
     stop-requires-2
     returns-2
-    add-head-at
-    head-at-requires-3
-    enum-known-p
-    enum-told-3
-    stop-requires-3
-    returns-3
-    add-ranged
-    add-ranged-2
-    ranged-requires
-    returns-4)
+    add-type-at
+    type-at-requires
+    add-counted
+    counted-requires
+    returns-3)

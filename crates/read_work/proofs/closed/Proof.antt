@@ -15,9 +15,12 @@ returns c = search (eq-eqb)
 add-t3 : tie.Need-add-t3
 add-t3 c = search needs
 
+add-t6 : tie.Need-add-t6
+add-t6 c = search needs
+
 returns-2 : tie.Need-returns-2
 unfolding closedOf
 returns-2 c = search (ne-eqb)
 
 pub closed-spec : {M : Type 1} → statement M
-closed-spec = tie.close (tie.spec add-if1 returns add-t3 returns-2)
+closed-spec = tie.close (tie.spec add-if1 returns add-t3 add-t6 returns-2)

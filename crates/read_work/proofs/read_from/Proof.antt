@@ -49,10 +49,9 @@ closed-requires c κs =
     let rows = c .before .before .before .before .before .before in
     let opened = rows .before .before .before .before .before .before in
     let opening = opened .before .before in
-    let a = opening .before .before .before .before .before .args in (
-      rw (rows .read-rows .ensures .0) (fault-le _ _ _ _),
-      omega (arith, subst (λ (x : Opening). openWithin x (a .room)) (opened .opening2 .given .1) (opening .read-headings .ensures .1)),
-    )
+    let a = opening .before .before .before .before .before .args in
+    let w = subst (λ (x : Opening). openWithin x (a .room)) (opened .opening2 .given .1) (opening .read-headings .ensures .1) in
+    (rw (rows .read-rows .ensures .0) (fault-le _ _ _ _), omega arith, omega arith)
 
 returns : tie.Need-returns
 unfolding readingOf afterOf

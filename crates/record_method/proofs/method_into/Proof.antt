@@ -60,7 +60,7 @@ returns c =
     let start = called .before .before .before .before .before .before .before .before .before .before .before .before .before .before .before .before .before in
     let arg = start .args in
     let done = called .row-method in
-    method-yields (arg .n) (arg .k) (arg .w) (listed (arg .flat) (arg .m)) (now (arg .basis)) (now (arg .sigma)) (done .result) _ _ (arg .room)
+    method-yields (arg .n) (arg .k) (arg .block-type) (arg .w) (listed (arg .flat) (arg .m)) (now (arg .basis)) (now (arg .sigma)) (done .result) _ _ (arg .room)
     (arg .smaller) _ _ _ (start .pre .2) (start .pre .3) (done .ensures)
 
 pub method-into-spec : {M : Type 1} → statement M

@@ -28,7 +28,7 @@ returns c =
     let arg = roomed .before .before .before .args in
     let done = worked .method-into in
     let places = roomed .fits2 in
-    method-whole (arg .n) (arg .k) (arg .w) (listed (arg .flat) (arg .m)) (now (arg .basis)) (now (arg .sigma)) (done .result .answer) _ _ (arg .room)
+    method-whole (arg .n) (arg .k) (arg .block-type) (arg .w) (listed (arg .flat) (arg .m)) (now (arg .basis)) (now (arg .sigma)) (done .result .answer) _ _ (arg .room)
     (places .result) (done .result .flat) (done .result .count) (places .ensures) (done .ensures)
 
 pub method-of-spec : {M : Type 1} → statement M

@@ -22,7 +22,7 @@ use Rattle.records.proofs.row_method as f
 use Rattle.records.proofs.row_method.Statement as stated
 use Rattle.records.proofs.row_method.Code as code
 
--- What is owned is counted after the 38 of the locals: [the four tokens; n; k; w; rows; basis; sigma; smaller]
+-- What is owned is counted after the 40 of the locals: [the four tokens; n; k; the type; w; rows; basis; sigma; smaller]
 pub row-method-spec : {M : Type 1} → stated.statement M
 unfolding code.routine
 row-method-spec 𝓤 H 𝓜 𝓖 𝓡 =
@@ -31,39 +31,40 @@ row-method-spec 𝓤 H 𝓜 𝓖 𝓡 =
     let num = a-num 𝓤 H A W w64 in
     let clauses = f.clauses 𝓤 H A (𝓜 .mem) (𝓡 .run) in
     let asked = work.clauses 𝓤 H A (𝓜 .mem) (𝓡 .run) in
-    let known : (κs : Lfts 4) → Knowns 𝓤 H A (typesAt (f.signature .params) κs) = λ κs. (num, (num, (num, (a-slice 𝓤 H A W (named 0) (κs .0) T.the-row, (a-mut-slice 𝓤 H A W (named 1) (κs .1 .0) u32, (a-mut-slice 𝓤 H A W (named 2) (κs .1 .1 .0) u32, (a-mut-slice 𝓤 H A W (named 3) (κs .1 .1 .1 .0) T.the-row, tt))))))) in
+    let known : (κs : Lfts 4) → Knowns 𝓤 H A (typesAt (f.signature .params) κs) = λ κs. (num, (num, (num, (num, (a-slice 𝓤 H A W (named 0) (κs .0) T.the-row, (a-mut-slice 𝓤 H A W (named 1) (κs .1 .0) u32, (a-mut-slice 𝓤 H A W (named 2) (κs .1 .1 .0) u32, (a-mut-slice 𝓤 H A W (named 3) (κs .1 .1 .1 .0) T.the-row, tt)))))))) in
     concludes 𝓤 H 𝓜 𝓖 𝓡 code.env #self code.function (code.unfolded 𝓤 H 𝓜 𝓡) f.ended clauses known (λ κs a p. p) (λ κs qs bounds a g are bs.
     let n = a .0 in
     let k = a .1 .0 in
-    let w = a .1 .1 .0 in
-    let rs = now (a .1 .1 .1 .0) in
-    let x₁ = a .1 .1 .1 .1 .0 in
-    let x₂ = a .1 .1 .1 .1 .1 .0 in
-    let x₃ = a .1 .1 .1 .1 .1 .1 .0 in
+    let y = a .1 .1 .0 in
+    let w = a .1 .1 .1 .0 in
+    let rs = now (a .1 .1 .1 .1 .0) in
+    let x₁ = a .1 .1 .1 .1 .1 .0 in
+    let x₂ = a .1 .1 .1 .1 .1 .1 .0 in
+    let x₃ = a .1 .1 .1 .1 .1 .1 .1 .0 in
     let room = length (now x₃) in
-    let is₀ = are .1 .1 .1 .0 .0 .1 .0 in
-    let is₃ = are .1 .1 .1 .1 .1 .1 .0 .0 .1 .0 in
+    let is₀ = are .1 .1 .1 .1 .0 .0 .1 .0 in
+    let is₃ = are .1 .1 .1 .1 .1 .1 .1 .0 .0 .1 .0 in
     puts ! (of-opd ! (field-of ! refl (sub ! 1 refl (whole !)))) refl (tt, record { fits = is₀ }) $
     asks-fits 𝓤 H 𝓜 𝓖 𝓡 code.env ! code.calls-record-copies·fits (length rs) is₀ (arg ! refl (no-more !)) (λ m fit m<. keeps ! refl (tt, record { fits = m< }) $
-    asks-gather 𝓤 H 𝓜 𝓖 𝓡 code.env ! code.calls-record-copies·gather (κs .0) (qs .0) (a .1 .1 .1 .0) m fit m< (arg ! refl (arg ! refl (no-more !))) (38 ∷ 45 ∷ []) refl (λ v₂ z e₂ is-z. keeps ! refl (LL.lawful F.the-type F′.the-laws 𝓤 H A W .typed z _ is-z .0) $
+    asks-gather 𝓤 H 𝓜 𝓖 𝓡 code.env ! code.calls-record-copies·gather (κs .0) (qs .0) (a .1 .1 .1 .1 .0) m fit m< (arg ! refl (arg ! refl (no-more !))) (40 ∷ 48 ∷ []) refl (λ v₂ z e₂ is-z. keeps ! refl (LL.lawful F.the-type F′.the-laws 𝓤 H A W .typed z _ is-z .0) $
     puts-over ! (of-opd ! (field-of ! refl (sub ! 1 refl (whole !)))) refl (tt, record { fits = is₃ }) $
-    lends ! refl (sub ! 0 refl (whole !)) refl (tt, tt) refl refl (sub ! 1 refl (whole !)) refl (tt, (tt, (record { fits = are .1 .1 .1 .1 .0 .0 .1 .0 }, tt))) $
     lends ! refl (sub ! 0 refl (whole !)) refl (tt, tt) refl refl (sub ! 1 refl (whole !)) refl (tt, (tt, (record { fits = are .1 .1 .1 .1 .1 .0 .0 .1 .0 }, tt))) $
+    lends ! refl (sub ! 0 refl (whole !)) refl (tt, tt) refl refl (sub ! 1 refl (whole !)) refl (tt, (tt, (record { fits = are .1 .1 .1 .1 .1 .1 .0 .0 .1 .0 }, tt))) $
     asks ! (framing 𝓤 H 𝓜 𝓖 𝓡 code.env) work.ended asked (cited 𝓤 H (B 𝓤 H A W work.ended asked) 𝓜 𝓡 code.env work-def.name work-def.routine code.calls-record-method·method-of (work-thm.met 𝓤 H 𝓜 𝓖 𝓡))
-    (((κs .1 .0, (κs .1 .1 .0, tt)), (qs .1 .0, (qs .1 .1 .0, tt)), tt, (n, (k, (w, (z, (m, (room, (x₁, (x₂, tt)))))))), (vint w64 n ∷ [], (vint w64 k ∷ [], (vint w64 w ∷ [], (v₂ ∷ [], (vint w64 m ∷ [], (vint w64 room ∷ [], (slice-vals x₁, (slice-vals x₂, tt))))))))), tt)
-    (arg ! refl (arg ! refl (arg ! refl (arg ! refl (arg ! refl (arg ! refl (arg ! refl (arg ! refl (no-more !))))))))) (38 ∷ 39 ∷ 44 ∷ 45 ∷ [])
-    (made ! (uint-makes 𝓤 H A W w64) (are .0) (made ! (uint-makes 𝓤 H A W w64) (are .1 .0) (made ! (uint-makes 𝓤 H A W w64) (are .1 .1 .0) (made ! ((LL.makes F.the-type F′.the-plain) 𝓤 H A) is-z (made ! (uint-makes 𝓤 H A W w64) (refl, m<) (made ! (uint-makes 𝓤 H A W w64) (refl, is₃) (held ! (held ! (none !))))))))) refl
+    (((κs .1 .0, (κs .1 .1 .0, tt)), (qs .1 .0, (qs .1 .1 .0, tt)), tt, (n, (k, (y, (w, (z, (m, (room, (x₁, (x₂, tt))))))))), (vint w64 n ∷ [], (vint w64 k ∷ [], (vint w64 y ∷ [], (vint w64 w ∷ [], (v₂ ∷ [], (vint w64 m ∷ [], (vint w64 room ∷ [], (slice-vals x₁, (slice-vals x₂, tt)))))))))), tt)
+    (arg ! refl (arg ! refl (arg ! refl (arg ! refl (arg ! refl (arg ! refl (arg ! refl (arg ! refl (arg ! refl (no-more !)))))))))) (40 ∷ 41 ∷ 47 ∷ 48 ∷ [])
+    (made ! (uint-makes 𝓤 H A W w64) (are .0) (made ! (uint-makes 𝓤 H A W w64) (are .1 .0) (made ! (uint-makes 𝓤 H A W w64) (are .1 .1 .0) (made ! (uint-makes 𝓤 H A W w64) (are .1 .1 .1 .0) (made ! ((LL.makes F.the-type F′.the-plain) 𝓤 H A) is-z (made ! (uint-makes 𝓤 H A W w64) (refl, m<) (made ! (uint-makes 𝓤 H A W w64) (refl, is₃) (held ! (held ! (none !)))))))))) refl
     (so 𝓤 H A (gathered-sized e₂, omega arith))
-    (λ d ws. RowMethodPromise n k w (listed z m) (lentArrays room (d .flat) (d .count)) (now x₁) (now x₂) (d .answer) (ws .1 .1 .1 .1 .1 .1 .0) (ws .1 .1 .1 .1 .1 .1 .1 .0))
+    (λ d ws. RowMethodPromise n k y w (listed z m) (lentArrays room (d .flat) (d .count)) (now x₁) (now x₂) (d .answer) (ws .1 .1 .1 .1 .1 .1 .1 .0) (ws .1 .1 .1 .1 .1 .1 .1 .1 .0))
     (λ d ws. id⊢ 𝓤 _) (λ v₃ d ws e₃ is-d.
     let fields = LL.owed D.the-type D′.the-laws d (v₃ ∷ []) is-d in
-    let y = e₃ .smaller in
+    let stored = e₃ .smaller in
     keeps ! refl (LL.lawful D.the-type D′.the-laws 𝓤 H A W .typed d _ is-d .0) $
-    rewrite ! 10 (λ (us : List Val). ‵ (fat fullShare D′.mir (bs .1 .1 .1 .1 .1 .1 .1 .1 .1 .1 .0) 0 (only us))) (LL.tells D.the-type D′.the-laws d (v₃ ∷ []) is-d) refl $
+    rewrite ! 11 (λ (us : List Val). ‵ (fat fullShare D′.mir (bs .1 .1 .1 .1 .1 .1 .1 .1 .1 .1 .1 .0) 0 (only us))) (LL.tells D.the-type D′.the-laws d (v₃ ∷ []) is-d) refl $
     lends ! refl (sub ! 0 refl (whole !)) refl (tt, tt) refl refl (sub ! 1 refl (whole !)) refl (tt, (tt, (record { fits = is₃ }, tt))) $
-    asks-scatter 𝓤 H 𝓜 𝓖 𝓡 code.env ! code.calls-record-copies·scatter (κs .1 .1 .1 .0) (qs .1 .1 .1 .0) (d .flat) _ (fields .0) (d .count) (fields .1 .0 .1) x₃ (y .within) (y .most)
-    (and-then ! (field-of ! refl (sub ! 0 refl (whole !))) (and-then ! (field-of ! refl (sub ! 1 refl (whole !))) (arg ! refl (no-more !)))) (38 ∷ 42 ∷ []) refl (λ zs e₄. keeps ! refl (tt, tt) $
+    asks-scatter 𝓤 H 𝓜 𝓖 𝓡 code.env ! code.calls-record-copies·scatter (κs .1 .1 .1 .0) (qs .1 .1 .1 .0) (d .flat) _ (fields .0) (d .count) (fields .1 .0 .1) x₃ (stored .within) (stored .most)
+    (and-then ! (field-of ! refl (sub ! 0 refl (whole !))) (and-then ! (field-of ! refl (sub ! 1 refl (whole !))) (arg ! refl (no-more !)))) (40 ∷ 45 ∷ []) refl (λ zs e₄. keeps ! refl (tt, tt) $
     puts ! (of-opd ! (field-of ! refl (sub ! 2 refl (whole !)))) refl (LL.lawful An.the-type An′.the-laws 𝓤 H A W .typed (d .answer) _ (fields .1 .1 .0) .0) $
-    ends ! f.ended clauses ((κs, qs, bounds, a, valsOf 𝓤 H A W f.ended clauses known κs a), g) _ _ (_ ∷ _ ∷ _ ∷ _ ∷ _ ∷ _ ∷ _ ∷ _ ∷ _ ∷ _ ∷ _ ∷ _ ∷ _ ∷ _ ∷ _ ∷ _ ∷ _ ∷ _ ∷ []) tt refl (4 ∷ 7 ∷ 8 ∷ 17 ∷ 3 ∷ 5 ∷ 6 ∷ 9 ∷ 15 ∷ 16 ∷ 20 ∷ [])
-    (d .answer) (tt, (tt, (tt, (tt, (ws .1 .1 .1 .1 .1 .1 .0, (ws .1 .1 .1 .1 .1 .1 .1 .0, (zs, tt))))))) refl ((LL.makes An.the-type An′.the-plain) 𝓤 H A) (fields .1 .1 .0)
+    ends ! f.ended clauses ((κs, qs, bounds, a, valsOf 𝓤 H A W f.ended clauses known κs a), g) _ _ (_ ∷ _ ∷ _ ∷ _ ∷ _ ∷ _ ∷ _ ∷ _ ∷ _ ∷ _ ∷ _ ∷ _ ∷ _ ∷ _ ∷ _ ∷ _ ∷ _ ∷ _ ∷ _ ∷ []) tt refl (5 ∷ 8 ∷ 9 ∷ 19 ∷ 4 ∷ 6 ∷ 7 ∷ 10 ∷ 11 ∷ 17 ∷ 18 ∷ 22 ∷ [])
+    (d .answer) (tt, (tt, (tt, (tt, (tt, (ws .1 .1 .1 .1 .1 .1 .1 .0, (ws .1 .1 .1 .1 .1 .1 .1 .1 .0, (zs, tt)))))))) refl ((LL.makes An.the-type An′.the-plain) 𝓤 H A) (fields .1 .1 .0)
     (so 𝓤 H A (method-records rs fit e₂ (now x₃) zs e₄ e₃)))))))

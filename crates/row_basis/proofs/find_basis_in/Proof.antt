@@ -1,20 +1,33 @@
 -- `row_basis::find_basis_in` meets its contract: the values by the places of the walk agree with R where the rule asks for it. Assumes
 -- nothing.
+use mathlib.Core.Path.{_≡_}
+use mathlib.Core.Bool.{true}
+use Prim.Native.Nat.{ℕ, _≤_}
 use native.Mathlib.Omega.{arith}
+use borrow.Author.Tests.{leb-true}
 use denote.Ref.{now}
+use lib.Count.{ones}
+use lib.Dec.{leb}
+use Rattle.slices.specs.Tests.{and-both}
 use Rattle.block.specs.Words.{ofRows, rowsOf}
 use Rattle.block.specs.Measure.{shift}
-use Rattle.walks.specs.Walk.{walked, walked-lt, value-agree}
+use Rattle.candidates.specs.Light.{light}
+use Rattle.walks.specs.Walk.{walked, walked-lt, walked-light, value-agree}
 use Rattle.choosing.specs.Found.{found}
 use borrow.Author.Needs.{needs}
 use Rattle.row_basis.proofs.find_basis_in.Statement.{statement}
 use Rattle.row_basis.proofs.find_basis_in.Tie as tie
 
+-- a number of the walk has at most w one-bits
+few : (w t : ℕ) → light w t ≡ true → ones t ≤ w
+unfolding light
+few w t e = leb-true (ones t) w (and-both (leb 1 (ones t)) (leb (ones t) w) e .1)
+
 put-walk-requires : tie.Need-put-walk-requires
 put-walk-requires c κs = search needs
 
-shifts-of-rows-requires : tie.Need-shifts-of-rows-requires
-shifts-of-rows-requires c κs =
+shifts-of-requires : tie.Need-shifts-of-requires
+shifts-of-requires c κs =
     let listed = c .before .before .before .before in
     let start = listed .before .before .before .before .before .before .before .before .before in
     let a = start .args in
@@ -24,7 +37,10 @@ shifts-of-rows-requires c κs =
       (start .pre .0 .0, start .pre .1 .1 .0),
       (
         start .pre .1 .1 .1,
-        (omega (arith, walk .ensures .1, walk .kept .1 .1 .0, room .0), omega (arith, walk .ensures .1, room .1), walked-lt _ _ _ _ h),
+        (
+          (omega (arith, walk .ensures .1, walk .kept .1 .1 .0, room .0), omega (arith, walk .ensures .1, room .1), walked-lt _ _ _ _ h),
+          λ i b. few (a .w) _ (walked-light _ _ _ _ h i b),
+        ),
       ),
     )
 
@@ -35,7 +51,7 @@ choose-basis-requires c κs =
     let start = listed .before .before .before .before .before .before .before .before .before in
     let a = start .args in
     let walk = listed .put-walk in
-    let kept = valued .shifts-of-rows .kept .1 .1 .1 .1 .1 .1 .0 in
+    let kept = valued .shifts-of .kept .1 .1 .1 .1 .1 .1 .1 .1 .0 in
     let room = start .pre .1 .0 in (
       (
         omega (arith, walk .ensures .1, walk .kept .1 .1 .0, room .0),
@@ -68,9 +84,9 @@ returns c =
     let start = listed .before .before .before .before .before .before .before .before .before in
     let a = start .args in
     let walk = listed .put-walk in
-    let f = ofRows (rowsOf (now (a .masks)) (now (a .values)) (now (a .words))) in
+    let f = ofRows (a .missing) (rowsOf (now (a .masks)) (now (a .values)) (now (a .words))) in
     let h = walked (a .n) (a .w) (now (a .candidates)) _ _ (walk .ensures .0) (walk .ensures .1) in
-    found f (a .n) (a .w) (start .pre .0 .1) _ (value-agree _ _ _ _ h (shift f (a .n)) _ _ (valued .shifts-of-rows .ensures)) _ _ _ _ _
+    found f (a .n) (a .w) (start .pre .0 .1) _ (value-agree _ _ _ _ h (shift f (a .n)) _ _ (valued .shifts-of .ensures)) _ _ _ _ _
     (chosen .choose-basis .ensures)
 
 pub find-basis-in-spec : {M : Type 1} → statement M
@@ -78,7 +94,7 @@ find-basis-in-spec =
     tie.close
     (tie.spec
     put-walk-requires
-    shifts-of-rows-requires
+    shifts-of-requires
     choose-basis-requires
     same-length
     same-length-2

@@ -24,7 +24,7 @@ then-rows-requires c κs =
     let count = size .before in
     let sizes = count .before in
     let a = sizes .before .before .before .before .args in
-    steps.fill-in-range (a .n) (a .k) (rowsOf (now (a .masks)) (now (a .values)) (now (a .words))) (a .room) _ (size .size-of .ensures) _ _ _
+    steps.fill-in-range (a .n) (a .k) (a .block-type) (rowsOf (now (a .masks)) (now (a .values)) (now (a .words))) (a .room) _ (size .size-of .ensures) _ _ _
     (sizes .sizes .ensures) (count .then-count .ensures) (c .then-where .ensures)
 
 returns : tie.Need-returns
@@ -34,7 +34,7 @@ returns c =
     let count = size .before in
     let sizes = count .before in
     let a = sizes .before .before .before .before .args in
-    steps.fill-verdict (a .n) (a .k) (rowsOf (now (a .masks)) (now (a .values)) (now (a .words))) (a .room) _ (size .size-of .ensures) _ _ _
+    steps.fill-verdict (a .n) (a .k) (a .block-type) (rowsOf (now (a .masks)) (now (a .values)) (now (a .words))) (a .room) _ (size .size-of .ensures) _ _ _
     (sizes .sizes .ensures) (count .then-count .ensures) (lent .then-where .ensures) _ (c .then-rows .ensures)
 
 pub fill-verdict-spec : {M : Type 1} → statement M

@@ -28,7 +28,7 @@ then-rows-requires c κs =
     let light = weight .before in
     let sizes = light .before in
     let a = sizes .before .before .before .before .args in
-    method-in-range (a .n) (a .k) (a .w) (rowsOf (now (a .masks)) (now (a .values)) (now (a .words))) (a .short) _ (light .is-outside .ensures)
+    method-in-range (a .n) (a .k) (a .block-type) (a .w) (rowsOf (now (a .masks)) (now (a .values)) (now (a .words))) (a .short) _ (light .is-outside .ensures)
     _ _ _ _ (sizes .sizes .ensures) (weight .then-where .ensures) (count .then-count .ensures) (c .then-where2 .ensures)
 
 returns : tie.Need-returns
@@ -39,7 +39,7 @@ returns c =
     let light = weight .before in
     let sizes = light .before in
     let a = sizes .before .before .before .before .args in
-    method-verdict (a .n) (a .k) (a .w) (rowsOf (now (a .masks)) (now (a .values)) (now (a .words))) (a .short) _ (light .is-outside .ensures)
+    method-verdict (a .n) (a .k) (a .block-type) (a .w) (rowsOf (now (a .masks)) (now (a .values)) (now (a .words))) (a .short) _ (light .is-outside .ensures)
     _ _ _ _ (sizes .sizes .ensures) (weight .then-where .ensures) (count .then-count .ensures) (lent .then-where2 .ensures) _
     (c .then-rows .ensures)
 

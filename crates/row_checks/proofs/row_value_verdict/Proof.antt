@@ -24,7 +24,7 @@ then-rows-requires c κs =
     let size = point .before in
     let sizes = size .before in
     let a = sizes .before .before .before .before .args in
-    value-in-range (a .n) (a .k) (a .t) (rowsOf (now (a .masks)) (now (a .values)) (now (a .words))) _ (size .size-of .ensures) _ _ _
+    value-in-range (a .n) (a .k) (a .block-type) (a .t) (rowsOf (now (a .masks)) (now (a .values)) (now (a .words))) _ (size .size-of .ensures) _ _ _
     (sizes .sizes .ensures) (point .then-where .ensures) (c .then-count .ensures)
 
 returns : tie.Need-returns
@@ -34,7 +34,7 @@ returns c =
     let size = point .before in
     let sizes = size .before in
     let a = sizes .before .before .before .before .args in
-    value-verdict (a .n) (a .k) (a .t) (rowsOf (now (a .masks)) (now (a .values)) (now (a .words))) _ (size .size-of .ensures) _ _ _
+    value-verdict (a .n) (a .k) (a .block-type) (a .t) (rowsOf (now (a .masks)) (now (a .values)) (now (a .words))) _ (size .size-of .ensures) _ _ _
     (sizes .sizes .ensures) (point .then-where .ensures) (count .then-count .ensures) _ (c .then-rows .ensures)
 
 pub row-value-verdict-spec : {M : Type 1} → statement M

@@ -46,7 +46,7 @@ slice-write-cube-values c = search needs
 weight-of-requires : tie.Need-weight-of-requires
 weight-of-requires c κs =
     let p = c .before .before .before .before .before .before .before .before .before .pre in
-    (p .0 .0, p .1 .0 .0, p .1 .0 .1)
+    (p .0 .0, p .1 .0 .0, p .1 .0 .1, p .1 .0 .2)
 
 mul-cube-weights : tie.Need-mul-cube-weights
 mul-cube-weights c = search needs

@@ -10,24 +10,27 @@ use borrow.Author.Needs.{needs}
 use Rattle.row_work.proofs.method_rows.Statement.{statement}
 use Rattle.row_work.proofs.method_rows.Tie as tie
 
+missing-word-requires : tie.Need-missing-word-requires
+missing-word-requires c κs = search needs
+
 method-checked-requires : tie.Need-method-checked-requires
 method-checked-requires c κs = search needs
 
 returns : tie.Need-returns
 returns c =
     let checked = c .before .before in
-    let a = checked .before .before .before .before .before .before .before .before .before .args in
-    method-refused (a .n) (a .k) (a .w) (rowsOf (now (a .masks)) (now (a .values)) (now (a .words))) (a .short) (now (a .basis)) (now (a .sigma))
+    let a = checked .before .before .before .before .before .before .before .before .before .before .args in
+    method-refused (a .n) (a .k) (a .block-type) (a .w) (rowsOf (now (a .masks)) (now (a .values)) (now (a .words))) (a .short) (now (a .basis)) (now (a .sigma))
     (now (a .out-masks)) (now (a .out-values)) (now (a .out-words)) _ (checked .method-checked .ensures) (c .if1 .taken)
 
 work-rows-requires : tie.Need-work-rows-requires
 work-rows-requires c κs =
     let passed = c .before .before .before .before .before in
     let checked = passed .before .before in
-    let start = checked .before .before .before .before .before .before .before .before .before in
+    let start = checked .before .before .before .before .before .before .before .before .before .before in
     let a = start .args in
     let p =
-    method-passed (a .n) (a .k) (a .w) (rowsOf (now (a .masks)) (now (a .values)) (now (a .words))) (a .short)
+    method-passed (a .n) (a .k) (a .block-type) (a .w) (rowsOf (now (a .masks)) (now (a .values)) (now (a .words))) (a .short)
     (zero-too (checked .method-checked .ensures) (passed .if1 .left)) in
     let size = p .list .range .size .1 in
     let lent = start .pre (p .room) size in
@@ -54,10 +57,11 @@ returns-2 c =
     let worked = c .before .before .before .before .before .before .before .before .before .before .before .before in
     let passed = worked .before .before .before .before .before .before in
     let checked = passed .before .before in
-    let a = checked .before .before .before .before .before .before .before .before .before .args in
-    method-stopped (a .n) (a .k) (a .w) (rowsOf (now (a .masks)) (now (a .values)) (now (a .words))) (a .short) (now (a .basis)) (now (a .sigma))
-    (now (a .out-masks)) (now (a .out-values)) (now (a .out-words)) _ (checked .method-checked .ensures) (passed .if1 .left) _ _ _ _ _ _
-    (worked .work-rows .ensures) (c .if2 .taken)
+    let word = checked .before in
+    let a = word .before .before .before .before .before .before .before .before .before .args in
+    method-stopped (a .n) (a .k) (a .block-type) (a .w) (rowsOf (now (a .masks)) (now (a .values)) (now (a .words))) (a .short) (now (a .basis)) (now (a .sigma))
+    (now (a .out-masks)) (now (a .out-values)) (now (a .out-words)) _ (checked .method-checked .ensures) (passed .if1 .left) _ _ _ _ _ _ _
+    (word .missing-word .ensures) (worked .work-rows .ensures) (c .if2 .taken)
 
 same-length-6 : tie.Need-same-length-6
 same-length-6 c = search needs
@@ -79,15 +83,17 @@ returns-3 c =
     let worked = c .before .before .before .before .before .before .before .before .before .before .before .before in
     let passed = worked .before .before .before .before .before .before in
     let checked = passed .before .before in
-    let a = checked .before .before .before .before .before .before .before .before .before .args in
-    method-made (a .n) (a .k) (a .w) (rowsOf (now (a .masks)) (now (a .values)) (now (a .words))) (a .short) (now (a .basis)) (now (a .sigma))
-    (now (a .out-masks)) (now (a .out-values)) (now (a .out-words)) _ (checked .method-checked .ensures) (passed .if1 .left) _ _ _ _ _ _
-    (worked .work-rows .ensures) (c .if2 .left)
+    let word = checked .before in
+    let a = word .before .before .before .before .before .before .before .before .before .args in
+    method-made (a .n) (a .k) (a .block-type) (a .w) (rowsOf (now (a .masks)) (now (a .values)) (now (a .words))) (a .short) (now (a .basis)) (now (a .sigma))
+    (now (a .out-masks)) (now (a .out-values)) (now (a .out-words)) _ (checked .method-checked .ensures) (passed .if1 .left) _ _ _ _ _ _ _
+    (word .missing-word .ensures) (worked .work-rows .ensures) (c .if2 .left)
 
 pub method-rows-spec : {M : Type 1} → statement M
 method-rows-spec =
     tie.close
     (tie.spec
+    missing-word-requires
     method-checked-requires
     returns
     work-rows-requires

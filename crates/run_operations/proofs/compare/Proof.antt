@@ -11,8 +11,8 @@ word-end-requires c κs = search needs
 slice-aggregate-run : tie.Need-slice-aggregate-run
 slice-aggregate-run c = simp length-take (omega arith)
 
-after-name-requires : tie.Need-after-name-requires
-after-name-requires c κs = search needs
+after-word-requires : tie.Need-after-word-requires
+after-word-requires c κs = search needs
 
 run-requires : tie.Need-run-requires
 run-requires c κs = search needs
@@ -38,7 +38,7 @@ compare-spec =
     (tie.spec
     word-end-requires
     slice-aggregate-run
-    after-name-requires
+    after-word-requires
     run-requires
     read-numbers-requires
     is-equal-requires

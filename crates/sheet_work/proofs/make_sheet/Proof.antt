@@ -31,7 +31,7 @@ returns : tie.Need-returns
 returns c =
     let made = c .before .before .before .before .before .before .before in
     let a = made .before .before .before .before .before .before .before .before .before .before .args in
-    sheet-refused (a .n) (a .k) (a .w) (rowsOf (now (a .masks)) (now (a .values)) (now (a .words))) (now (a .out)) _ _ _ _ _ _ _ _ _ _ _
+    sheet-refused (a .n) (a .k) (a .block-type) (a .w) (rowsOf (now (a .masks)) (now (a .values)) (now (a .words))) (now (a .out)) _ _ _ _ _ _ _ _ _ _ _
     (made .method-rows .ensures) (c .if1 .taken)
 
 array-share-prefix-basis : tie.Need-array-share-prefix-basis
@@ -39,7 +39,7 @@ array-share-prefix-basis c =
     let left = c .before in
     let made = left .before .before .before .before .before .before .before in
     let a = made .before .before .before .before .before .before .before .before .before .before .args in
-    let h = sheet-ready (a .n) (a .k) (a .w) (rowsOf (now (a .masks)) (now (a .values)) (now (a .words))) (now (a .out)) _ _ _ _ _ _ _ _ _ _ _
+    let h = sheet-ready (a .n) (a .k) (a .block-type) (a .w) (rowsOf (now (a .masks)) (now (a .values)) (now (a .words))) (now (a .out)) _ _ _ _ _ _ _ _ _ _ _
     (made .method-rows .ensures) (left .if1 .left) .passed in
     omega (arith, h .list .range .size .1)
 
@@ -48,7 +48,7 @@ slice-aggregate-put-sheet c =
     let left = c .before .before in
     let made = left .before .before .before .before .before .before .before in
     let a = made .before .before .before .before .before .before .before .before .before .before .args in
-    let h = sheet-ready (a .n) (a .k) (a .w) (rowsOf (now (a .masks)) (now (a .values)) (now (a .words))) (now (a .out)) _ _ _ _ _ _ _ _ _ _ _
+    let h = sheet-ready (a .n) (a .k) (a .block-type) (a .w) (rowsOf (now (a .masks)) (now (a .values)) (now (a .words))) (now (a .out)) _ _ _ _ _ _ _ _ _ _ _
     (made .method-rows .ensures) (left .if1 .left) .passed in
     simp length-take (omega (arith, h .list .range .size .1))
 
@@ -57,7 +57,7 @@ array-share-prefix-sigma c =
     let left = c .before .before in
     let made = left .before .before .before .before .before .before .before in
     let a = made .before .before .before .before .before .before .before .before .before .before .args in
-    let h = sheet-ready (a .n) (a .k) (a .w) (rowsOf (now (a .masks)) (now (a .values)) (now (a .words))) (now (a .out)) _ _ _ _ _ _ _ _ _ _ _
+    let h = sheet-ready (a .n) (a .k) (a .block-type) (a .w) (rowsOf (now (a .masks)) (now (a .values)) (now (a .words))) (now (a .out)) _ _ _ _ _ _ _ _ _ _ _
     (made .method-rows .ensures) (left .if1 .left) .passed in
     omega (arith, h .list .range .size .1)
 
@@ -66,7 +66,7 @@ slice-aggregate-put-sheet-2 c =
     let left = c .before .before .before in
     let made = left .before .before .before .before .before .before .before in
     let a = made .before .before .before .before .before .before .before .before .before .before .args in
-    let h = sheet-ready (a .n) (a .k) (a .w) (rowsOf (now (a .masks)) (now (a .values)) (now (a .words))) (now (a .out)) _ _ _ _ _ _ _ _ _ _ _
+    let h = sheet-ready (a .n) (a .k) (a .block-type) (a .w) (rowsOf (now (a .masks)) (now (a .values)) (now (a .words))) (now (a .out)) _ _ _ _ _ _ _ _ _ _ _
     (made .method-rows .ensures) (left .if1 .left) .passed in
     simp length-take (omega (arith, h .list .range .size .1))
 
@@ -84,7 +84,7 @@ put-sheet-requires c κs =
     let left = c .before .before .before .before .before .before in
     let done = left .before .before .before .before .before .before .before in
     let a = done .before .before .before .before .before .before .before .before .before .before .args in
-    let s = sheet-room (a .n) (a .k) (a .w) (rowsOf (now (a .masks)) (now (a .values)) (now (a .words))) (now (a .out)) _ _ _ _ _ _ _ _ _ _ _
+    let s = sheet-room (a .n) (a .k) (a .block-type) (a .w) (rowsOf (now (a .masks)) (now (a .values)) (now (a .words))) (now (a .out)) _ _ _ _ _ _ _ _ _ _ _
     (done .method-rows .ensures) (left .if1 .left) in
     (s .0, (omega (arith, s .1), omega (arith, s .1), omega (arith, s .1)))
 
@@ -97,7 +97,7 @@ returns-2 c =
     let left = put .before .before .before .before .before .before .before in
     let made = left .before .before .before .before .before .before .before in
     let a = made .before .before .before .before .before .before .before .before .before .before .args in
-    sheet-answered (a .n) (a .k) (a .w) (rowsOf (now (a .masks)) (now (a .values)) (now (a .words))) (now (a .out)) _ _ _ _ _ _ _ _ _ _ _
+    sheet-answered (a .n) (a .k) (a .block-type) (a .w) (rowsOf (now (a .masks)) (now (a .values)) (now (a .words))) (now (a .out)) _ _ _ _ _ _ _ _ _ _ _
     (made .method-rows .ensures) (left .if1 .left) _ _ (put .put-sheet .ensures)
 
 pub make-sheet-spec : {M : Type 1} → statement M

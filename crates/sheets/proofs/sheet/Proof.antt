@@ -19,7 +19,7 @@ returns c =
     let a = made .before .before .before .before .before .before .args in
     let e = made .make-sheet .ensures in
     record {
-      answer = work-sheet (a .n) (a .k) (a .w) (rowsOf (now (a .masks)) (now (a .values)) (now (a .words))) (length (now (a .out))) _ (e .0);
+      answer = work-sheet (a .n) (a .k) (a .block-type) (a .w) (rowsOf (now (a .masks)) (now (a .values)) (now (a .words))) (length (now (a .out))) _ (e .0);
       text = e .1;
     }
 

@@ -36,7 +36,7 @@ replay-rows-requires c κs =
       (
         start .pre .0 .0,
         omega (arith, start .pre .0 .0, found .find-basis .kept),
-        found-independent (a .n) (a .w) (start .pre .0 .1) (rowsOf (now (a .masks)) (now (a .values)) (now (a .words))) _ _ _ _ _ (found .find-basis .ensures),
+        found-independent (a .missing) (a .n) (a .w) (start .pre .0 .1) (rowsOf (now (a .masks)) (now (a .values)) (now (a .words))) _ _ _ _ _ (found .find-basis .ensures),
       ),
       (start .pre .1 .1 .0, search needs),
     )
@@ -47,7 +47,7 @@ returns c =
     let found = moved .before .before .before .before .before .before .before in
     let start = found .before .before .before .before .before .before .before .before .before .before .before in
     let a = start .args in
-    work-stopped (a .n) (a .w) (start .pre .0 .1) (rowsOf (now (a .masks)) (now (a .values)) (now (a .words))) _ _ _ _ _ (found .find-basis .ensures) _ _ _ _
+    work-stopped (a .missing) (a .n) (a .w) (start .pre .0 .1) (rowsOf (now (a .masks)) (now (a .values)) (now (a .words))) _ _ _ _ _ (found .find-basis .ensures) _ _ _ _
     (moved .replay-rows .ensures) _ _ _ _ _ (c .if1 .taken)
 
 slice-aggregate-copy-first : tie.Need-slice-aggregate-copy-first
@@ -114,7 +114,7 @@ returns-2 c =
     let found = moved .before .before .before .before .before .before .before in
     let start = found .before .before .before .before .before .before .before .before .before .before .before in
     let a = start .args in
-    work-done (a .n) (a .w) (start .pre .0 .1) (rowsOf (now (a .masks)) (now (a .values)) (now (a .words))) _ _ _ _ _ (found .find-basis .ensures) _ _ _ _
+    work-done (a .missing) (a .n) (a .w) (start .pre .0 .1) (rowsOf (now (a .masks)) (now (a .values)) (now (a .words))) _ _ _ _ _ (found .find-basis .ensures) _ _ _ _
     (moved .replay-rows .ensures) _ _ _ _ _ _ _ _ _ _ (left .if1 .left) (basis .copy-first .ensures) (sigma .copy-first2 .ensures)
     (rows .put-list .ensures)
 

@@ -11,10 +11,10 @@ use Rattle.table_checks.proofs.first_bad_entry.Statement.{statement}
 use Rattle.table_checks.proofs.first_bad_entry.Tie as tie
 
 abbrev Inv-loop : tie.InvT-loop
-Inv-loop k table i₀ i = Searched (badEntry k) table i
+Inv-loop missing k table i₀ i = Searched (badEntry missing k) table i
 
 abbrev μ-loop : tie.MeasureT-loop
-μ-loop k table i₀ i = length table - i
+μ-loop missing k table i₀ i = length table - i
 
 loop-holds : tie.Need-loop-holds Inv-loop μ-loop
 loop-holds c = search-starts _ _

@@ -27,7 +27,7 @@ then-matrix-requires c κs =
     let size = unfit .before in
     let sizes = size .before in
     let a = sizes .before .before .before .args in
-    restore-inputs (a .n) (a .k) _ (now (a .table)) (size .size-of .ensures) (now (a .sigma)) (a .room) _ (unfit .is-unfit .ensures) _ _ _
+    restore-inputs (a .n) (a .k) (a .block-type) _ (now (a .table)) (size .size-of .ensures) (now (a .sigma)) (a .room) _ (unfit .is-unfit .ensures) _ _ _
     (sizes .sizes .ensures) (whole .then-where .ensures) (c .then-where2 .ensures)
 
 then-entries-requires : tie.Need-then-entries-requires
@@ -38,7 +38,7 @@ then-entries-requires c κs =
     let size = unfit .before in
     let sizes = size .before in
     let a = sizes .before .before .before .args in
-    restore-outputs (a .n) (a .k) _ (now (a .table)) (size .size-of .ensures) (now (a .sigma)) (a .room) _ (unfit .is-unfit .ensures) _ _ _
+    restore-outputs (a .n) (a .k) (a .block-type) _ (now (a .table)) (size .size-of .ensures) (now (a .sigma)) (a .room) _ (unfit .is-unfit .ensures) _ _ _
     (sizes .sizes .ensures) (whole .then-where .ensures) (lent .then-where2 .ensures) _ (c .then-matrix .ensures)
 
 returns : tie.Need-returns
@@ -50,7 +50,7 @@ returns c =
     let size = unfit .before in
     let sizes = size .before in
     let a = sizes .before .before .before .args in
-    restore-verdict (a .n) (a .k) _ (now (a .table)) (size .size-of .ensures) (now (a .sigma)) (a .room) _ (unfit .is-unfit .ensures) _ _ _
+    restore-verdict (a .n) (a .k) (a .block-type) _ (now (a .table)) (size .size-of .ensures) (now (a .sigma)) (a .room) _ (unfit .is-unfit .ensures) _ _ _
     (sizes .sizes .ensures) (whole .then-where .ensures) (lent .then-where2 .ensures) _ (rows .then-matrix .ensures) _ (c .then-entries .ensures)
 
 pub restore-checked-spec : {M : Type 1} → statement M

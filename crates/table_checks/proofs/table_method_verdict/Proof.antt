@@ -35,7 +35,7 @@ then-entries-requires c κs =
     let size = light .before in
     let sizes = size .before in
     let a = sizes .before .before .args in
-    method-outputs (a .n) (a .k) _ (now (a .table)) (size .size-of .ensures) (a .w) (a .room-t) (a .room-sigma) (a .room-table) _ _
+    method-outputs (a .n) (a .k) (a .block-type) _ (now (a .table)) (size .size-of .ensures) (a .w) (a .room-t) (a .room-sigma) (a .room-table) _ _
     (light .is-outside .ensures) (short .is-short .ensures) _ _ _ _ (sizes .sizes .ensures) (weight .then-where .ensures)
     (whole .then-where2 .ensures) (c .then-where3 .ensures)
 
@@ -49,7 +49,7 @@ returns c =
     let size = light .before in
     let sizes = size .before in
     let a = sizes .before .before .args in
-    method-verdict (a .n) (a .k) _ (now (a .table)) (size .size-of .ensures) (a .w) (a .room-t) (a .room-sigma) (a .room-table) _ _
+    method-verdict (a .n) (a .k) (a .block-type) _ (now (a .table)) (size .size-of .ensures) (a .w) (a .room-t) (a .room-sigma) (a .room-table) _ _
     (light .is-outside .ensures) (short .is-short .ensures) _ _ _ _ (sizes .sizes .ensures) (weight .then-where .ensures)
     (whole .then-where2 .ensures) (lent .then-where3 .ensures) _ (c .then-entries .ensures)
 

@@ -23,7 +23,7 @@ then-entries-requires c κs =
     let size = point .before in
     let sizes = size .before in
     let a = sizes .before .before .args in
-    value-outputs (a .n) (a .k) _ (now (a .table)) (size .size-of .ensures) (a .t) _ _ _ (sizes .sizes .ensures) (point .then-where .ensures)
+    value-outputs (a .n) (a .k) (a .block-type) _ (now (a .table)) (size .size-of .ensures) (a .t) _ _ _ (sizes .sizes .ensures) (point .then-where .ensures)
     (c .then-where2 .ensures)
 
 returns : tie.Need-returns
@@ -33,7 +33,7 @@ returns c =
     let size = point .before in
     let sizes = size .before in
     let a = sizes .before .before .args in
-    value-verdict (a .n) (a .k) _ (now (a .table)) (size .size-of .ensures) (a .t) _ _ _ (sizes .sizes .ensures) (point .then-where .ensures)
+    value-verdict (a .n) (a .k) (a .block-type) _ (now (a .table)) (size .size-of .ensures) (a .t) _ _ _ (sizes .sizes .ensures) (point .then-where .ensures)
     (whole .then-where2 .ensures) _ (c .then-entries .ensures)
 
 pub table-value-verdict-spec : {M : Type 1} → statement M

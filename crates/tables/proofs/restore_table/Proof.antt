@@ -29,8 +29,8 @@ unfolding restoreVerdict restoreChecked
 returns c =
     let checked = c .before .before in
     let a = checked .before .before .before .before .args in
-    let e : checked .restore-checked .result ≡ restoreVerdict (a .n) (a .k) (now (a .sigma)) (now (a .smaller)) (length (now (a .table))) =
-    part-refuses _ (restoreChecked (a .n) (a .k) (now (a .sigma)) (now (a .smaller)) (length (now (a .table)))) _
+    let e : checked .restore-checked .result ≡ restoreVerdict (a .n) (a .k) (a .block-type) (now (a .sigma)) (now (a .smaller)) (length (now (a .table))) =
+    part-refuses _ (restoreChecked (a .n) (a .k) (a .block-type) (now (a .sigma)) (now (a .smaller)) (length (now (a .table)))) _
     (checked .restore-checked .ensures) (c .if1 .taken) in
     record { answer = e; table = kept _ _ (restored (a .n) (now (a .sigma)) (now (a .smaller))) (now (a .table)) e (c .if1 .taken) }
 
@@ -40,7 +40,7 @@ slice-aggregate-first-dependent c = search needs
 first-dependent-requires : tie.Need-first-dependent-requires
 first-dependent-requires c κs =
     let a = c .before .before .before .before .before .before .before .args in
-    let p = restore-passed (a .n) (a .k) (now (a .sigma)) (now (a .smaller)) (length (now (a .table))) _ (c .before .before .before .restore-checked .ensures) (c .before .if1 .left) in
+    let p = restore-passed (a .n) (a .k) (a .block-type) (now (a .sigma)) (now (a .smaller)) (length (now (a .table))) _ (c .before .before .before .restore-checked .ensures) (c .before .if1 .left) in
     (omega (arith, p .rows), p .inputs, omega (arith, p .inputs), p .below)
 
 refuse-requires : tie.Need-refuse-requires
@@ -55,11 +55,11 @@ returns-2 c =
     let a = checked .before .before .before .before .args in
     let d = sought .first-dependent .ensures in
     let j = dependent (a .n) (at (now (a .sigma))) in
-    let e : c .refuse .result ≡ restoreVerdict (a .n) (a .k) (now (a .sigma)) (now (a .smaller)) (length (now (a .table))) =
+    let e : c .refuse .result ≡ restoreVerdict (a .n) (a .k) (a .block-type) (now (a .sigma)) (now (a .smaller)) (length (now (a .table))) =
     c .refuse .ensures ∙ ap (λ (j : ℕ). answer 8 j 0) d
     ∙ sym (verdict-hit (check (ltb j (a .n)) 8 j 0) [] (sym (ap (λ (j : ℕ). ltb j (a .n)) d) ∙ lt-ltb _ _ (c .before .if2 .taken)))
-    ∙ part-passes _ (restoreChecked (a .n) (a .k) (now (a .sigma)) (now (a .smaller)) (length (now (a .table)))) _
-    (checked .restore-checked .ensures) (refl, (refl, (refl, (refl, (refl, (refl, tt)))))) (passed .if1 .left) in
+    ∙ part-passes _ (restoreChecked (a .n) (a .k) (a .block-type) (now (a .sigma)) (now (a .smaller)) (length (now (a .table)))) _
+    (checked .restore-checked .ensures) (refl, (refl, (refl, (refl, (refl, (refl, (refl, tt))))))) (passed .if1 .left) in
     record {
       answer = e;
       table = kept _ _ (restored (a .n) (now (a .sigma)) (now (a .smaller))) (now (a .table)) e
@@ -71,7 +71,7 @@ put-restored-requires c κs =
     let passed = c .before .before .before .before .before in
     let checked = passed .before .before in
     let a = checked .before .before .before .before .args in
-    let p = restore-passed (a .n) (a .k) (now (a .sigma)) (now (a .smaller)) (length (now (a .table))) _ (checked .restore-checked .ensures) (passed .if1 .left) in
+    let p = restore-passed (a .n) (a .k) (a .block-type) (now (a .sigma)) (now (a .smaller)) (length (now (a .table))) _ (checked .restore-checked .ensures) (passed .if1 .left) in
     (p .entries, p .inputs, omega (arith, p .rows), p .space)
 
 refuse-requires-2 : tie.Need-refuse-requires-2
@@ -90,11 +90,11 @@ returns-3 c =
     let a = checked .before .before .before .before .args in
     let d = sought .first-dependent .ensures in
     let j = dependent (a .n) (at (now (a .sigma))) in
-    let e : c .refuse2 .result ≡ restoreVerdict (a .n) (a .k) (now (a .sigma)) (now (a .smaller)) (length (now (a .table))) =
+    let e : c .refuse2 .result ≡ restoreVerdict (a .n) (a .k) (a .block-type) (now (a .sigma)) (now (a .smaller)) (length (now (a .table))) =
     c .refuse2 .ensures
     ∙ sym (verdict-miss (check (ltb j (a .n)) 8 j 0) [] (sym (ap (λ (j : ℕ). ltb j (a .n)) d) ∙ le-ltb _ _ (put .before .before .if2 .left)) ∙ verdict-none)
-    ∙ part-passes _ (restoreChecked (a .n) (a .k) (now (a .sigma)) (now (a .smaller)) (length (now (a .table)))) _
-    (checked .restore-checked .ensures) (refl, (refl, (refl, (refl, (refl, (refl, tt)))))) (passed .if1 .left) in
+    ∙ part-passes _ (restoreChecked (a .n) (a .k) (a .block-type) (now (a .sigma)) (now (a .smaller)) (length (now (a .table)))) _
+    (checked .restore-checked .ensures) (refl, (refl, (refl, (refl, (refl, (refl, (refl, tt))))))) (passed .if1 .left) in
     record {
       answer = e;
       table = put .put-restored .ensures

@@ -1,5 +1,5 @@
 -- `tables::table_method` meets its contract: the verdict, and on 0 the work. Assumes nothing.
-use mathlib.Core.Path.{ap, ap₂, _∙_}
+use mathlib.Core.Path.{_≡_, ap, ap₂, _∙_}
 use Prim.Native.Nat.{ℕ}
 use native.Mathlib.Omega.{arith}
 use lib.ListN.{length}
@@ -10,7 +10,8 @@ use Rattle.block.specs.Measure.{measure}
 use Rattle.block.specs.Basis.{basisOf, sigmaOf, smallerOf}
 use Rattle.block.specs.Tables.{tableMethod, withMeasures, smallerTable}
 use Rattle.block.specs.declared.Answer.{Answer}
-use Rattle.shared_checks.specs.Sizes.{inside}
+use Rattle.shared_checks.specs.Sizes.{inside, either-word}
+use Rattle.table_words.specs.Matching.{hole}
 use Rattle.table_shifts.specs.Blocks.{good-unmarked}
 use Rattle.table_checks.specs.Passed.{method-passed, method-sizes, method-entries}
 use Rattle.refusal_laws.specs.Verdicts.{measures-refused, measures-answered, kept, given}
@@ -47,9 +48,9 @@ linearize-requires c κs =
     let b = length (now (a .basis)) in
     let s = length (now (a .sigma)) in
     let m = length (now (a .smaller)) in
-    let p = method-passed (a .n) (a .k) (a .w) (now (a .table)) b s m _ e l in
-    let sizes = method-sizes (a .n) (a .k) (a .w) (now (a .table)) b s m _ e l in
-    let good = method-entries (a .n) (a .k) (a .w) (now (a .table)) b s m _ e l in (
+    let p = method-passed (a .n) (a .k) (a .block-type) (a .w) (now (a .table)) b s m _ e l in
+    let sizes = method-sizes (a .n) (a .k) (a .block-type) (a .w) (now (a .table)) b s m _ e l in
+    let good = method-entries (a .n) (a .k) (a .block-type) (a .w) (now (a .table)) b s m _ e l in (
       p .entries,
       p .inputs,
       p .least,
@@ -57,7 +58,7 @@ linearize-requires c κs =
       p .columns,
       p .rows,
       p .smaller,
-      λ i h. good-unmarked (a .k) _ (inside 1 outputs (a .k) (sizes .1) .1) (good i (omega (arith, p .entries))),
+      λ i h. good-unmarked _ (a .k) _ (either-word (λ m. m ≡ hole → ⊥) (λ e. omega arith) (λ e. omega arith) (a .block-type)) (inside 1 outputs (a .k) (sizes .1) .1) (good i (omega (arith, p .entries))),
     )
 
 same-length : tie.Need-same-length

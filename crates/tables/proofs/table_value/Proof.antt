@@ -28,11 +28,11 @@ shift-at-requires : tie.Need-shift-at-requires
 shift-at-requires c κs =
     let checked = c .before .before in
     let a = checked .before .before .args in
-    let p = value-passed (a .n) (a .k) (a .t) (now (a .table)) _ (checked .table-value-verdict .ensures) (c .if1 .left) in
+    let p = value-passed (a .n) (a .k) (a .block-type) (a .t) (now (a .table)) _ (checked .table-value-verdict .ensures) (c .if1 .left) in
     (p .entries, p .asked, p .inputs)
 
-cast-t8 : tie.Need-cast-t8
-cast-t8 c = search needs
+cast-t9 : tie.Need-cast-t9
+cast-t9 c = search needs
 
 returns-2 : tie.Need-returns-2
 unfolding tableValue
@@ -49,4 +49,4 @@ returns-2 c =
 
 pub table-value-spec : {M : Type 1} → statement M
 table-value-spec =
-    tie.close (tie.spec table-value-verdict-requires returns shift-at-requires cast-t8 returns-2)
+    tie.close (tie.spec table-value-verdict-requires returns shift-at-requires cast-t9 returns-2)

@@ -29,10 +29,10 @@ put-text-requires : tie.Need-put-text-requires
 put-text-requires c κs =
     let checked = c .before .before .before in
     let a = checked .before .before .before .before .before .args in
-    let w = writable (a .n) (a .k) (rowsOf (now (a .masks)) (now (a .values)) (now (a .words))) (length (now (a .out)))
+    let w = writable (a .n) (a .k) (a .block-type) (a .type-line) (rowsOf (now (a .masks)) (now (a .values)) (now (a .words))) (length (now (a .out)))
     (ap (λ v. v .number) (sym (checked .write-checks .ensures)) ∙ c .before .if1 .left) in
     let e = equal-lengths (now (a .masks)) (now (a .values)) (now (a .words)) (w .count .0) in
-    (omega (arith, text-le (a .n) (a .k) (rowsOf (now (a .masks)) (now (a .values)) (now (a .words))) (w .inputs .1) (w .outputs .1) (w .count .1), w .enough), e)
+    (omega (arith, text-le (a .n) (a .k) (a .block-type) (a .type-line) (rowsOf (now (a .masks)) (now (a .values)) (now (a .words))) (w .inputs .1) (w .outputs .1) (w .count .1), w .enough), e)
 
 same-length : tie.Need-same-length
 same-length c = search needs
@@ -46,11 +46,11 @@ returns-2 c =
     let a = checked .before .before .before .before .before .args in
     let rs = rowsOf (now (a .masks)) (now (a .values)) (now (a .words)) in
     let e = checked .write-checks .ensures in
-    let w = writable (a .n) (a .k) rs (length (now (a .out))) (ap (λ v. v .number) (sym e) ∙ passed .if1 .left) in
+    let w = writable (a .n) (a .k) (a .block-type) (a .type-line) rs (length (now (a .out))) (ap (λ v. v .number) (sym e) ∙ passed .if1 .left) in
     record {
       answer = rw (← e, eq-eqb _ _ (passed .if1 .left), put .put-text .ensures .place ∙ zero-add _);
       text = rw (← e, eq-eqb _ _ (passed .if1 .left))
-          (put-over (omega (arith, text-le (a .n) (a .k) rs (w .inputs .1) (w .outputs .1) (w .count .1))) (put .put-text .ensures));
+          (put-over (omega (arith, text-le (a .n) (a .k) (a .block-type) (a .type-line) rs (w .inputs .1) (w .outputs .1) (w .count .1))) (put .put-text .ensures));
     }
 
 pub write-text-spec : {M : Type 1} → statement M
