@@ -4,3 +4,4 @@ pub mod Xor
 pub mod Parity
 pub mod Bit
 pub mod Parts
+pub mod Ones

@@ -4,17 +4,20 @@
 use mathlib.Core.Path.{_≡_, refl, sym, ap, ap₂, _∙_}
 use mathlib.Core.Bool.{Bool, true, false, cond, _&&_, _||_, false≢true}
 use mathlib.Core.List.{List, [], _∷_, _++_}
-use Prim.Native.Nat.{ℕ, zero, suc, _+_, _^_, _<_}
+use Prim.Native.Nat.{ℕ, zero, suc, _+_, _^_, _≤_, _<_}
+use native.Mathlib.Decide.{le-ind}
 use native.Mathlib.Numerals.{add-one}
 use native.Mathlib.Omega.{arith}
+use borrow.Author.Tests.{ne-eqb, le-ltb}
 use lib.Count.{ones}
 use lib.Dec.{eqb, leb}
 use lib.ListN.{length, length-append, List·getD-append}
+use Rattle.bits.specs.Ones.{ones-above}
 use Rattle.slices.specs.Places.{at}
 use Rattle.block.specs.Basis.{before, better, best, apply}
 use Rattle.choice_laws.specs.Choice.{better-no}
 use Rattle.candidates.specs.Light.{light}
-use Rattle.walks.specs.Walk.{walkTo, walk, Walked, push-last}
+use Rattle.walks.specs.Walk.{walkTo, walk, Walked, push-last, ones-light}
 use Rattle.choosing.specs.Steps.{candidateBy}
 
 -- of c 0 .. c (m - 1) that pass, the one that stands before the others; 0 where none passes
@@ -75,14 +78,45 @@ candidate-by s n k w t h = go (leb 1 (ones t)) (leb (ones t) w) h
     go true false e = absurd (false≢true e)
     go false b e = absurd (false≢true e)
 
--- b, of value y, is the best of c 0 .. c (i - 1); where it is 0 there is none, and y says nothing
+-- b, of value y, is the best of c 0 .. c (i - 1); where it is 0 there is none, and y is 0
 pub record Leads (v : ℕ → ℕ) (ok : ℕ → Bool) (c : ℕ → ℕ) (i b y : ℕ) : Type 0 where
   pub number : b ≡ bestOf (before v) ok c i
   pub value : (b ≡ 0 → ⊥) → y ≡ v b
+  pub none : b ≡ 0 → y ≡ 0
 
 pub leads-none : (v : ℕ → ℕ) (ok : ℕ → Bool) (c : ℕ → ℕ) → Leads v ok c 0 0 0
 unfolding bestOf
-leads-none v ok c = record { number = refl; value = λ n. absurd (n refl) }
+leads-none v ok c = record { number = refl; value = λ n. absurd (n refl); none = λ e. refl }
+
+-- a number of a smaller value than the best so far does not take its place
+smaller-left : (v : ℕ → ℕ) (ok : ℕ → Bool) (c : ℕ → ℕ) (i b y : ℕ) → Leads v ok c i b y → v (c i) < y → Leads v ok c (suc i) b y
+unfolding bestOf better before
+smaller-left v ok c i b y p h =
+    record { number = p .number ∙ sym kept; value = p .value; none = p .none }
+  where
+    some : b ≡ 0 → ⊥
+    some e = omega (arith, p .none e)
+
+    less : v (c i) < v b
+    less = omega (arith, p .value some)
+
+    passed : (q : Bool) → q && false ≡ false
+    passed true = refl
+    passed false = refl
+
+    kept : bestOf (before v) ok c (suc i) ≡ bestOf (before v) ok c i
+    kept =
+        ap (λ (d : ℕ). better (before v) ok d (c i)) (sym (p .number))
+        ∙ ap (λ (q : Bool). cond (ok (c i) && q) (c i) b)
+        (rw (ne-eqb b 0 some, le-ltb (v b) (v (c i)) (omega (arith, less)), ne-eqb (v (c i)) (v b) (λ e. omega (arith, less))))
+        ∙ ap (λ (q : Bool). cond q (c i) b) (passed (ok (c i)))
+        ∙ p .number
+
+-- nor do several
+pub leads-past : (v : ℕ → ℕ) (ok : ℕ → Bool) (c : ℕ → ℕ) (i r b y : ℕ) → i ≤ r → ((j : ℕ) → i ≤ j → j < r → v (c j) < y)
+    → Leads v ok c i b y → Leads v ok c r b y
+leads-past v ok c i r b y h s p =
+    le-ind (λ (m : ℕ). m ≤ r → Leads v ok c m b y) (λ k. p) (λ m k e d. smaller-left v ok c m b y (e (omega arith)) (s m k d)) r h (omega arith)
 
 module _ (v : ℕ → ℕ) (s : ℕ → ℕ) (n k w : ℕ) (c : ℕ → ℕ) (i b y x : ℕ) (p : Leads v (candidateBy s n k w) c i b y)
     (few : light w (c i) ≡ true) (here : x ≡ v (c i)) (r : Bool)
@@ -103,12 +137,15 @@ module _ (v : ℕ → ℕ) (s : ℕ → ℕ) (n k w : ℕ) (c : ℕ → ℕ) (i 
     -- the next number takes the place of the best so far
     pub leads-taken : (d z : ℕ) → r ≡ true → d ≡ c i → z ≡ x → Leads v (candidateBy s n k w) c (i + 1) d z
     leads-taken d z e f g =
-        rw (f, g) (record { number = sym (more ∙ ap (λ (q : Bool). cond q (c i) b) e); value = λ n. here })
+        rw (f, g) (record { number = sym (more ∙ ap (λ (q : Bool). cond q (c i) b) e); value = λ n. here; none = λ z. absurd (some z) })
+      where
+        some : c i ≡ 0 → ⊥
+        some z = omega (arith, ones-above (c i) (ones-light w (c i) few .0))
 
     -- or does not
     pub leads-left : (d z : ℕ) → r ≡ false → d ≡ b → z ≡ y → Leads v (candidateBy s n k w) c (i + 1) d z
     leads-left d z e f g =
-        rw (f, g) (record { number = sym (more ∙ ap (λ (q : Bool). cond q (c i) b) e); value = p .value })
+        rw (f, g) (record { number = sym (more ∙ ap (λ (q : Bool). cond q (c i) b) e); value = p .value; none = p .none })
 
 -- the best of the walk is the best candidate of all
 pub leads-all : (v s : ℕ → ℕ) (n k w : ℕ) (l : List ℕ) (count b y : ℕ) → Walked n w l count

@@ -11,7 +11,8 @@ ghost use Rattle.matrix_laws.specs.Reach.{reachRows};
 ghost use Rattle.walks.specs.Walk.{Walked, valueAt};
 ghost use Rattle.choosing.specs.Steps.{candidateBy, ChosenBasis};
 
-// The candidate that stands before the others, by the walk and the values of its numbers.
+// The candidate that stands before the others, by the walk and the values of its numbers. Numbers of a smaller value than that of the best so
+// far are passed over.
 pub fn choose(
     walk: &[u32],
     values: &[u32],
@@ -35,7 +36,7 @@ pub fn choose(
             b = t;
             top = value;
         }
-        place += 1;
+        place = walks::next_place(values, place + 1, count, top);
     }
     b
 }

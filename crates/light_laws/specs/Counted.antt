@@ -37,7 +37,7 @@ choices d zero = 1
 choices zero (suc top) = 1
 choices (suc d) (suc top) = choices (suc d) top + choices d top
 
-choices-flat : (top : ℕ) → choices 0 top ≡ 1
+pub choices-flat : (top : ℕ) → choices 0 top ≡ 1
 unfolding choices
 choices-flat zero = refl
 choices-flat (suc top) = refl
@@ -47,9 +47,17 @@ unfolding choices
 choices-step zero m = omega (arith, choices-flat m)
 choices-step (suc d) m = omega arith
 
-choices-mono : (d a b : ℕ) → a ≤ b → choices d a ≤ choices d b
+pub choices-mono : (d a b : ℕ) → a ≤ b → choices d a ≤ choices d b
 choices-mono d a b h =
     le-ind (λ (m : ℕ). choices d a ≤ choices d m) (omega arith) (λ m k e. omega (arith, choices-step d m)) b h
+
+pub choices-more : (d e top : ℕ) → d ≤ e → choices d top ≤ choices e top
+unfolding choices
+choices-more d e zero h = omega arith
+choices-more zero zero (suc top) h = omega arith
+choices-more zero (suc e) (suc top) h = omega (arith, choices-more zero (suc e) top h, choices-flat top)
+choices-more (suc d) zero (suc top) h = absurd (omega arith)
+choices-more (suc d) (suc e) (suc top) h = omega (arith, choices-more (suc d) (suc e) top h, choices-more d e top (omega arith))
 
 -- no more ways than choices
 pub ways-le : (d : ℕ) (ps : List ℕ) (top b t : ℕ) → ways d ps top b t ≤ choices d top

@@ -1,6 +1,8 @@
 // T, sigma and both measures of a list of rows, where a missing point has the word `missing`: R of every number in the walk, the quicker way,
 // and the choice. Every function here is inner.
 use block::LIST_POINTS;
+use candidate_list::PRINTED_LIMIT;
+use candidate_list::PRINTED_NUMBERS;
 use choosing::Measures;
 ghost use mathlib.Core.Path.{_≡_};
 ghost use mathlib.Core.Bool.{true};
@@ -90,7 +92,8 @@ fn find_basis_in(
 }
 
 // T, sigma and both measures of a list of disjoint rows. Room is cleared at each call, which takes longer than the work of a short list if
-// it is room for every number below 2^16; and with few inputs, or with a weight limit of 3, the program's, few numbers are in the walk.
+// it is room for every number below 2^16; and with few inputs, or with a weight limit of 3, the program's, few numbers are in the walk: with
+// such a limit those of the printed list.
 pub fn find_basis(
     n: usize,
     w: usize,
@@ -122,9 +125,9 @@ pub fn find_basis(
             sigma,
         );
     }
-    if w <= 3 {
-        let mut few_candidates = [0u32; 698];
-        let mut few_shifts = [0u32; 698];
+    if w <= PRINTED_LIMIT {
+        let mut few_candidates = [0u32; PRINTED_NUMBERS];
+        let mut few_shifts = [0u32; PRINTED_NUMBERS + 1];
         return find_basis_in(
             n,
             w,

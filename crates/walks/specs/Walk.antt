@@ -2,25 +2,25 @@
 -- number by its place in the walk. Not here: the search over the walk (choosing, `Search`). Assumes nothing.
 use mathlib.Core.Path.{_≡_, refl, sym, ap, _∙_}
 use mathlib.Core.Bool.{Bool, true, false, cond, false≢true}
-use mathlib.Core.List.{List, [], _∷_, _++_, map-id}
+use mathlib.Core.List.{List, [], _∷_, _++_}
 use Prim.Native.Nat.{ℕ, zero, suc, _+_, _^_, _≤_, _<_}
 use native.Mathlib.Decide.{decLt}
 use native.Mathlib.Nat.{add-zero}
 use native.Mathlib.Numerals.{add-one}
 use native.Mathlib.Omega.{arith}
-use borrow.Author.Tests.{eq-eqb, ne-eqb, eqb-true, le-leb}
+use borrow.Author.Tests.{eq-eqb, ne-eqb, eqb-true, leb-true, le-leb}
 use lib.Count.{ones}
-use lib.Dec.{eqb}
-use lib.ListN.{length, drop, set, length-set, length-append, List·getD-append}
+use lib.Dec.{eqb, leb}
+use lib.ListN.{length, drop, length-append, List·getD-append}
 use lib.Pow.{pow-pos}
 use lib.Seq.{getD-append-add}
 use Rattle.slices.specs.Places.{at, tab, first, over}
-use Rattle.slices.specs.Filled.{over-at, over-push}
+use Rattle.slices.specs.Filled.{over-at}
 use Rattle.slices.specs.Least.{first-is, first-found, first-passes}
+use Rattle.slices.specs.Tests.{and-both}
 use Rattle.sums.specs.Laws.{below-suc}
 use Rattle.choice_laws.specs.Chosen.{Agree}
 use Rattle.candidates.specs.Light.{light}
-use Rattle.candidates.specs.Stride.{Skips}
 
 -- the numbers below m with 1 to w one-bits, in ascending order
 unfoldable pub walkTo : ℕ → ℕ → List ℕ
@@ -47,6 +47,12 @@ valueAt l values count t = at values (first count (λ i. eqb (at l i) t))
 light-ones : (w t : ℕ) → 1 ≤ ones t → ones t ≤ w → light w t ≡ true
 unfolding light
 light-ones w t h k = rw (le-leb 1 (ones t) h, le-leb (ones t) w k)
+
+pub ones-light : (w t : ℕ) → light w t ≡ true → (1 ≤ ones t) × (ones t ≤ w)
+unfolding light
+ones-light w t e =
+    let both = and-both (leb 1 (ones t)) (leb (ones t) w) e in
+    (leb-true 1 (ones t) (both .0), leb-true (ones t) w (both .1))
 
 -- what holds at each place of a list, and at one place more
 push-all : (P : ℕ → ℕ → Type 0) (l : List ℕ) (x : ℕ) → ((i : ℕ) → i < length l → P i (at l i)) → P (length l) x
@@ -127,7 +133,11 @@ walk-short w (suc m) = go (light w (suc m)) (walk-short w m)
 
 -- ---- the walk as a loop lays it out
 
-walk-taken : (w m : ℕ) → light w m ≡ true → walkTo w (m + 1) ≡ walkTo w m ++ (m ∷ [])
+pub walk-none : (w : ℕ) → walkTo w 0 ≡ []
+unfolding walkTo
+walk-none w = refl
+
+pub walk-taken : (w m : ℕ) → light w m ≡ true → walkTo w (m + 1) ≡ walkTo w m ++ (m ∷ [])
 unfolding walkTo
 walk-taken w m h = rw (add-one m, h)
 
@@ -135,54 +145,17 @@ walk-left : (w m : ℕ) → light w m ≡ false → walkTo w (m + 1) ≡ walkTo 
 unfolding walkTo
 walk-left w m h = rw (add-one m, h)
 
--- the walk below t lies at the front of a lent list l, which is now m, and `count` is its length
-pub record Laid (w t : ℕ) (l m : List ℕ) (count : ℕ) : Type 0 where
-  pub size : length m ≡ length l
-  pub counted : count ≡ length (walkTo w t)
-  pub fits : count ≤ t
-  pub holds : m ≡ over (walkTo w t) l
-
-pub laid-none : (w : ℕ) (l : List ℕ) → Laid w 0 l l 0
-unfolding walkTo
-laid-none w l = record { size = refl; counted = refl; fits = omega arith; holds = refl }
-
-pub laid-taken : (w t : ℕ) (l m k : List ℕ) (count r : ℕ) → Laid w t l m count → light w t ≡ true → count < length l → k ≡ set m count t
-    → r ≡ count + 1 → Laid w (t + 1) l k r
-laid-taken w t l m k count r s h b f g =
-    let e = s .counted in
-    record {
-      size = ap length f ∙ length-set m count t ∙ s .size;
-      counted = rw (walk-taken w t h, length-append (walkTo w t) (t ∷ [])) (omega arith);
-      fits = omega (arith, s .fits);
-      holds =
-          f
-          ∙ rw (walk-taken w t h, s .holds, e)
-          (rw (map-id (walkTo w t), map-id (walkTo w t ++ (t ∷ []))) at (over-push (λ (x : ℕ). x) (walkTo w t) t l (omega (arith, s .fits))));
-    }
-
 -- numbers that are passed over
-pub laid-past : (w t r : ℕ) (l m k : List ℕ) (count c t′ : ℕ) → Laid w t l m count → Skips w t r → k ≡ m → c ≡ count → t′ ≡ t + r
-    → Laid w t′ l k c
-laid-past w t r l m k count c t′ s h f g e =
-    let same : walkTo w (t + r) ≡ walkTo w t = past r (λ i b. h .none i b) in
-    rw e
-    (record {
-      size = ap length f ∙ s .size;
-      counted = g ∙ rw same (s .counted);
-      fits = omega (arith, s .fits);
-      holds = f ∙ rw same (s .holds);
-    })
-  where
-    past : (r : ℕ) → ((i : ℕ) → i < r → light w (t + i) ≡ false) → walkTo w (t + r) ≡ walkTo w t
-    past zero h = ap (walkTo w) (add-zero t)
-    past (suc r) h =
-        let e : t + suc r ≡ t + r + 1 = omega arith in
-        ap (walkTo w) e ∙ walk-left w (t + r) (h r (omega arith)) ∙ past r (λ i b. h i (omega arith))
+pub walk-past : (w t r : ℕ) → ((i : ℕ) → i < r → light w (t + i) ≡ false) → walkTo w (t + r) ≡ walkTo w t
+walk-past w t zero h = ap (walkTo w) (add-zero t)
+walk-past w t (suc r) h =
+    let e : t + suc r ≡ t + r + 1 = omega arith in
+    ap (walkTo w) e ∙ walk-left w (t + r) (h r (omega arith)) ∙ walk-past w t r (λ i b. h i (omega arith))
 
 -- a number of the walk has a place below its end
-pub laid-room : (n w t : ℕ) (l m : List ℕ) (count : ℕ) → Laid w t l m count → light w t ≡ true → t < 2 ^ n → count < length (walk n w)
+pub walk-room : (n w t : ℕ) → light w t ≡ true → t < 2 ^ n → length (walkTo w t) < length (walk n w)
 unfolding walk
-laid-room n w t l m count s h b = omega (arith, s .counted, walks w (2 ^ n) .held t b h .0)
+walk-room n w t h b = walks w (2 ^ n) .held t b h .0
 
 -- the walk leaves at least one number out: 0
 pub walk-below : (n w : ℕ) → length (walk n w) < 2 ^ n
@@ -221,13 +194,14 @@ module _ (n w : ℕ) (l : List ℕ) (count : ℕ) (s : Walked n w l count) where
   unfolding walk
   walked-light i h = rw (s .each i h) (walks w (2 ^ n) .few i (here i h))
 
-  place : (i : ℕ) → i < count → length (walkTo w (at l i)) ≡ i
+  -- each at the place that is the number of those before it
+  pub walked-place : (i : ℕ) → i < count → length (walkTo w (at l i)) ≡ i
   unfolding walk
-  place i h = rw (s .each i h) (walks w (2 ^ n) .place i (here i h))
+  walked-place i h = rw (s .each i h) (walks w (2 ^ n) .place i (here i h))
 
   -- no number stands there twice
   walked-once : (i j : ℕ) → i < count → j < count → at l i ≡ at l j → i ≡ j
-  walked-once i j h k e = sym (place i h) ∙ ap (λ (t : ℕ). length (walkTo w t)) e ∙ place j k
+  walked-once i j h k e = sym (walked-place i h) ∙ ap (λ (t : ℕ). length (walkTo w t)) e ∙ walked-place j k
 
   -- the value of the number at a place is the value there
   pub value-here : (values : List ℕ) (i : ℕ) → i < count → valueAt l values count (at l i) ≡ at values i

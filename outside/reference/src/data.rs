@@ -322,7 +322,7 @@ pub fn check_operations<O: Operations>() {
         ("type_lists.txt", 106),
         ("type_tables.txt", 80),
         ("type_texts.txt", 102),
-        ("ranges.txt", 166),
+        ("ranges.txt", 176),
     ] {
         let path = from_here("../../crates/run_operations/data").join(name);
         let text = fs::read_to_string(path).unwrap();

@@ -2,6 +2,7 @@
 //! the baseline for timing. Answers and refusals are those of the other
 //! modules, and so are the checks and the texts.
 //!
+//! The candidates of a small weight limit come from a printed list (02, Ticket 3).
 //! R is worked out once for every candidate: over a table by counting each pair
 //! of points once, over rows from the list of the cubes of t that pairs of rows
 //! of one word add to (document 003, Theorem 1). Where missing points have a word
@@ -13,12 +14,48 @@ use crate::list::{answer_method, check_fill, check_value, Found};
 use crate::matrix::highest;
 use crate::table::{check_method, check_restore};
 use crate::{
-    matrix, missing, sheet as texts, Answer, List, Measures, Refusal, Room, Row, Smaller,
+    missing, sheet as texts, Answer, List, Measures, Refusal, Room, Row, Smaller,
     NO_OUTPUT, SMALLER_ROWS,
 };
+use std::iter::once;
 
 pub use crate::table::table_value;
 pub use crate::text::{read_text, write_text};
+
+/// The numbers below 2^16 with one to three one-bits, smallest first (02,
+/// Ticket 3).
+static PRINTED: [u32; 696] = printed();
+
+/// The most one-bits of a number in the list.
+const PRINTED_LIMIT: usize = 3;
+
+/// The list, made by the compiler.
+const fn printed() -> [u32; 696] {
+    let mut list = [0; 696];
+    let mut count = 0;
+    let mut t = 1u32;
+    while count < list.len() {
+        if t.count_ones() as usize <= PRINTED_LIMIT {
+            list[count] = t;
+            count += 1;
+        }
+        t += 1;
+    }
+    list
+}
+
+/// The candidates before any is chosen, smallest first: those of the printed list
+/// where that has them all.
+pub fn candidates(n: usize, w: usize) -> impl Iterator<Item = u32> {
+    let end = 1u32 << n;
+    let (listed, others) = if w <= PRINTED_LIMIT {
+        (&PRINTED[..PRINTED.partition_point(|&t| t < end)], 0..0)
+    } else {
+        (&PRINTED[..0], 1..end)
+    };
+    let numbers = listed.iter().copied().chain(others);
+    numbers.filter(move |t| t.count_ones() as usize <= w)
+}
 
 /// The span of the numbers put in, in echelon form.
 #[derive(Default)]
@@ -139,7 +176,7 @@ pub fn table_method(
             _ => u32::from(word),
         })
         .collect();
-    let candidates: Vec<(u32, u64)> = matrix::candidates(n, w)
+    let candidates: Vec<(u32, u64)> = candidates(n, w)
         .map(|t| (t, 2 * equal_pairs(&words, t)))
         .collect();
     let chosen = basis(n, &candidates);
@@ -310,14 +347,12 @@ impl Points {
     /// with at most w one-bits.
     fn pairs(&self, n: usize, w: usize) -> Vec<u64> {
         let mut counts = vec![0; 1 << n];
-        let within = |t: usize| t.count_ones() as usize <= w;
-        for low in (0..1usize << n.min(6)).filter(|&low| within(low)) {
+        for low in (0..1usize << n.min(6)).filter(|low| low.count_ones() as usize <= w) {
             let moved = self.moved(low);
-            for high in 0..1 << n.saturating_sub(6) {
-                let t = high << 6 | low;
-                if within(t) {
-                    counts[t] = self.pairs_with(&moved, high);
-                }
+            let left = w - low.count_ones() as usize;
+            for high in once(0).chain(candidates(n.saturating_sub(6), left)) {
+                let high = high as usize;
+                counts[high << 6 | low] = self.pairs_with(&moved, high);
             }
         }
         counts
@@ -452,7 +487,7 @@ pub fn row_method(
 /// have a word, the pairs of points that are not set are worked out from pairs of
 /// set rows, as for a single value, where these are few; else they are counted.
 fn shifts(n: usize, block_type: usize, w: usize, rows: &[Row]) -> Vec<(u32, u64)> {
-    let candidates = matrix::candidates(n, w);
+    let candidates = candidates(n, w);
     let set = set_rows(block_type, rows);
     let covered = points(n, &set);
     if !have_word(block_type) {

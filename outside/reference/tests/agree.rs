@@ -2,7 +2,7 @@
 //! both forms of rows, and the demands that hold between operations.
 
 use reference::inputs::{self, Case, LentRows, Random};
-use reference::{Fast, Operations, Plain, Row, FD, FR};
+use reference::{fast, matrix, Fast, Operations, Plain, Row, FD, FR};
 use std::collections::BTreeMap;
 
 /// How many seeds the cases below are drawn from.
@@ -62,6 +62,18 @@ fn plain_and_fast_give_the_same_and_refusals_change_nothing() {
         }
         let may = |number: &u32| numbers.contains(number) || (name == "Program" && *number == 9);
         assert!(met.iter().all(may), "{name}: {met:?}");
+    }
+}
+
+/// The candidates from the printed list are those that 01 names, in their order.
+#[test]
+fn the_printed_list_has_the_candidates() {
+    for n in 1..=16 {
+        for w in 1..=n {
+            let listed: Vec<u32> = fast::candidates(n, w).collect();
+            let due: Vec<u32> = matrix::candidates(n, w).collect();
+            assert!(listed == due, "{n} inputs, weight limit {w}");
+        }
     }
 }
 

@@ -1,14 +1,14 @@
 -- `choosing::choose` meets its contract. The loop's invariant: b, of value top, is the best of the numbers before this place of the
--- walk. The measure is what is left. Assumes nothing.
+-- walk, and those passed over have smaller values than it. The measure is what is left. Assumes nothing.
 use mathlib.Core.Path.{_≡_, sym}
 use mathlib.Core.Logic.{⊎-elim}
-use Prim.Native.Nat.{_≤_, _-_}
+use Prim.Native.Nat.{_≤_, _+_, _-_}
 use native.Mathlib.Omega.{arith}
 use denote.Ref.{now}
 use Rattle.slices.specs.Places.{at}
 use Rattle.walks.specs.Walk.{valueAt, walked-light, value-here}
 use Rattle.choosing.specs.Steps.{candidateBy}
-use Rattle.choosing.specs.Search.{Leads, leads-none, leads-taken, leads-left, leads-all}
+use Rattle.choosing.specs.Search.{Leads, leads-none, leads-taken, leads-left, leads-past, leads-all}
 use borrow.Author.Needs.{needs}
 use Rattle.choosing.proofs.choose.Statement.{statement}
 use Rattle.choosing.proofs.choose.Tie as tie
@@ -37,26 +37,38 @@ shared-slice-read-value c = search needs
 is-better-requires : tie.Need-is-better-requires Inv-loop μ-loop
 is-better-requires c κs = search needs
 
-add-place : tie.Need-add-place Inv-loop μ-loop
-add-place c = search needs
+add-next-place : tie.Need-add-next-place Inv-loop μ-loop
+add-next-place c = search needs
+
+next-place-requires : tie.Need-next-place-requires Inv-loop μ-loop
+next-place-requires c κs = search needs
 
 loop-less : tie.Need-loop-less Inv-loop μ-loop
 loop-less c = search needs
 
 loop-again : tie.Need-loop-again Inv-loop μ-loop
 loop-again c =
-    let s = c .before .before .before .before .before .before .before .before .before in
+    let j = c .before in
+    let s = j .before .before .before .before .before .before .before .before .before in
     let a = s .args in
-    let p = c .before .before .before .before .before .loop in
+    let p = j .before .before .before .before .before .loop in
     let l = now (a .walk) in
     let v = valueAt l (now (a .values)) (a .count) in
     let few = walked-light (a .n) (a .w) l (a .count) (s .pre .1) (p .place) (omega arith) in
-    let here = sym (value-here (a .n) (a .w) l (a .count) (s .pre .1) (now (a .values)) (p .place) (omega arith)) in (
-      search needs,
-      ⊎-elim
-          (λ d. leads-taken v (at (now (a .s))) (a .n) (a .k) (a .w) (at l) (p .place) (p .b) (p .top) _ (p .inv .1) few here _ (c .before .is-better .ensures) _ _ (d .0 .taken) (d .1) (d .2))
-          (λ d. leads-left v (at (now (a .s))) (a .n) (a .k) (a .w) (at l) (p .place) (p .b) (p .top) _ (p .inv .1) few here _ (c .before .is-better .ensures) _ _ (d .0 .left) (d .1) (d .2))
-          (c .if1 .came),
+    let here = sym (value-here (a .n) (a .w) l (a .count) (s .pre .1) (now (a .values)) (p .place) (omega arith)) in
+    let next = c .next-place .ensures in (
+      next .within,
+      leads-past v (candidateBy (at (now (a .s))) (a .n) (a .k) (a .w)) (at l) (p .place + 1) _ _ _ (next .later)
+          (λ i from b.
+          omega (
+            arith,
+            value-here (a .n) (a .w) l (a .count) (s .pre .1) (now (a .values)) i (omega (arith, next .within)),
+            next .smaller i from b,
+          ))
+          (⊎-elim
+          (λ d. leads-taken v (at (now (a .s))) (a .n) (a .k) (a .w) (at l) (p .place) (p .b) (p .top) _ (p .inv .1) few here _ (j .before .is-better .ensures) _ _ (d .0 .taken) (d .1) (d .2))
+          (λ d. leads-left v (at (now (a .s))) (a .n) (a .k) (a .w) (at l) (p .place) (p .b) (p .top) _ (p .inv .1) few here _ (j .before .is-better .ensures) _ _ (d .0 .left) (d .1) (d .2))
+          (j .if1 .came)),
     )
 
 returns : tie.Need-returns Inv-loop μ-loop
@@ -80,7 +92,8 @@ choose-spec =
     mul-value
     shared-slice-read-value
     is-better-requires
-    add-place
+    add-next-place
+    next-place-requires
     loop-less
     loop-again
     returns)

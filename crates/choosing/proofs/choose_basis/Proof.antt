@@ -8,6 +8,7 @@ use Rattle.slices.specs.Filled.{over-over}
 use Rattle.choice_laws.specs.Chosen.{pick}
 use Rattle.matrix_laws.specs.Reach.{reachRows}
 use Rattle.walks.specs.Walk.{valueAt}
+use Rattle.walks.specs.Ascending.{walked-ascending}
 use Rattle.choosing.specs.Steps.{sum-held}
 use borrow.Author.Needs.{needs}
 use Rattle.choosing.proofs.choose_basis.Statement.{statement}
@@ -17,13 +18,20 @@ put-units-requires : tie.Need-put-units-requires
 put-units-requires c κs = search needs
 
 sum-of-requires : tie.Need-sum-of-requires
-sum-of-requires c κs = search needs
+sum-of-requires c κs =
+    let units = c .before .before .before in
+    let s = units .before .before .before .before .before .before in
+    (search needs, search needs, search needs, search needs, walked-ascending _ _ _ _ (s .pre .1))
 
 choose-all-requires : tie.Need-choose-all-requires
 choose-all-requires c κs = search needs
 
 sum-of-requires-2 : tie.Need-sum-of-requires-2
-sum-of-requires-2 c κs = search needs
+sum-of-requires-2 c κs =
+    let chosen = c .before .before .before .before .before in
+    let units = chosen .before .before .before .before .before .before .before in
+    let s = units .before .before .before .before .before .before in
+    (search needs, search needs, search needs, search needs, walked-ascending _ _ _ _ (s .pre .1))
 
 same-length : tie.Need-same-length
 same-length c = search needs

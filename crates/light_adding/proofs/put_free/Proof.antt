@@ -5,13 +5,15 @@ use mathlib.Core.Path.{_≡_, sym, _∙_}
 use mathlib.Core.Logic.{⊎-elim}
 use native.Mathlib.Omega.{arith}
 use lib.ListN.{length}
-use Rattle.light_adding.specs.Front.{Put, put-none, put-free, put-fixed, put-room}
+use Rattle.slices.specs.Laid.{Laid}
+use Rattle.light_laws.specs.Ways.{frees}
+use Rattle.light_adding.specs.Front.{put-none, put-free, put-fixed, put-room}
 use borrow.Author.Needs.{needs}
 use Rattle.light_adding.proofs.put_free.Statement.{statement}
 use Rattle.light_adding.proofs.put_free.Tie as tie
 
 abbrev Inv-loop : tie.InvT-loop
-Inv-loop n mask out₀ count₀ i₀ out count i = (i ≤ n) × Put mask i count out₀ out
+Inv-loop n mask out₀ count₀ i₀ out count i = (i ≤ n) × Laid (frees mask i) out₀ out count
 
 abbrev μ-loop : tie.MeasureT-loop
 μ-loop n mask out₀ count₀ i₀ out count i = n - i
@@ -20,7 +22,7 @@ abbrev μ-loop : tie.MeasureT-loop
 below : (c : tie.After-power Inv-loop μ-loop) → c .before .before .before .before .loop .count < length (c .before .before .before .before .loop .out)
 below c =
     let o = c .before .before .before .before in
-    omega (arith, o .loop .inv .1 .2, put-room _ _ _ _ _ (o .loop .inv .1), o .before .before .pre .1)
+    omega (arith, o .loop .inv .1 .size, put-room _ _ _ _ _ (o .loop .inv .1), o .before .before .pre .1)
 
 loop-holds : tie.Need-loop-holds Inv-loop μ-loop
 loop-holds c = (search needs, put-none _ _)
@@ -64,7 +66,7 @@ returns : tie.Need-returns Inv-loop μ-loop
 returns c =
     let end : c .before .loop .i ≡ c .before .before .before .args .n = omega arith in
     let p = rw end at (c .before .loop .inv .1) in
-    (p .0, p .1)
+    (p .counted, p .holds)
 
 pub put-free-spec : {M : Type 1} → statement M
 put-free-spec =

@@ -1,27 +1,14 @@
 -- `row_basis::find_basis_in` meets its contract: the values by the places of the walk agree with R where the rule asks for it. Assumes
 -- nothing.
-use mathlib.Core.Path.{_≡_}
-use mathlib.Core.Bool.{true}
-use Prim.Native.Nat.{ℕ, _≤_}
 use native.Mathlib.Omega.{arith}
-use borrow.Author.Tests.{leb-true}
 use denote.Ref.{now}
-use lib.Count.{ones}
-use lib.Dec.{leb}
-use Rattle.slices.specs.Tests.{and-both}
 use Rattle.block.specs.Words.{ofRows, rowsOf}
 use Rattle.block.specs.Measure.{shift}
-use Rattle.candidates.specs.Light.{light}
-use Rattle.walks.specs.Walk.{walked, walked-lt, walked-light, value-agree}
+use Rattle.walks.specs.Walk.{ones-light, walked, walked-lt, walked-light, value-agree}
 use Rattle.choosing.specs.Found.{found}
 use borrow.Author.Needs.{needs}
 use Rattle.row_basis.proofs.find_basis_in.Statement.{statement}
 use Rattle.row_basis.proofs.find_basis_in.Tie as tie
-
--- a number of the walk has at most w one-bits
-few : (w t : ℕ) → light w t ≡ true → ones t ≤ w
-unfolding light
-few w t e = leb-true (ones t) w (and-both (leb 1 (ones t)) (leb (ones t) w) e .1)
 
 put-walk-requires : tie.Need-put-walk-requires
 put-walk-requires c κs = search needs
@@ -39,7 +26,7 @@ shifts-of-requires c κs =
         start .pre .1 .1 .1,
         (
           (omega (arith, walk .ensures .1, walk .kept .1 .1 .0, room .0), omega (arith, walk .ensures .1, room .1), walked-lt _ _ _ _ h),
-          λ i b. few (a .w) _ (walked-light _ _ _ _ h i b),
+          λ i b. ones-light (a .w) _ (walked-light _ _ _ _ h i b) .1,
         ),
       ),
     )

@@ -1,124 +1,61 @@
--- `walks::put_walk` meets its contract. The loop's invariant: the walk below t lies at the front, and the rest holds what it held; of
--- the numbers that are passed over none is of the walk.
--- The measure is what is left. Assumes nothing.
-use mathlib.Core.Path.{_≡_, refl, sym, _∙_}
-use mathlib.Core.Bool.{true}
-use Prim.Native.Nat.{_≤_, _<_, _+_, _-_, _^_}
+-- `walks::put_walk` meets its contract: the printed list follows its rule, so that, cut and without the heavier numbers, it is the walk.
+-- Assumes nothing.
+use mathlib.Core.Path.{_≡_}
 use native.Mathlib.Omega.{arith}
-use lib.ListN.{length}
-use lib.Pow.{pow-mono}
-use Rattle.candidates.specs.Light.{light}
-use Rattle.walks.specs.Walk.{walk, Laid, laid-none, laid-room, laid-taken, laid-past}
+use Rattle.block.specs.Limits.{listInputs}
+use Rattle.candidate_list.specs.Printed.{printedLimit}
+use Rattle.walks.specs.Walk.{walk}
+use Rattle.walks.specs.Printed.{kept, cut, walk-printed}
 use borrow.Author.Needs.{needs}
 use Rattle.walks.proofs.put_walk.Statement.{statement}
 use Rattle.walks.proofs.put_walk.Tie as tie
 
-abbrev Inv-loop : tie.InvT-loop
-Inv-loop n w out₀ size count₀ t₀ out count t = (t ≤ size) × (size ≡ 2 ^ n) × Laid w t out₀ out count
+-- the list's walk is the walk
+listed : (c : tie.After-printed-list)
+    → kept (c .before .before .before .args .w) (c .printed-list .result) (cut (c .before .before .before .args .n) (c .printed-list .result))
+    ≡ walk (c .before .before .before .args .n) (c .before .before .before .args .w)
+listed c =
+    let s = c .before .before .before in
+    walk-printed listInputs printedLimit (s .args .w) (c .printed-list .result) (c .printed-list .ensures) (c .before .if1 .taken) (s .args .n)
+    (s .pre .1)
 
-abbrev μ-loop : tie.MeasureT-loop
-μ-loop n w out₀ size count₀ t₀ out count t = size - t
+printed-list-requires : tie.Need-printed-list-requires
+printed-list-requires c κs = search needs
 
--- a number of the walk has room
-room : (c : tie.Then1 Inv-loop μ-loop) → light (c .before .before .before .before .before .before .args .w) (c .before .before .before .loop .t) ≡ true
-    → c .before .before .before .loop .count < length (walk (c .before .before .before .before .before .before .args .n) (c .before .before .before .before .before .before .args .w))
-room c h = let p = c .before .before .before .loop in laid-room _ _ (p .t) _ _ _ (p .inv .2) h (omega arith)
+slice-aggregate-put-listed : tie.Need-slice-aggregate-put-listed
+slice-aggregate-put-listed c = search needs
 
-size-requires : tie.Need-size-requires Inv-loop μ-loop
-size-requires c κs = search needs
+put-listed-requires : tie.Need-put-listed-requires
+put-listed-requires c κs =
+    let s = c .before .before .before .before .before in
+    (rw (listed (c .before .before)) (s .pre .0), s .pre .1, omega arith)
 
-loop-holds : tie.Need-loop-holds Inv-loop μ-loop
-loop-holds c = (search needs, c .size .ensures, laid-none _ _)
-
-cast-is-light : tie.Need-cast-is-light Inv-loop μ-loop
-cast-is-light c = omega (arith, pow-mono (c .before .before .before .before .pre .1))
-
-is-light-requires : tie.Need-is-light-requires Inv-loop μ-loop
-is-light-requires c κs = search needs
-
-cast-out : tie.Need-cast-out Inv-loop μ-loop
-cast-out c = omega (arith, pow-mono (c .before .before .before .before .before .before .pre .1))
-
-mul-out : tie.Need-mul-out Inv-loop μ-loop
-mul-out c = omega (arith, room c (sym (c .before .is-light .ensures) ∙ c .if1 .taken))
-
-slice-write-out : tie.Need-slice-write-out Inv-loop μ-loop
-slice-write-out c = omega (arith, room c (sym (c .before .is-light .ensures) ∙ c .if1 .taken), c .before .before .before .loop .inv .2 .size)
-
-add-count : tie.Need-add-count Inv-loop μ-loop
-add-count c = search needs
-
-add-t : tie.Need-add-t Inv-loop μ-loop
-add-t c = search needs
-
-loop-less : tie.Need-loop-less Inv-loop μ-loop
-loop-less c = search needs
-
-loop-again : tie.Need-loop-again Inv-loop μ-loop
-loop-again c =
-    let p = c .before .before .before .loop in
-    let taken = sym (c .before .is-light .ensures) ∙ c .if1 .taken in (
-      search needs,
-      search needs,
-      laid-taken _ (p .t) _ _ _ _ _ (p .inv .2) taken (omega (arith, room c taken)) refl refl,
-    )
-
-cast-stride : tie.Need-cast-stride Inv-loop μ-loop
-cast-stride c = omega (arith, pow-mono (c .before .before .before .before .before .before .pre .1))
-
-stride-requires : tie.Need-stride-requires Inv-loop μ-loop
-stride-requires c κs = (search needs, sym (c .before .is-light .ensures) ∙ c .if1 .left)
-
--- where the next number stands
-past : (c : tie.After-stride Inv-loop μ-loop)
-    → c .before .before .before .before .loop .t + c .stride .result ≤ c .before .before .before .before .before .size .result
-past c =
-    let n = c .before .before .before .before .before .before .before .args .n in
-    omega (arith, c .stride .ensures .inside n (omega arith))
-
-add-t-2 : tie.Need-add-t-2 Inv-loop μ-loop
-add-t-2 c = omega (arith, past c, pow-mono (c .before .before .before .before .before .before .before .pre .1))
-
-loop-less-2 : tie.Need-loop-less-2 Inv-loop μ-loop
-loop-less-2 c = omega (arith, c .stride .ensures .some)
-
-loop-again-2 : tie.Need-loop-again-2 Inv-loop μ-loop
-loop-again-2 c =
-    let p = c .before .before .before .before .loop in
-    (past c, search needs, laid-past _ (p .t) _ _ _ _ _ _ _ (p .inv .2) (c .stride .ensures) refl refl refl)
-
-same-length : tie.Need-same-length Inv-loop μ-loop
+same-length : tie.Need-same-length
 same-length c = search needs
 
-returns : tie.Need-returns Inv-loop μ-loop
-unfolding walk
+returns : tie.Need-returns
 returns c =
-    let p = c .before .loop in
-    let end : p .t ≡ 2 ^ c .before .before .before .before .args .n = omega arith in
-    let all = rw end at (p .inv .2) in
-    (all .holds, all .counted)
+    let put = c .before .before in
+    rw (listed (put .before .before .before)) at (put .put-listed .ensures)
+
+make-walk-requires : tie.Need-make-walk-requires
+make-walk-requires c κs = search needs
+
+same-length-2 : tie.Need-same-length-2
+same-length-2 c = search needs
+
+returns-2 : tie.Need-returns-2
+returns-2 c = search needs
 
 pub put-walk-spec : {M : Type 1} → statement M
 put-walk-spec =
     tie.close
     (tie.spec
-    Inv-loop
-    μ-loop
-    size-requires
-    loop-holds
-    cast-is-light
-    is-light-requires
-    cast-out
-    mul-out
-    slice-write-out
-    add-count
-    add-t
-    loop-less
-    loop-again
-    cast-stride
-    stride-requires
-    add-t-2
-    loop-less-2
-    loop-again-2
+    printed-list-requires
+    slice-aggregate-put-listed
+    put-listed-requires
     same-length
-    returns)
+    returns
+    make-walk-requires
+    same-length-2
+    returns-2)
