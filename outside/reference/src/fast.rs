@@ -14,8 +14,8 @@ use crate::list::{answer_method, check_fill, check_value, Found};
 use crate::matrix::highest;
 use crate::table::{check_method, check_restore};
 use crate::{
-    missing, sheet as texts, Answer, List, Measures, Refusal, Room, Row, Smaller,
-    NO_OUTPUT, SMALLER_ROWS,
+    missing, sheet as texts, Answer, List, Measures, Refusal, Room, Row, Smaller, NO_OUTPUT,
+    SMALLER_ROWS,
 };
 use std::iter::once;
 
