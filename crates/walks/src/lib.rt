@@ -70,7 +70,8 @@ pub fn put_walk(n: usize, w: usize, out: &mut [u32]) -> usize
     make_walk(n, w, out)
 }
 
-// The first place from `from` on whose value is not below `top`, or the end: what lies before it can't stand before a number of that value.
+// A place from `from` on, or the end, before which every value is below `top`: the numbers there can't stand before one of that value. Which
+// such place it is, is for speed alone.
 pub fn next_place(values: &[u32], from: usize, count: usize, top: u32) -> usize
     requires { ⌜ (from ≤ count) × (count ≤ length (now values)) ⌝ }
     ensures { λ r. ⌜ NextPlace (now (values .entry)) from count top r ⌝ }
