@@ -10,3 +10,6 @@ pub mod Lists
 pub mod Text
 pub mod Sheet
 pub mod Said
+pub mod Covers
+pub mod Model
+pub mod ModelRead

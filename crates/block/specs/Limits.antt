@@ -36,6 +36,13 @@ abbrev pub sheetRoom : ℕ
 sheetRoom =
     8 + (7 + 3 * 3) + (10 + 2 * 8) + 2 * (9 + listInputs * (listInputs + 1)) + (10 + smallerRows * rowBytes listInputs outputs)
 
+-- room for any model (02, Ticket 4): ".model block"; ".inputs" and ".outputs" with names of at most three bytes; n covers or fewer a row of
+-- sigma, of at most 36 bytes; for each output ".names" with its names, and its patterns of n symbols and " 1"; ".end"
+abbrev pub modelRoom : ℕ
+modelRoom =
+    13 + (8 + listInputs * 4) + (9 + outputs * 4) + listInputs * (listInputs * 36)
+    + outputs * (11 + listInputs * 4 + smallerRows * (listInputs + 3)) + 5
+
 -- the bytes that the program reads
 abbrev pub readBytes : ℕ
 readBytes = 8192

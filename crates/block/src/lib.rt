@@ -22,6 +22,8 @@ pub const TEXT_ROOM: usize = 4255;
 
 pub const SHEET_ROOM: usize = 17518;
 
+pub const MODEL_ROOM: usize = 156420;
+
 // the bytes that the program reads
 pub const READ_BYTES: usize = 8192;
 
@@ -113,6 +115,24 @@ pub struct ReadAnswer {
     pub block_type: usize,
     pub type_line: usize,
     pub count: usize,
+}
+
+// A pattern of a model's output: the mask of its fixed z, and their values.
+#[repr(C)]
+pub struct Pattern {
+    pub mask: u32,
+    pub values: u32,
+}
+
+// The answer of the reader of models: n, k, and the number of patterns of all outputs.
+#[repr(C)]
+pub struct ModelAnswer {
+    pub number: u32,
+    pub a: usize,
+    pub b: usize,
+    pub n: usize,
+    pub k: usize,
+    pub patterns: usize,
 }
 
 // Why the text reader refuses: the ranges of n, k and rows, the lent room, or a line's form.
