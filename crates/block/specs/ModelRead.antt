@@ -208,8 +208,8 @@ countsIn text = countsOf (patternsSaid (outcomeOf text))
 unfoldable pub patternsIn : List ℕ → List Pattern
 patternsIn text = allOf (patternsSaid (outcomeOf text))
 
--- ---- evaluating a model that was read, at x: 1, 2, 3 (x), 4 (n rows, k counts, and as many patterns as they say), 6 (A 0 a row of the
--- ---- matrix, A 1 a pattern), 8
+-- ---- evaluating a model that was read, at x: 1, 2, 3 (x), 4 (n rows, k counts, and as many patterns as they say), 6 (the matrix
+-- ---- first), 8
 
 -- the patterns that lie in two flat slices; slices of unequal length have none
 unfoldable pub patternsFlat : List ℕ → List ℕ → List Pattern
@@ -239,8 +239,8 @@ modelValueVerdict n k x sigma counts ps =
     verdict (sizeChecks listInputs n k (
     check (not (ltb x (2 ^ n))) 3 0 0
     ∷ check (not (eqb (length sigma) n) || (not (eqb (length counts) k) || not (eqb (total counts) (length ps)))) 4 0 0
-    ∷ malformed 0 (badNumber n) sigma
-    ∷ check (some (length ps) (λ i. badPattern n (patternAt ps i))) 6 1 (first (length ps) (λ i. badPattern n (patternAt ps i)))
+    ∷ malformed 1 (badNumber n) sigma
+    ∷ check (some (length ps) (λ i. badPattern n (patternAt ps i))) 6 0 (first (length ps) (λ i. badPattern n (patternAt ps i)))
     ∷ check (ltb (dependent n (at sigma)) n) 8 (dependent n (at sigma)) 0
     ∷ []))
 
