@@ -23,7 +23,7 @@ use Rattle.slices.specs.Least.{first-is, first-below, first-passes, first-found
 use Rattle.block.specs.Limits.{outputs, smallerRows}
 use Rattle.block.specs.Words.{fr, fd, under}
 use Rattle.block.specs.Basis.{span, columns}
-use Rattle.block.specs.Refusals.{Check, check, outside, typedChecks, badEntry, badNumber, badRow, malformed, rowAt, share, second, sharing, dependent}
+use Rattle.block.specs.Refusals.{Check, check, outside, typedChecks, some, badEntry, badNumber, badRow, malformed, rowAt, share, second, sharing, dependent}
 use Rattle.block.specs.Lists.{badRowCheck, shareCheck, rowsAfter, passing, passingCheck}
 use Rattle.block.specs.declared.Row.{Row}
 use Rattle.matrix_laws.specs.Linear.{columns-none, columns-more, columns-xor, columns-unit}
@@ -176,7 +176,7 @@ strays m v i = eqb (bit v i) 1 && eqb (bit m i) 0
 strays-says : (m v i : ℕ) → Says (strays m v i) ((bit v i ≡ 1) × (bit m i ≡ 0))
 strays-says m v i = and-says (eq-says (bit v i) 1) (eq-says (bit m i) 0)
 
-mask-says : (m v : ℕ) → Says (not (eqb (bitAnd m v) v)) ((i : ℕ) × (bit v i ≡ 1) × (bit m i ≡ 0))
+pub mask-says : (m v : ℕ) → Says (not (eqb (bitAnd m v) v)) ((i : ℕ) × (bit v i ≡ 1) × (bit m i ≡ 0))
 mask-says m v = (λ e. found (ne-says (bitAnd m v) v .0 e), λ w. ne-says (bitAnd m v) v .1 (differs w))
   where
     differs : (i : ℕ) × (bit v i ≡ 1) × (bit m i ≡ 0) → bitAnd m v ≡ v → ⊥
@@ -210,34 +210,27 @@ row-says n k r =
     or-says (ge-says (r .mask) (2 ^ n))
     (or-says (ge-says (r .values) (2 ^ n)) (or-says (ge-says (r .word) (2 ^ k)) (mask-says (r .mask) (r .values))))
 
--- 6 in a list of numbers: A says where it was met, B is the least such index
-pub malformed-decided : (a : ℕ) (bad : ℕ → Bool) (Bad : ℕ → Type 0) (l : List ℕ) → ((x : ℕ) → Says (bad x) (Bad x))
-    → Decides (malformed a bad l) (placed 6 (λ x y. (x ≡ a) × Least (length l) (λ i. Bad (at l i)) y))
-malformed-decided a bad Bad l s =
+-- 6: A says where it was met, B is the least number below m with the fault
+pub least-decided : (a m : ℕ) (bad : ℕ → Bool) (Bad : ℕ → Type 0) → ((i : ℕ) → Says (bad i) (Bad i))
+    → Decides (check (some m bad) 6 a (first m bad)) (placed 6 (λ x y. (x ≡ a) × Least m Bad y))
+least-decided a m bad Bad s =
     record {
       same = refl;
       refuses = λ e. omega arith;
-      sound = λ e. (refl, first-least (length l) _ _ (λ i b. s (at l i)) (ltb-true _ _ e));
-      only =
-          λ x y (u, w).
-          let f = least-first (length l) (λ i. bad (at l i)) (λ i. Bad (at l i)) (λ i b. s (at l i)) y w in
-          (lt-ltb _ _ (f .0), sym u, f .1);
+      sound = λ e. (refl, first-least m bad Bad (λ i b. s i) (ltb-true _ _ e));
+      only = λ x y (u, w). let f = least-first m bad Bad (λ i b. s i) y w in (lt-ltb _ _ (f .0), sym u, f .1);
     }
 
--- 6 in a list of rows
+-- in a list of numbers
+pub malformed-decided : (a : ℕ) (bad : ℕ → Bool) (Bad : ℕ → Type 0) (l : List ℕ) → ((x : ℕ) → Says (bad x) (Bad x))
+    → Decides (malformed a bad l) (placed 6 (λ x y. (x ≡ a) × Least (length l) (λ i. Bad (at l i)) y))
+malformed-decided a bad Bad l s = least-decided a (length l) (λ i. bad (at l i)) (λ i. Bad (at l i)) (λ i. s (at l i))
+
+-- in a list of rows
 pub bad-row-decided : (n k : ℕ) (rs : List Row)
     → Decides (badRowCheck n k rs) (placed 6 (λ x y. (x ≡ 0) × Least (length rs) (λ i. MalformedRow n k (rowAt rs i)) y))
 bad-row-decided n k rs =
-    record {
-      same = refl;
-      refuses = λ e. omega arith;
-      sound = λ e. (refl, first-least (length rs) _ _ (λ i b. row-says n k (rowAt rs i)) (ltb-true _ _ e));
-      only =
-          λ x y (u, w).
-          let f =
-          least-first (length rs) (λ i. badRow n k (rowAt rs i)) (λ i. MalformedRow n k (rowAt rs i)) (λ i b. row-says n k (rowAt rs i)) y w in
-          (lt-ltb _ _ (f .0), sym u, f .1);
-    }
+    least-decided 0 (length rs) (λ i. badRow n k (rowAt rs i)) (λ i. MalformedRow n k (rowAt rs i)) (λ i. row-says n k (rowAt rs i))
 
 -- ---- 7: two rows share a point
 

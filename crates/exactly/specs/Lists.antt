@@ -43,7 +43,7 @@ rowReason n k rs = placed 6 (λ a b. (a ≡ 0) × Least (length rs) (λ i. Malfo
 abbrev pub rowReasons : ℕ → ℕ → List Row → List Reason → List Reason
 rowReasons n k rs rest = rowReason n k rs ∷ placed 7 (FirstPair n rs) ∷ rest
 
-rows-decided : {cs : List Check} {rest : List Reason} (n k : ℕ) (rs : List Row) → Decided cs rest
+pub rows-decided : {cs : List Check} {rest : List Reason} (n k : ℕ) (rs : List Row) → Decided cs rest
     → Decided (rowChecks n k rs ++ cs) (rowReasons n k rs rest)
 rows-decided n k rs d = bad-row-decided n k rs also pair-decided n rs also d
 

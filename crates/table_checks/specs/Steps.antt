@@ -100,8 +100,8 @@ module _ (n k y size : ℕ) (table : List ℕ) (power : n ≤ listInputs → siz
         (λ h. test ∙ ap (λ (p : ℕ). not (eqb (length sigma) n) || not (eqb (length table) p)) (same-size [] h)))
         refl third (λ h. ap (ltb room) (same-size _ h))
 
-    pub restore-inputs : lent .number ≡ 0 → n ≤ tableInputs
-    restore-inputs h = sizes-pass tableInputs n k y _ (zero-too (restore-asked .told) h) .0 .0 .1
+    pub restore-inputs : lent .number ≡ 0 → n ≤ listInputs
+    restore-inputs h = omega (arith, sizes-pass tableInputs n k y _ (zero-too (restore-asked .told) h) .0 .0 .1)
 
     module _ (rows : Answer) (fourth : rows ≡ andThen lent (verdict (malformed 1 (badNumber n) sigma ∷ []))) where
       rows-asked :

@@ -9,7 +9,7 @@ ghost use Prim.Native.Nat.{_≤_};
 ghost use lib.Dec.{eqb};
 ghost use lib.ListN.{length};
 ghost use Rattle.slices.specs.Places.{at, first};
-ghost use Rattle.block.specs.Limits.{tableInputs, outputs};
+ghost use Rattle.block.specs.Limits.{listInputs, outputs};
 ghost use Rattle.block.specs.Words.{missing};
 ghost use Rattle.block.specs.Refusals.{verdict, andThen, badEntry, badNumber, malformed};
 ghost use Rattle.block.specs.Tables.{tableValueVerdict, tableMethodVerdict};
@@ -43,7 +43,7 @@ pub fn first_bad_entry(missing: u32, k: usize, table: &[u16]) -> usize
 
 // Whether a matrix row is not below 2^n.
 pub fn is_bad_number(n: usize, x: u32) -> bool
-    requires { ⌜ n ≤ tableInputs ⌝ }
+    requires { ⌜ n ≤ listInputs ⌝ }
     ensures { λ r. ⌜ r ≡ badNumber n x ⌝ }
 {
     let below = x < bit_work::power(n);
@@ -52,7 +52,7 @@ pub fn is_bad_number(n: usize, x: u32) -> bool
 
 // The least matrix row that is malformed, or the number of rows.
 pub fn first_bad_number(n: usize, rows: &[u32]) -> usize
-    requires { ⌜ n ≤ tableInputs ⌝ }
+    requires { ⌜ n ≤ listInputs ⌝ }
     ensures { λ r. ⌜ r ≡ first (length (now (rows .entry))) (λ i. badNumber n (at (now (rows .entry)) i)) ⌝ }
 {
     let mut i: usize = 0;
@@ -67,7 +67,7 @@ pub fn first_bad_number(n: usize, rows: &[u32]) -> usize
 
 // 6 for a matrix.
 pub fn then_matrix(v: Answer, n: usize, rows: &[u32]) -> Answer
-    requires { ⌜ (v .number ≡ 0 → n ≤ tableInputs) ⌝ }
+    requires { ⌜ (v .number ≡ 0 → n ≤ listInputs) ⌝ }
     ensures { λ r. ⌜ r ≡ andThen v (verdict (malformed 1 (badNumber n) (now (rows .entry)) ∷ [])) ⌝ }
 {
     if v.number != 0 {

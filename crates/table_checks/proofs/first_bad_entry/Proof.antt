@@ -4,6 +4,7 @@ use mathlib.Core.Path.{sym, _∙_}
 use Prim.Native.Nat.{_-_}
 use lib.ListN.{length}
 use native.Mathlib.Omega.{arith}
+use Rattle.slices.specs.Places.{at}
 use Rattle.block.specs.Refusals.{badEntry}
 use Rattle.table_checks.specs.Search.{Searched, search-starts, search-goes-on, search-finds, search-ends}
 use borrow.Author.Needs.{needs}
@@ -11,7 +12,7 @@ use Rattle.table_checks.proofs.first_bad_entry.Statement.{statement}
 use Rattle.table_checks.proofs.first_bad_entry.Tie as tie
 
 abbrev Inv-loop : tie.InvT-loop
-Inv-loop missing k table i₀ i = Searched (badEntry missing k) table i
+Inv-loop missing k table i₀ i = Searched (λ j. badEntry missing k (at table j)) (length table) i
 
 abbrev μ-loop : tie.MeasureT-loop
 μ-loop missing k table i₀ i = length table - i

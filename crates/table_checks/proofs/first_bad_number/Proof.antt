@@ -4,6 +4,7 @@ use mathlib.Core.Path.{sym, _∙_}
 use Prim.Native.Nat.{_-_}
 use lib.ListN.{length}
 use native.Mathlib.Omega.{arith}
+use Rattle.slices.specs.Places.{at}
 use Rattle.block.specs.Refusals.{badNumber}
 use Rattle.table_checks.specs.Search.{Searched, search-starts, search-goes-on, search-finds, search-ends}
 use borrow.Author.Needs.{needs}
@@ -11,7 +12,7 @@ use Rattle.table_checks.proofs.first_bad_number.Statement.{statement}
 use Rattle.table_checks.proofs.first_bad_number.Tie as tie
 
 abbrev Inv-loop : tie.InvT-loop
-Inv-loop n rows i₀ i = Searched (badNumber n) rows i
+Inv-loop n rows i₀ i = Searched (λ j. badNumber n (at rows j)) (length rows) i
 
 abbrev μ-loop : tie.MeasureT-loop
 μ-loop n rows i₀ i = length rows - i
