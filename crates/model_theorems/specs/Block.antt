@@ -1,10 +1,10 @@
 -- The model that is written for a list computes its block (02, Ticket 4: "Evaluating the written model at x gives the block's word there"):
 -- under fd at every point, a missing one being word 0 (`fd-word`), and under fr wherever the block has an output (`fr-word`). The model's
 -- word at x is that of the smaller rows at sigma x, and these are the list. Assumes nothing.
-use mathlib.Core.Path.{_≡_, refl, sym, ap, _∙_}
+use mathlib.Core.Path.{_≡_, refl, sym, _∙_}
 use mathlib.Core.Bool.{Bool, true, false, cond}
 use mathlib.Core.List.{List, [], _∷_}
-use Prim.Native.Nat.{ℕ, _^_, _≤_, _<_}
+use Prim.Native.Nat.{ℕ, _^_, _<_}
 use native.Mathlib.Omega.{arith}
 use borrow.Author.Tests.{eqb-true}
 use lib.Dec.{ltb}
@@ -26,7 +26,7 @@ use Rattle.model_laws.specs.Outputs.{word-driven}
 use Rattle.model_laws.specs.Texts.{rows-word}
 
 -- an answer of 0 after another was 0 before it
-then-zero : (v u : Answer) → andThen v u .number ≡ 0 → v .number ≡ 0
+pub then-zero : (v u : Answer) → andThen v u .number ≡ 0 → v .number ≡ 0
 then-zero v u h = go (answered v) refl h
   where
     go : (b : Bool) → answered v ≡ b → cond b u v .number ≡ 0 → v .number ≡ 0

@@ -3,7 +3,7 @@
 -- word of the text there (`value-read`). Assumes nothing.
 use mathlib.Core.Path.{_≡_, refl, sym, ap, ap₂, _∙_}
 use mathlib.Core.Bool.{Bool, true, false, not}
-use mathlib.Core.List.{List, [], _∷_, _++_, map}
+use mathlib.Core.List.{List, [], _∷_, _++_}
 use Prim.Native.Nat.{ℕ, zero, suc, _+_, _^_, _≤_, _<_}
 use native.Mathlib.Omega.{arith}
 use borrow.Author.Tests.{lt-ltb, le-ltb, ltb-false, eq-eqb}
@@ -111,10 +111,15 @@ module _ (n k y w : ℕ) (rs : List Row) (room : ℕ) (answers : modelVerdict n 
 
 -- ---- a text that is read
 
--- it is what is written for what it says, so no two texts say the same
+-- it is what is written for what it says ..
 pub writes-read : (text : List ℕ) (n k : ℕ) (sigma : List ℕ) (qs : List (List Pattern)) → outcomeOf text ≡ Whole n k sigma qs
     → modelOf n sigma qs ≡ text
 writes-read text n k sigma qs e = written-read text n k sigma qs e .1
+
+-- .. so no two texts say the same
+pub read-once : (s t : List ℕ) (n k : ℕ) (sigma : List ℕ) (qs : List (List Pattern)) → outcomeOf s ≡ Whole n k sigma qs
+    → outcomeOf t ≡ Whole n k sigma qs → s ≡ t
+read-once s t n k sigma qs e f = sym (writes-read s n k sigma qs e) ∙ writes-read t n k sigma qs f
 
 -- ---- evaluating what was read
 

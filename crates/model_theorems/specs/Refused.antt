@@ -1,15 +1,15 @@
 -- The line of a refusal 10 (02, Ticket 4) is the first that leaves the texts that are read: the lines before it begin a text that is read
 -- (`begins`), and with it they begin none (`begins-none`); the same of bytes, a line being one that ends in LF. Assumes nothing.
-use mathlib.Core.Path.{_≡_, refl, sym, ap, ap₂, _∙_}
-use mathlib.Core.Bool.{Bool, true, false, not, cond, _&&_}
+use mathlib.Core.Path.{_≡_, refl, sym, ap, _∙_}
+use mathlib.Core.Bool.{Bool, true, false, cond}
 use mathlib.Core.List.{List, [], _∷_, _++_}
-use Prim.Native.Nat.{ℕ, zero, suc, _≤_, _<_}
+use Prim.Native.Nat.{ℕ, zero, suc, _<_}
 use native.Mathlib.Omega.{arith}
 use lib.Dec.{eqb}
 use lib.ListN.{length, take, drop, take-append-drop}
 use lib.Seq.{take-suc}
 use Rattle.block.specs.Text.{lines, onto, lineAt}
-use Rattle.block.specs.Model.{joined, modelLines, modelCovers}
+use Rattle.block.specs.Model.{joined, modelCovers}
 use Rattle.block.specs.ModelRead.{Outcome, More, Whole, Bad, after, start, goodLines, outcomeOf, isWhole}
 use Rattle.model_laws.specs.WordLines.{isLine, AllLines, lines-all, lines-before, lines-joined, joined-append, joined-lines}
 use Rattle.model_laws.specs.Plain.{model-plain, model-lines}
