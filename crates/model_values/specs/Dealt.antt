@@ -83,7 +83,7 @@ drives-first : (z c : ℕ) (ps : List Pattern) → c ≤ length ps → drives (t
 unfolding drives first
 drives-first z zero ps h = refl
 drives-first z (suc c) [] h = absurd (omega arith)
-drives-first z (suc c) (p ∷ ps) h = go (hits z p)
+drives-first z (suc c) (p ∷ ps) h = go (drives-first z c ps (omega arith)) (hits z p)
   where
     found : ℕ
     found = first c (λ i. hits z (patternAt ps i))
@@ -95,9 +95,9 @@ drives-first z (suc c) (p ∷ ps) h = go (hits z p)
         same true e = sym (lt-ltb (suc found) (suc c) (omega (arith, ltb-true found c e)))
         same false e = sym (le-ltb (suc found) (suc c) (omega (arith, ltb-false found c e)))
 
-    go : (b : Bool) → b || drives (take c ps) z ≡ ltb (cond b 0 (suc found)) (suc c)
-    go true = sym (lt-ltb 0 (suc c) (omega arith))
-    go false = drives-first z c ps (omega arith) ∙ more
+    go : drives (take c ps) z ≡ ltb found c → (b : Bool) → b || drives (take c ps) z ≡ ltb (cond b 0 (suc found)) (suc c)
+    go ih true = sym (lt-ltb 0 (suc c) (omega arith))
+    go ih false = ih ∙ more
 
 -- ---- the word
 
