@@ -75,7 +75,9 @@ module _ (n k y w : ℕ) (rs : List Row) (room : ℕ) (answers : modelVerdict n 
             let l : j < n = omega (arith, length-sigma f n w) in
             (rows-positive n (at itsMatrix) independent j l, sigma-lt f n w hw j l);
         outs = length-tab k (λ j. patternsOf j (smallerList (missing y) n w rs));
-        patterns = rows-sound n k (smallerList (missing y) n w rs) (smaller-disjoint (missing y) n w hw rs (passed .passed .list .disjoint) .sound);
+        patterns =
+            rows-sound n k (smallerList (missing y) n w rs)
+            (smaller-disjoint (missing y) n w hw rs (passed .passed .list .disjoint) .sound);
       }
 
   -- it is read as its matrix and patterns
@@ -101,7 +103,8 @@ module _ (n k y w : ℕ) (rs : List Row) (room : ℕ) (answers : modelVerdict n 
       → readModelVerdict (modelText (missing y) n k w rs) roomMatrix roomCounts roomPatterns ≡ answer 0 0 0
   unfolding readModelVerdict
   reads-answers roomMatrix roomCounts roomPatterns a b c =
-      ap (λ (o : Outcome). verdict (modelChecks o (goodLines start (lines (modelText (missing y) n k w rs))) roomMatrix roomCounts roomPatterns)) reads-written
+      ap (λ (o : Outcome). verdict
+      (modelChecks o (goodLines start (lines (modelText (missing y) n k w rs))) roomMatrix roomCounts roomPatterns)) reads-written
       ∙ verdict-miss _ _ refl
       ∙ verdict-miss _ _ (rw (le-ltb roomMatrix n a, le-ltb roomCounts k b, le-ltb roomPatterns (length (allOf itsPatterns)) c))
       ∙ verdict-miss _ _ (le-ltb (dependent n (at itsMatrix)) n (omega (arith, independent)))

@@ -92,6 +92,7 @@ unfolding AllLines
 begins-none-text text rest h e =
     let good : List (List ℕ) = take (goodIn text) (lines text) in
     let split = take-suc (lines text) (goodIn text) [] h in
-    let all : AllLines (take (suc (goodIn text)) (lines text)) = rw split (lines-all good (lineAt text (goodIn text) ∷ []) (lines-ended text (goodIn text) h) (e, tt)) in
+    let all : AllLines (take (suc (goodIn text)) (lines text)) =
+    rw split (lines-all good (lineAt text (goodIn text) ∷ []) (lines-ended text (goodIn text) h) (e, tt)) in
     ap (λ (ls : List (List ℕ)). isWhole (after start ls)) (lines-before (take (suc (goodIn text)) (lines text)) rest all)
     ∙ begins-none (lines text) (lines rest) h
