@@ -142,7 +142,8 @@ three pre l a b = simp append-assoc
 
 -- a chain goes on
 link-led : (n k : ℕ) (rs from : List ℕ) (m p : ℕ) (l : List ℕ) (pre : List (List ℕ)) → Fronted n k rs → 0 < m
-    → ((b : ℕ) (bs : List ℕ) → pre ++ coverLines (chain (length rs) from p (b ∷ bs)) ≡ frontLines n k rs ++ coverLines (rowCovers (length rs) (inputsOf n m ++ (b ∷ bs))))
+    → ((b : ℕ) (bs : List ℕ) → pre ++ coverLines (chain (length rs) from p (b ∷ bs))
+    ≡ frontLines n k rs ++ coverLines (rowCovers (length rs) (inputsOf n m ++ (b ∷ bs))))
     → LedTo (pre ++ (l ∷ [])) (link n k rs from m p l)
 unfolding Led LedTo link chain coverLines
 link-led n k rs from m p l pre f pos is =

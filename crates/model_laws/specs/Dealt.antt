@@ -1,7 +1,7 @@
 -- Patterns of all outputs, one after the other, and dealt out again, so many to each output; and what an answer of 0 says where a model that
 -- was read is evaluated: the word is that of the patterns dealt (`value-word`), by place (`dealt-at`, `drives-place`). Assumes nothing.
 use mathlib.Core.Path.{_≡_, refl, sym, ap, ap₂, _∙_}
-use mathlib.Core.Bool.{Bool, true, false, not, _||_, or-false}
+use mathlib.Core.Bool.{Bool, true, false, not, _||_, or-false, or-assoc}
 use mathlib.Core.List.{List, [], _∷_, _++_}
 use Prim.Native.Nat.{ℕ, zero, suc, _+_, _*_, _^_, _≤_, _<_}
 use native.Mathlib.Omega.{arith}
@@ -60,11 +60,7 @@ unfolding drives
 drives-last [] p z = or-false (eqb (bitAnd (p .mask) z) (p .values))
 drives-last (q ∷ ps) p z =
     ap (λ (b : Bool). eqb (bitAnd (q .mask) z) (q .values) || b) (drives-last ps p z)
-    ∙ assoc (eqb (bitAnd (q .mask) z) (q .values)) (drives ps z) (eqb (bitAnd (p .mask) z) (p .values))
-  where
-    assoc : (a b c : Bool) → a || (b || c) ≡ (a || b) || c
-    assoc true b c = refl
-    assoc false b c = refl
+    ∙ sym (or-assoc (eqb (bitAnd (q .mask) z) (q .values)) (drives ps z) (eqb (bitAnd (p .mask) z) (p .values)))
 
 -- .. of an output whose patterns lie from place a on
 pub drives-place : (ps : List Pattern) (a i z : ℕ) → a + i < length ps

@@ -1,7 +1,7 @@
 -- What the covers of a model compute (`covers-value`): yj is 1 where some pattern of output j lies over sigma x. For the patterns of
 -- disjoint rows that is bit j of their word at sigma x, 0 where there is none (`drives-word`). Assumes nothing.
 use mathlib.Core.Path.{_≡_, refl, sym, ap, ap₂, _∙_}
-use mathlib.Core.Bool.{Bool, true, false, cond, _&&_, _||_, false≢true}
+use mathlib.Core.Bool.{Bool, true, false, cond, _&&_, _||_, and-true, and-assoc, false≢true}
 use mathlib.Core.List.{List, [], _∷_, _++_, map}
 use Prim.Native.Nat.{ℕ, zero, suc, _+_, _/_, _%_, _^_, _≤_, _<_, min}
 use native.Mathlib.Decide.{ℕ-discrete}
@@ -44,19 +44,11 @@ matches-more : (env : List ℕ → ℕ) (ms : List (List ℕ)) (ss : List ℕ) (
     → matches env (ms ++ (m ∷ [])) (ss ++ (s ∷ [])) ≡ matches env ms ss && agrees s (env m)
 unfolding matches
 matches-more env [] [] m s e = and-true (agrees s (env m))
-  where
-    and-true : (b : Bool) → b && true ≡ b
-    and-true true = refl
-    and-true false = refl
 matches-more env [] (t ∷ ss) m s e = absurd (omega arith)
 matches-more env (l ∷ ms) [] m s e = absurd (omega arith)
 matches-more env (l ∷ ms) (t ∷ ss) m s e =
     ap (λ (b : Bool). agrees t (env l) && b) (matches-more env ms ss m s (omega arith))
-    ∙ assoc (agrees t (env l)) (matches env ms ss) (agrees s (env m))
-  where
-    assoc : (a b c : Bool) → a && (b && c) ≡ (a && b) && c
-    assoc true b c = refl
-    assoc false b c = refl
+    ∙ sym (and-assoc (agrees t (env l)) (matches env ms ss) (agrees s (env m)))
 
 module _ (env : List ℕ → ℕ) (g : ℕ → List ℕ) (f : ℕ → ℕ) where
   tab-more : (n : ℕ) → matches env (tab (suc n) g) (tab (suc n) f) ≡ matches env (tab n g) (tab n f) && agrees (f n) (env (g n))

@@ -284,6 +284,6 @@ module _ (n k y w : ℕ) (rs : List Row) where
   pub never-short : (room : ℕ) → modelRoom ≤ room → modelVerdict n k y w rs room .number ≡ 5 → ⊥
   unfolding methodChecks
   never-short room h e =
-      let five : eqb (verdict (methodChecks n k y w rs false) .number) 5 ≡ true = eq-eqb _ 5 (sym (ap (λ (v : Answer). v .number) (room-enough room h)) ∙ e) in
-      false≢true
-      (sym (verdict-without 5 (methodChecks n k y w rs false) (refl, (refl, (refl, (refl, (refl, (refl, (refl, (refl, (refl, refl)))))))))) ∙ five)
+      let five = eq-eqb _ 5 (sym (ap (λ (v : Answer). v .number) (room-enough room h)) ∙ e) in
+      let others : Without 5 (methodChecks n k y w rs false) = (refl, (refl, (refl, (refl, (refl, (refl, (refl, (refl, (refl, refl))))))))) in
+      false≢true (sym (verdict-without 5 (methodChecks n k y w rs false) others) ∙ five)
