@@ -1,5 +1,5 @@
--- Lines that lead to a whole model are the lines that are written for what it says (`whole-written`), which is within the ranges.
--- Assumes nothing.
+-- Lines that lead to a whole model are the lines that are written for what it says (`whole-written`), which is within the ranges: what
+-- has led to each state (`Led`) is kept by every line. Assumes nothing.
 use mathlib.Core.Path.{_≡_, refl, sym, ap, ap₂, _∙_}
 use mathlib.Core.Bool.{Bool, true, false, cond, _&&_}
 use mathlib.Core.List.{List, [], _∷_, _++_, append-assoc, append-nil}
@@ -44,9 +44,11 @@ module _ (P : Outcome → Type 0) (bad : P Bad) where
 
 -- ---- the lines that lead to each state
 
+-- the three lines before the covers
 abbrev pub heads : ℕ → ℕ → List (List ℕ)
 heads n k = titleLine ∷ inputsLine n ∷ outputsLine k ∷ []
 
+-- n and k are in their ranges
 pub record Sized (n k : ℕ) : Type 0 where
   pub inputs : (1 ≤ n) × (n ≤ listInputs)
   pub outs : (1 ≤ k) × (k ≤ outputs)
@@ -55,16 +57,19 @@ pub record Sized (n k : ℕ) : Type 0 where
 abbrev pub RowsGood : ℕ → List ℕ → Type 0
 RowsGood n rs = (j : ℕ) → j < length rs → (0 < at rs j) × (at rs j < 2 ^ n)
 
+-- some rows of sigma, and not yet all
 pub record Fronted (n k : ℕ) (rs : List ℕ) : Type 0 where
   pub sized : Sized n k
   pub few : length rs < n
   pub rows : RowsGood n rs
 
+-- all rows of sigma
 pub record Backed (n k : ℕ) (sigma : List ℕ) : Type 0 where
   pub sized : Sized n k
   pub full : length sigma ≡ n
   pub rows : RowsGood n sigma
 
+-- the lines up to these rows
 abbrev pub frontLines : ℕ → ℕ → List ℕ → List (List ℕ)
 frontLines n k rs = heads n k ++ coverLines (frontCovers n (at rs) (length rs))
 
@@ -76,6 +81,8 @@ pub record ModelSaid (n k : ℕ) (sigma : List ℕ) (qs : List (List Pattern)) :
   pub outs : length qs ≡ k
   pub patterns : AllSound n qs
 
+-- the lines that lead to a state. Within a chain: whatever inputs are still to come, the lines so far and those of the rest of the chain
+-- are the lines of the whole row, and some input is above those so far
 unfoldable pub Led : List (List ℕ) → State → Type 0
 Led pre (Due l s) = Led (pre ++ (l ∷ [])) s
 Led pre InputsDue = pre ≡ titleLine ∷ []
@@ -133,6 +140,7 @@ row-done n k rs v pre f l h e = go (eqb (length (rs ++ (v ∷ []))) n) refl
 
 -- ---- one line more
 
+-- a line and the two of an XOR, at the end of others
 four : (pre : List (List ℕ)) (l a b : List ℕ) (t : List (List ℕ))
     → (((pre ++ (l ∷ [])) ++ (a ∷ [])) ++ (b ∷ [])) ++ t ≡ pre ++ (l ∷ a ∷ b ∷ t)
 four pre l a b t = simp append-assoc

@@ -1,7 +1,7 @@
 -- Patterns of all outputs, one after the other, and dealt out again, so many to each output; and what an answer of 0 says where a model that
 -- was read is evaluated: the word is that of the patterns dealt (`value-word`), by place (`dealt-at`, `drives-place`). Assumes nothing.
 use mathlib.Core.Path.{_≡_, refl, sym, ap, ap₂, _∙_}
-use mathlib.Core.Bool.{Bool, true, false, not, _||_, or-false, or-assoc}
+use mathlib.Core.Bool.{Bool, false, not, _||_, or-false, or-assoc}
 use mathlib.Core.List.{List, [], _∷_, _++_}
 use Prim.Native.Nat.{ℕ, zero, suc, _+_, _*_, _^_, _≤_, _<_}
 use native.Mathlib.Omega.{arith}

@@ -113,11 +113,6 @@ unfolding evaluated Kept
 kept m [] env h = refl
 kept m (c ∷ cs) env h = kept m cs _ (h .1) ∙ rw (h .0)
 
-pub kept-append : (m : List ℕ) (cs ds : List Cover) → Kept m cs → Kept m ds → Kept m (cs ++ ds)
-unfolding Kept
-kept-append m [] ds h k = k
-kept-append m (c ∷ cs) ds h k = (h .0, kept-append m cs ds (h .1) k)
-
 -- a name that is neither zi nor a part of it is kept by row i
 module _ (m : List ℕ) (i : ℕ) (whole : equal m (zName i) ≡ false) (part : (p : ℕ) → equal m (partName i p) ≡ false) where
   chain-kept : (bs : List ℕ) (from : List ℕ) (p : ℕ) → Kept m (chain i from p bs)

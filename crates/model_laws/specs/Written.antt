@@ -1,5 +1,5 @@
--- The lines that are written for n, k, a matrix and patterns within the ranges lead to that whole model (`written-whole`).
--- Assumes nothing.
+-- The lines that are written for n, k, a matrix and patterns within the ranges lead to that whole model (`written-whole`): each line is of
+-- one of the forms due and of no other, since names of different numbers, and parts and wholes, are different. Assumes nothing.
 use mathlib.Core.Path.{_≡_, refl, sym, ap, ap₂, _∙_}
 use mathlib.Core.Bool.{Bool, true, false, cond, _&&_}
 use mathlib.Core.List.{List, [], _∷_, _++_, map, append-assoc, append-nil}
