@@ -1,5 +1,5 @@
--- Lines that lead to a whole model are the lines that are written for what it says (`whole-written`), which is within the ranges.
--- Assumes nothing.
+-- Lines that lead to a whole model are the lines that are written for what it says (`whole-written`), which is within the ranges: what
+-- has led to each state (`Led`) is kept by every line. Assumes nothing.
 use mathlib.Core.Path.{_≡_, refl, sym, ap, ap₂, _∙_}
 use mathlib.Core.Bool.{Bool, true, false, cond, _&&_}
 use mathlib.Core.List.{List, [], _∷_, _++_, append-assoc, append-nil}
@@ -44,9 +44,11 @@ module _ (P : Outcome → Type 0) (bad : P Bad) where
 
 -- ---- the lines that lead to each state
 
+-- the three lines before the covers
 abbrev pub heads : ℕ → ℕ → List (List ℕ)
 heads n k = titleLine ∷ inputsLine n ∷ outputsLine k ∷ []
 
+-- n and k are in their ranges
 pub record Sized (n k : ℕ) : Type 0 where
   pub inputs : (1 ≤ n) × (n ≤ listInputs)
   pub outs : (1 ≤ k) × (k ≤ outputs)
@@ -55,16 +57,19 @@ pub record Sized (n k : ℕ) : Type 0 where
 abbrev pub RowsGood : ℕ → List ℕ → Type 0
 RowsGood n rs = (j : ℕ) → j < length rs → (0 < at rs j) × (at rs j < 2 ^ n)
 
+-- some rows of sigma, and not yet all
 pub record Fronted (n k : ℕ) (rs : List ℕ) : Type 0 where
   pub sized : Sized n k
   pub few : length rs < n
   pub rows : RowsGood n rs
 
+-- all rows of sigma
 pub record Backed (n k : ℕ) (sigma : List ℕ) : Type 0 where
   pub sized : Sized n k
   pub full : length sigma ≡ n
   pub rows : RowsGood n sigma
 
+-- the lines up to these rows
 abbrev pub frontLines : ℕ → ℕ → List ℕ → List (List ℕ)
 frontLines n k rs = heads n k ++ coverLines (frontCovers n (at rs) (length rs))
 
@@ -76,6 +81,8 @@ pub record ModelSaid (n k : ℕ) (sigma : List ℕ) (qs : List (List Pattern)) :
   pub outs : length qs ≡ k
   pub patterns : AllSound n qs
 
+-- the lines that lead to a state. Within a chain: whatever inputs are still to come, the lines so far and those of the rest of the chain
+-- are the lines of the whole row, and some input is above those so far
 unfoldable pub Led : List (List ℕ) → State → Type 0
 Led pre (Due l s) = Led (pre ++ (l ∷ [])) s
 Led pre InputsDue = pre ≡ titleLine ∷ []
@@ -83,10 +90,12 @@ Led pre (OutputsDue n) = (pre ≡ titleLine ∷ inputsLine n ∷ []) × (1 ≤ n
 Led pre (RowDue n k rs) = Fronted n k rs × (pre ≡ frontLines n k rs)
 Led pre (LinkDue n k rs m p) =
     Fronted n k rs × (0 < m) × (m < 2 ^ (n - 1))
-    × ((b : ℕ) (bs : List ℕ) → pre ++ coverLines (chain (length rs) (partName (length rs) p) (suc p) (b ∷ bs)) ≡ frontLines n k rs ++ coverLines (rowCovers (length rs) (inputsOf n m ++ (b ∷ bs))))
+    × ((b : ℕ) (bs : List ℕ) → pre ++ coverLines (chain (length rs) (partName (length rs) p) (suc p) (b ∷ bs))
+    ≡ frontLines n k rs ++ coverLines (rowCovers (length rs) (inputsOf n m ++ (b ∷ bs))))
 Led pre (OutputDue n k sigma) = Backed n k sigma × (pre ≡ frontLines n k sigma)
 Led pre (PatternDue n k sigma qs ps) =
-    Backed n k sigma × (length qs < k) × AllSound n qs × Sounds n ps × (pre ≡ frontLines n k sigma ++ coverLines (backCovers n 0 (qs ++ (ps ∷ []))))
+    Backed n k sigma × (length qs < k) × AllSound n qs × Sounds n ps
+    × (pre ≡ frontLines n k sigma ++ coverLines (backCovers n 0 (qs ++ (ps ∷ []))))
 
 unfoldable pub LedTo : List (List ℕ) → Outcome → Type 0
 LedTo pre (More s) = Led pre s
@@ -115,18 +124,25 @@ row-done n k rs v pre f l h e = go (eqb (length (rs ++ (v ∷ []))) n) refl
         e
         ∙ append-assoc (heads n k) (coverLines (frontCovers n (at rs) (length rs))) (coverLines (rowCovers (length rs) (inputsOf n v)))
         ∙ ap (λ (t : List (List ℕ)). heads n k ++ t)
-        (sym (lines-append (frontCovers n (at rs) (length rs)) (rowCovers (length rs) (inputsOf n v))) ∙ ap coverLines (sym (front-more n rs v)))
+        (sym (lines-append (frontCovers n (at rs) (length rs)) (rowCovers (length rs) (inputsOf n v)))
+        ∙ ap coverLines (sym (front-more n rs v)))
 
     go : (b : Bool) → eqb (length (rs ++ (v ∷ []))) n ≡ b → Led pre (cond b (OutputDue n k (rs ++ (v ∷ []))) (RowDue n k (rs ++ (v ∷ []))))
     go true q = (record { sized = f .sized; full = eqb-true (length (rs ++ (v ∷ []))) n q; rows = rows-more n rs v (f .rows) l h }, whole)
     go false q = (
-      record { sized = f .sized; few = omega (arith, f .few, length-append rs (v ∷ []), eqb-false (length (rs ++ (v ∷ []))) n q); rows = rows-more n rs v (f .rows) l h },
+      record {
+        sized = f .sized;
+        few = omega (arith, f .few, length-append rs (v ∷ []), eqb-false (length (rs ++ (v ∷ []))) n q);
+        rows = rows-more n rs v (f .rows) l h;
+      },
       whole,
     )
 
 -- ---- one line more
 
-four : (pre : List (List ℕ)) (l a b : List ℕ) (t : List (List ℕ)) → (((pre ++ (l ∷ [])) ++ (a ∷ [])) ++ (b ∷ [])) ++ t ≡ pre ++ (l ∷ a ∷ b ∷ t)
+-- a line and the two of an XOR, at the end of others
+four : (pre : List (List ℕ)) (l a b : List ℕ) (t : List (List ℕ))
+    → (((pre ++ (l ∷ [])) ++ (a ∷ [])) ++ (b ∷ [])) ++ t ≡ pre ++ (l ∷ a ∷ b ∷ t)
 four pre l a b t = simp append-assoc
 
 three : (pre : List (List ℕ)) (l a b : List ℕ) → ((pre ++ (l ∷ [])) ++ (a ∷ [])) ++ (b ∷ []) ≡ pre ++ (l ∷ a ∷ b ∷ [])
@@ -134,7 +150,8 @@ three pre l a b = simp append-assoc
 
 -- a chain goes on
 link-led : (n k : ℕ) (rs from : List ℕ) (m p : ℕ) (l : List ℕ) (pre : List (List ℕ)) → Fronted n k rs → 0 < m
-    → ((b : ℕ) (bs : List ℕ) → pre ++ coverLines (chain (length rs) from p (b ∷ bs)) ≡ frontLines n k rs ++ coverLines (rowCovers (length rs) (inputsOf n m ++ (b ∷ bs))))
+    → ((b : ℕ) (bs : List ℕ) → pre ++ coverLines (chain (length rs) from p (b ∷ bs))
+    ≡ frontLines n k rs ++ coverLines (rowCovers (length rs) (inputsOf n m ++ (b ∷ bs))))
     → LedTo (pre ++ (l ∷ [])) (link n k rs from m p l)
 unfolding Led LedTo link chain coverLines
 link-led n k rs from m p l pre f pos is =
@@ -194,6 +211,9 @@ link-led n k rs from m p l pre f pos is =
 
 -- ---- the step
 
+longer : {pre more : List (List ℕ)} {l m : List ℕ} → pre ≡ more → l ≡ m → pre ++ (l ∷ []) ≡ more ++ (m ∷ [])
+longer = ap₂ (λ (u : List (List ℕ)) (v : List ℕ). u ++ (v ∷ []))
+
 step-led : (pre : List (List ℕ)) (s : State) (l : List ℕ) → Led pre s → LedTo (pre ++ (l ∷ [])) (step s l)
 unfolding Led LedTo step frontCovers coverLines rowCovers backCovers modelLines modelCovers Sounds AllSound
 step-led pre (Due m s) l h =
@@ -203,7 +223,7 @@ step-led pre InputsDue l h =
     (λ n b. on-has P tt (ltb 0 n && equal l (inputsLine n)) (More (OutputsDue n))
     (λ e.
     let t = and-both (ltb 0 n) (equal l (inputsLine n)) e in
-    (ap₂ (λ (u : List (List ℕ)) (v : List ℕ). u ++ (v ∷ [])) h (equal-true l (inputsLine n) (t .1)), omega (arith, ltb-true 0 n (t .0)), omega arith)))
+    (longer h (equal-true l (inputsLine n) (t .1)), omega (arith, ltb-true 0 n (t .0)), omega arith)))
   where
     P : Outcome → Type 0
     P = LedTo (pre ++ (l ∷ []))
@@ -212,8 +232,12 @@ step-led pre (OutputsDue n) l h =
     (λ k b. on-has P tt (ltb 0 k && equal l (outputsLine k)) (More (RowDue n k []))
     (λ e.
     let t = and-both (ltb 0 k) (equal l (outputsLine k)) e in (
-      record { sized = record { inputs = (h .1, h .2); outs = (omega (arith, ltb-true 0 k (t .0)), omega arith) }; few = omega (arith, h .1); rows = λ j q. absurd (omega arith) },
-      ap₂ (λ (u : List (List ℕ)) (v : List ℕ). u ++ (v ∷ [])) (h .0) (equal-true l (outputsLine k) (t .1)),
+      record {
+        sized = record { inputs = (h .1, h .2); outs = (omega (arith, ltb-true 0 k (t .0)), omega arith) };
+        few = omega (arith, h .1);
+        rows = λ j q. absurd (omega arith);
+      },
+      longer (h .0) (equal-true l (outputsLine k) (t .1)),
     )))
   where
     P : Outcome → Type 0
@@ -224,11 +248,13 @@ step-led pre (RowDue n k rs) l h =
     (λ e.
     row-done n k rs (2 ^ a) ((pre ++ (l ∷ [])) ++ (cubeLine (49 ∷ []) ∷ [])) (h .0) (pow-pos a) (pow-lt b)
     (append-assoc pre (l ∷ []) (cubeLine (49 ∷ []) ∷ [])
-    ∙ ap₂ (λ (u : List (List ℕ)) (v : List ℕ). u ++ (v ∷ cubeLine (49 ∷ []) ∷ [])) (h .1) (equal-true l (namesLine (copyCover a (length rs))) e)
+    ∙ ap₂ (λ (u : List (List ℕ)) (v : List ℕ). u ++ (v ∷ cubeLine (49 ∷ []) ∷ [])) (h .1)
+    (equal-true l (namesLine (copyCover a (length rs))) e)
     ∙ ap (λ (t : List ℕ). frontLines n k rs ++ coverLines (rowCovers (length rs) t)) (sym (inputs-pow n a b))))))
     (attempt-has P tt n chained (λ a b.
     link-led n k rs (xName a) (2 ^ a) 1 l pre (h .0) (pow-pos a)
-    (λ c cs. ap₂ (λ (u : List (List ℕ)) (v : List ℕ). u ++ coverLines (rowCovers (length rs) (v ++ (c ∷ cs)))) (h .1) (sym (inputs-pow n a b)))))
+    (λ c cs. ap₂ (λ (u : List (List ℕ)) (v : List ℕ). u ++ coverLines (rowCovers (length rs) (v ++ (c ∷ cs)))) (h .1)
+    (sym (inputs-pow n a b)))))
   where
     P : Outcome → Type 0
     P = LedTo (pre ++ (l ∷ []))
@@ -249,7 +275,7 @@ step-led pre (OutputDue n k sigma) l h =
       omega (arith, h .0 .sized .outs .0),
       tt,
       tt,
-      ap₂ (λ (u : List (List ℕ)) (v : List ℕ). u ++ (v ∷ [])) (h .1) (equal-true l (namesLine (outputCover n 0 [])) e),
+      longer (h .1) (equal-true l (namesLine (outputCover n 0 [])) e),
     ))
 step-led pre (PatternDue n k sigma qs ps) l h = go (patternForm n l) refl (eqb (suc (length qs)) k) refl
   where
@@ -272,7 +298,7 @@ step-led pre (PatternDue n k sigma qs ps) l h = go (patternForm n l) refl (eqb (
       h .1,
       h .2,
       sounds-more n ps (patternOn n l) (h .3) (on-sound n l),
-      ap₂ (λ (u : List (List ℕ)) (v : List ℕ). u ++ (v ∷ [])) (h .4) (form-pattern n l e)
+      longer (h .4) (form-pattern n l e)
           ∙ append-assoc (frontLines n k sigma) (coverLines (backCovers n 0 (qs ++ (ps ∷ [])))) (cubeLine (cubeOf n (patternOn n l)) ∷ [])
           ∙ ap (λ (t : List (List ℕ)). frontLines n k sigma ++ t) (sym (open-more n qs ps (patternOn n l))),
     )
@@ -284,20 +310,22 @@ step-led pre (PatternDue n k sigma qs ps) l h = go (patternForm n l) refl (eqb (
         outs = more ∙ eqb-true (suc (length qs)) k f;
         patterns = all-more n qs ps (h .2) (h .3);
       },
-      ap₂ (λ (u : List (List ℕ)) (v : List ℕ). u ++ (v ∷ [])) (h .4) (equal-true l lastLine q)
+      longer (h .4) (equal-true l lastLine q)
           ∙ ap (λ (t : List (List ℕ)). heads n k ++ (t ++ (lastLine ∷ [])))
-          (sym (lines-append (frontCovers n (at sigma) (length sigma)) B) ∙ ap (λ (i : ℕ). coverLines (frontCovers n (at sigma) i ++ B)) (h .0 .full)),
+          (sym (lines-append (frontCovers n (at sigma) (length sigma)) B)
+          ∙ ap (λ (i : ℕ). coverLines (frontCovers n (at sigma) i ++ B)) (h .0 .full)),
     ))
-    go false e false f = on-has P tt (equal l (namesLine (outputCover n (suc (length qs)) []))) (More (PatternDue n k sigma (qs ++ (ps ∷ [])) [])) (λ q. (
-      h .0,
-      omega (arith, h .1, more, eqb-false (suc (length qs)) k f),
-      all-more n qs ps (h .2) (h .3),
-      tt,
-      ap₂ (λ (u : List (List ℕ)) (v : List ℕ). u ++ (v ∷ [])) (h .4) (equal-true l (namesLine (outputCover n (suc (length qs)) [])) q)
-          ∙ append-assoc (frontLines n k sigma) (coverLines B) (namesLine (outputCover n (suc (length qs)) []) ∷ [])
-          ∙ ap (λ (t : List (List ℕ)). frontLines n k sigma ++ t)
-          (sym (output-lines n (qs ++ (ps ∷ [])) [] ∙ ap (λ (j : ℕ). coverLines B ++ (namesLine (outputCover n j []) ∷ [])) more)),
-    ))
+    go false e false f =
+        on-has P tt (equal l (namesLine (outputCover n (suc (length qs)) []))) (More (PatternDue n k sigma (qs ++ (ps ∷ [])) [])) (λ q. (
+          h .0,
+          omega (arith, h .1, more, eqb-false (suc (length qs)) k f),
+          all-more n qs ps (h .2) (h .3),
+          tt,
+          longer (h .4) (equal-true l (namesLine (outputCover n (suc (length qs)) [])) q)
+              ∙ append-assoc (frontLines n k sigma) (coverLines B) (namesLine (outputCover n (suc (length qs)) []) ∷ [])
+              ∙ ap (λ (t : List (List ℕ)). frontLines n k sigma ++ t)
+              (sym (output-lines n (qs ++ (ps ∷ [])) [] ∙ ap (λ (j : ℕ). coverLines B ++ (namesLine (outputCover n j []) ∷ [])) more)),
+        ))
 
 onward-led : (pre : List (List ℕ)) (o : Outcome) (l : List ℕ) → LedTo pre o → LedTo (pre ++ (l ∷ [])) (onward o l)
 unfolding LedTo

@@ -38,7 +38,8 @@ pub inputs-add : (n m b : ℕ) → m < 2 ^ b → b < n → inputsOf n (m + 2 ^ b
 inputs-add zero m b h l = absurd (omega arith)
 inputs-add (suc n) m b h l = go (ℕ-discrete b n) (λ k. inputs-add n m b h k)
   where
-    go : Dec (b ≡ n) → (b < n → inputsOf n (m + 2 ^ b) ≡ inputsOf n m ++ (b ∷ [])) → inputsOf (suc n) (m + 2 ^ b) ≡ inputsOf (suc n) m ++ (b ∷ [])
+    go : Dec (b ≡ n) → (b < n → inputsOf n (m + 2 ^ b) ≡ inputsOf n m ++ (b ∷ []))
+        → inputsOf (suc n) (m + 2 ^ b) ≡ inputsOf (suc n) m ++ (b ∷ [])
     go (yes e) ih =
         let k : m < 2 ^ n = rw e at h in
         rw e (inputs-top n m k ∙ ap (λ (t : List ℕ). t ++ (n ∷ [])) (sym (inputs-step n m k)))

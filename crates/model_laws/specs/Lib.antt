@@ -2,7 +2,8 @@
 -- of a row of sigma; `Names` that names are different; `Values` what the rows of sigma compute; `Patterns` the lines of patterns; `Outputs`
 -- what a model's covers compute. Bytes: `WordLines` has the words on a line and the lines of a text; `Plain` that lines say their covers;
 -- `Texts` the word of a model's text, and both ways between texts and models. The subset that is read: `Accepted` has that only what is
--- written is read; `Written` that what is written is read; `Endings` that lines which are not bad can end well.
+-- written is read; `Written` that what is written is read; `Endings` that lines which are not bad can end well; `Dealt` the word of a model
+-- that was read.
 pub mod Lines
 pub mod Inputs
 pub mod Names
@@ -15,3 +16,4 @@ pub mod Accepted
 pub mod Written
 pub mod Texts
 pub mod Endings
+pub mod Dealt

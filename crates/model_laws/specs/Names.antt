@@ -49,7 +49,8 @@ pub decimal-part : (v w : ℕ) (ds : List ℕ) → decimal v ≡ decimal w ++ (9
 decimal-part v w ds e =
     let l : length (decimal w) < length (decimal v) = omega (arith, ap length e, length-append (decimal w) (95 ∷ ds)) in
     let b = digit-at v (length (decimal w)) l in
-    let c : at (decimal v) (length (decimal w)) ≡ 95 = ap (λ (s : List ℕ). at s (length (decimal w))) e ∙ getD-append-seam (decimal w) 95 ds 0 in
+    let c : at (decimal v) (length (decimal w)) ≡ 95 = ap (λ (s : List ℕ). at s (length (decimal w))) e
+    ∙ getD-append-seam (decimal w) 95 ds 0 in
     omega arith
 
 -- ---- names

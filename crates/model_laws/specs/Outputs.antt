@@ -1,7 +1,7 @@
 -- What the covers of a model compute (`covers-value`): yj is 1 where some pattern of output j lies over sigma x. For the patterns of
 -- disjoint rows that is bit j of their word at sigma x, 0 where there is none (`drives-word`). Assumes nothing.
 use mathlib.Core.Path.{_≡_, refl, sym, ap, ap₂, _∙_}
-use mathlib.Core.Bool.{Bool, true, false, cond, _&&_, _||_, false≢true}
+use mathlib.Core.Bool.{Bool, true, false, cond, _&&_, _||_, and-true, and-assoc, false≢true}
 use mathlib.Core.List.{List, [], _∷_, _++_, map}
 use Prim.Native.Nat.{ℕ, zero, suc, _+_, _/_, _%_, _^_, _≤_, _<_, min}
 use native.Mathlib.Decide.{ℕ-discrete}
@@ -44,18 +44,11 @@ matches-more : (env : List ℕ → ℕ) (ms : List (List ℕ)) (ss : List ℕ) (
     → matches env (ms ++ (m ∷ [])) (ss ++ (s ∷ [])) ≡ matches env ms ss && agrees s (env m)
 unfolding matches
 matches-more env [] [] m s e = and-true (agrees s (env m))
-  where
-    and-true : (b : Bool) → b && true ≡ b
-    and-true true = refl
-    and-true false = refl
 matches-more env [] (t ∷ ss) m s e = absurd (omega arith)
 matches-more env (l ∷ ms) [] m s e = absurd (omega arith)
 matches-more env (l ∷ ms) (t ∷ ss) m s e =
-    ap (λ (b : Bool). agrees t (env l) && b) (matches-more env ms ss m s (omega arith)) ∙ assoc (agrees t (env l)) (matches env ms ss) (agrees s (env m))
-  where
-    assoc : (a b c : Bool) → a && (b && c) ≡ (a && b) && c
-    assoc true b c = refl
-    assoc false b c = refl
+    ap (λ (b : Bool). agrees t (env l) && b) (matches-more env ms ss m s (omega arith))
+    ∙ sym (and-assoc (agrees t (env l)) (matches env ms ss) (agrees s (env m)))
 
 module _ (env : List ℕ → ℕ) (g : ℕ → List ℕ) (f : ℕ → ℕ) where
   tab-more : (n : ℕ) → matches env (tab (suc n) g) (tab (suc n) f) ≡ matches env (tab n g) (tab n f) && agrees (f n) (env (g n))
@@ -67,7 +60,8 @@ module _ (env : List ℕ → ℕ) (g : ℕ → List ℕ) (f : ℕ → ℕ) where
       let b = and-both (matches env (tab n g) (tab n f)) (agrees (f n) (env (g n))) (sym (tab-more n) ∙ e) in
       go (ℕ-discrete i n) (b .1) (matches-at n (b .0))
     where
-      go : Dec (i ≡ n) → agrees (f n) (env (g n)) ≡ true → ((i : ℕ) → i < n → agrees (f i) (env (g i)) ≡ true) → agrees (f i) (env (g i)) ≡ true
+      go : Dec (i ≡ n) → agrees (f n) (env (g n)) ≡ true → ((i : ℕ) → i < n → agrees (f i) (env (g i)) ≡ true)
+          → agrees (f i) (env (g i)) ≡ true
       go (yes q) a ih = rw q a
       go (no q) a ih = ih i (omega arith)
 
@@ -89,8 +83,10 @@ Agree m v z = min m v ≡ v → agrees (symbolOf m v) z ≡ eqb (min m z) v
 digit-agrees : (m : ℕ) → m < 2 → (v : ℕ) → v < 2 → (z : ℕ) → z < 2 → Agree m v z
 digit-agrees =
     digit-go (λ m. (v : ℕ) → v < 2 → (z : ℕ) → z < 2 → Agree m v z)
-    (digit-go (λ v. (z : ℕ) → z < 2 → Agree 0 v z) (digit-go (Agree 0 0) (λ e. refl) (λ e. refl)) (digit-go (Agree 0 1) (λ e. absurd (omega arith)) (λ e. absurd (omega arith))))
-    (digit-go (λ v. (z : ℕ) → z < 2 → Agree 1 v z) (digit-go (Agree 1 0) (λ e. refl) (λ e. refl)) (digit-go (Agree 1 1) (λ e. refl) (λ e. refl)))
+    (digit-go (λ v. (z : ℕ) → z < 2 → Agree 0 v z) (digit-go (Agree 0 0) (λ e. refl) (λ e. refl))
+    (digit-go (Agree 0 1) (λ e. absurd (omega arith)) (λ e. absurd (omega arith))))
+    (digit-go (λ v. (z : ℕ) → z < 2 → Agree 1 v z) (digit-go (Agree 1 0) (λ e. refl) (λ e. refl))
+    (digit-go (Agree 1 1) (λ e. refl) (λ e. refl)))
 
 -- for values z of the names z0 .., below 2^n
 module _ (n z : ℕ) (env : List ℕ → ℕ) (is : (i : ℕ) → i < n → env (zName i) ≡ bit z i) (below : z < 2 ^ n) where
@@ -109,7 +105,8 @@ module _ (n z : ℕ) (env : List ℕ → ℕ) (is : (i : ℕ) → i < n → env 
       here : (i : ℕ) → i < n → agrees (f i) (env (zName i)) ≡ eqb (bit (bitAnd m z) i) (bit v i)
       here i h =
           ap (λ (x : ℕ). agrees (f i) x) (is i h)
-          ∙ digit-agrees (bit m i) (bit-lt m i) (bit v i) (bit-lt v i) (bit z i) (bit-lt z i) (sym (bit-and m v i) ∙ ap (λ (x : ℕ). bit x i) (sound .1))
+          ∙ digit-agrees (bit m i) (bit-lt m i) (bit v i) (bit-lt v i) (bit z i) (bit-lt z i)
+          (sym (bit-and m v i) ∙ ap (λ (x : ℕ). bit x i) (sound .1))
           ∙ ap (λ (x : ℕ). eqb x (bit v i)) (sym (bit-and m z i))
 
       small : v < 2 ^ n
@@ -162,7 +159,8 @@ back-value n z below (ps ∷ qs) from (suc i) env is good l h =
     let e : from + suc i ≡ suc from + i = omega arith in
     let v : ℕ = one (covered env (tab n zName) (map (cubeOf n) ps)) in
     rw e
-    (back-value n z below qs (suc from) i (bound (yName from) v env) (z-kept n z env (decimal from) v is) (good .1) (omega arith) (omega arith))
+    (back-value n z below qs (suc from) i (bound (yName from) v env) (z-kept n z env (decimal from) v is) (good .1) (omega arith)
+    (omega arith))
 
 -- ---- the inputs' values
 

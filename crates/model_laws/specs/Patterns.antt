@@ -161,7 +161,8 @@ module _ (n : ℕ) (p : Pattern) (sound : SoundPattern n p) where
   pattern-form =
       ap₂ _&&_
       (ap (every isSymbol) (take-at (tab n g) (32 ∷ 49 ∷ 10 ∷ []) n (length-tab n g))
-      ∙ every-all isSymbol (tab n g) (λ i h. let k : i < n = omega (arith, length-tab n g) in ap isSymbol (tab-at n g 0 i k) ∙ back-at i .0))
+      ∙ every-all isSymbol (tab n g)
+      (λ i h. let k : i < n = omega (arith, length-tab n g) in ap isSymbol (tab-at n g 0 i k) ∙ back-at i .0))
       (ap₂ _&&_
       (eq-eqb (length (cubeLine (cubeOf n p))) (n + 3) (length-append (tab n g) (32 ∷ 49 ∷ 10 ∷ []) ∙ rw (length-tab n g)))
       (ap (λ (s : List ℕ). equal s (cubeLine [])) (drop-at (tab n g) (32 ∷ 49 ∷ 10 ∷ []) n (length-tab n g)) ∙ equal-same (cubeLine [])))
@@ -170,6 +171,7 @@ module _ (n : ℕ) (p : Pattern) (sound : SoundPattern n p) where
   unfolding patternOn
   pattern-back =
       ap₂ pattern
-      (sum-cong _ (λ i. bit (p .mask) i * 2 ^ i) n (λ i h. ap (λ (d : ℕ). d * 2 ^ i) (ap fixed (line-at i h) ∙ back-at i .1)) ∙ bits-sum n (p .mask) (sound .0))
+      (sum-cong _ (λ i. bit (p .mask) i * 2 ^ i) n (λ i h. ap (λ (d : ℕ). d * 2 ^ i) (ap fixed (line-at i h) ∙ back-at i .1))
+      ∙ bits-sum n (p .mask) (sound .0))
       (sum-cong _ (λ i. bit (p .values) i * 2 ^ i) n (λ i h. ap (λ (d : ℕ). d * 2 ^ i) (ap high (line-at i h) ∙ back-at i .2))
       ∙ bits-sum n (p .values) (omega (arith, sound .0, sound .1, and-le-l (p .mask) (p .values))))

@@ -46,7 +46,8 @@ plain-append (c ∷ cs) ds h k = (h .0, plain-append cs ds (h .1) k)
 
 xor-plain : (from : List ℕ) (b : ℕ) (to : List ℕ) → IsWord from → IsWord to → Plain (xorCover from b to)
 unfolding AllCubes every
-xor-plain from b to h k = record { names = three-words from b to h k; cubes = (((refl, omega arith), refl), (((refl, omega arith), refl), tt)) }
+xor-plain from b to h k =
+    record { names = three-words from b to h k; cubes = (((refl, omega arith), refl), (((refl, omega arith), refl), tt)) }
 
 chain-plain : (i : ℕ) (bs from : List ℕ) (p : ℕ) → IsWord from → AllPlain (chain i from p bs)
 unfolding chain AllPlain
@@ -154,7 +155,8 @@ last-names ms m ss =
     ap (λ (i : ℕ). cover (take i (ms ++ (m ∷ []))) (wordIn (ms ++ (m ∷ [])) i) ss) e
     ∙ ap₂ (λ (a : List (List ℕ)) (b : List ℕ). cover a b ss) (take-at ms (m ∷ []) (length ms) refl) (getD-append-seam ms m [] [])
 
-names-said : (c : Cover) (s : Listed) → Plain c → withLine (wordsOn (namesLine c)) s ≡ listed [] (cover (c .inputs) (c .output) (s .cubes) ∷ s .covers)
+names-said : (c : Cover) (s : Listed) → Plain c
+    → withLine (wordsOn (namesLine c)) s ≡ listed [] (cover (c .inputs) (c .output) (s .cubes) ∷ s .covers)
 unfolding withLine every equal
 names-said c s h =
     ap (λ (ws : List (List ℕ)). withLine ws s) (words-on namesWord (c .inputs ++ (c .output ∷ [])) (refl, omega arith) (h .names))
@@ -193,7 +195,8 @@ covers-said (c ∷ cs) h =
     ∙ ap (λ (ss : List (List ℕ)). listed ss cs) (append-nil (c .cubes)))
 
 -- a line with another keyword says no cover
-key-said : (key : List ℕ) (ms : List (List ℕ)) (s : Listed) → IsWord key → AllWords ms → equal key namesWord ≡ false → eqb (at key 0) 46 ≡ true
+key-said : (key : List ℕ) (ms : List (List ℕ)) (s : Listed) → IsWord key → AllWords ms → equal key namesWord ≡ false
+    → eqb (at key 0) 46 ≡ true
     → withLine (wordsOn (wordLine key ms)) s .covers ≡ s .covers
 unfolding withLine
 key-said key ms s h k e d = ap (λ (ws : List (List ℕ)). withLine ws s .covers) (words-on key ms h k) ∙ rw (e, d)

@@ -32,7 +32,8 @@ pub model-cut : (n : ℕ) (sigma : List ℕ) (qs : List (List Pattern)) → 1 �
     → lines (modelOf n sigma qs) ≡ modelLines n (length qs) (modelCovers n sigma qs)
 unfolding modelOf
 model-cut n sigma qs h =
-    lines-joined (modelLines n (length qs) (modelCovers n sigma qs)) (model-lines n (length qs) (modelCovers n sigma qs) (model-plain n sigma qs h))
+    lines-joined (modelLines n (length qs) (modelCovers n sigma qs))
+    (model-lines n (length qs) (modelCovers n sigma qs) (model-plain n sigma qs h))
 
 -- ---- the word at a point
 
@@ -75,7 +76,8 @@ rows-word n k x sigma rs h hn hk below sound words apart =
     ∙ sum-cong _ _ k
     (λ j l.
     ap (λ (v : ℕ). v * 2 ^ j)
-    (ap (λ (ps : List Pattern). one (drives ps z)) (tab-at k (λ j. patternsOf j rs) [] j l) ∙ drives-word n z j rs (apply-lt (at sigma) n x) apart))
+    (ap (λ (ps : List Pattern). one (drives ps z)) (tab-at k (λ j. patternsOf j rs) [] j l)
+    ∙ drives-word n z j rs (apply-lt (at sigma) n x) apart))
     ∙ bits-sum k (ofRows 0 rs z) (word-lt k rs z words)
   where
     z : ℕ

@@ -84,7 +84,8 @@ module _ (f : ℕ → ℕ) (i : ℕ) where
       let v : ℕ = one (covered env (from ∷ xName b ∷ []) ((48 ∷ 49 ∷ []) ∷ (49 ∷ 48 ∷ []) ∷ [])) in
       let e : v ≡ (env from + f b) % 2 = xor-covered env from (xName b) l (rw (h .is b) (h .small b)) ∙ rw (h .is b) in
       let g : bound (partName i p) v env (partName i p) ≡ (env from + f b) % 2 = rw (equal-same (partName i p)) e in
-      chain-value c bs (suc p) (partName i p) (bound (partName i p) v env) (inputs-kept env f (decimal i ++ (95 ∷ decimal p)) v h) (rw g (omega arith))
+      chain-value c bs (suc p) (partName i p) (bound (partName i p) v env) (inputs-kept env f (decimal i ++ (95 ∷ decimal p)) v h)
+      (rw g (omega arith))
       ∙ ap (λ (x : ℕ). added f x (c ∷ bs)) g
 
   -- a row's covers leave zi with the sum of its inputs
@@ -111,11 +112,6 @@ pub kept : (m : List ℕ) (cs : List Cover) (env : List ℕ → ℕ) → Kept m 
 unfolding evaluated Kept
 kept m [] env h = refl
 kept m (c ∷ cs) env h = kept m cs _ (h .1) ∙ rw (h .0)
-
-pub kept-append : (m : List ℕ) (cs ds : List Cover) → Kept m cs → Kept m ds → Kept m (cs ++ ds)
-unfolding Kept
-kept-append m [] ds h k = k
-kept-append m (c ∷ cs) ds h k = (h .0, kept-append m cs ds (h .1) k)
 
 -- a name that is neither zi nor a part of it is kept by row i
 module _ (m : List ℕ) (i : ℕ) (whole : equal m (zName i) ≡ false) (part : (p : ℕ) → equal m (partName i p) ≡ false) where
@@ -172,12 +168,14 @@ parity-inputs f (suc n) v x is =
 
 -- ---- the front: zi is the parity of (row i AND x)
 
-module _ (n : ℕ) (s : ℕ → ℕ) (x : ℕ) (f : ℕ → ℕ) (env : List ℕ → ℕ) (h : InputValues env f) (bits : (a : ℕ) → a < n → f a ≡ bit x a) (zeros : (j : ℕ) → env (zName j) ≡ 0) where
+module _ (n : ℕ) (s : ℕ → ℕ) (x : ℕ) (f : ℕ → ℕ) (env : List ℕ → ℕ) (h : InputValues env f) (bits : (a : ℕ) → a < n → f a ≡ bit x a)
+    (zeros : (j : ℕ) → env (zName j) ≡ 0) where
   pub front-value : (i j : ℕ) → i ≤ n → n < 1000 → j < 1000 → ((l : ℕ) → l < n → s l < 2 ^ n)
       → evaluated env (frontCovers n s i) (zName j) ≡ cond (ltb j i) (parity (bitAnd (s j) x)) 0
   unfolding frontCovers evaluated
   front-value zero j l hn hj below = zeros j ∙ rw (le-ltb j 0 (omega arith))
-  front-value (suc i) j l hn hj below = evaluated-append (frontCovers n s i) (rowCovers i (inputsOf n (s i))) env (zName j) ∙ go (ℕ-discrete j i)
+  front-value (suc i) j l hn hj below =
+      evaluated-append (frontCovers n s i) (rowCovers i (inputsOf n (s i))) env (zName j) ∙ go (ℕ-discrete j i)
       (λ j hj. front-value i j (omega arith) hn hj below)
     where
       e : List ℕ → ℕ

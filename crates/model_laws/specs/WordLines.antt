@@ -104,7 +104,8 @@ spaced-same [] (l ∷ ls) cm cl e = let z : _≡_ {A = ℕ} 10 32 = ap (λ (s : 
 spaced-same (m ∷ ms) [] cm cl e = let z : _≡_ {A = ℕ} 32 10 = ap (λ (s : List ℕ). at s 0) e in absurd (omega arith)
 spaced-same (m ∷ ms) (l ∷ ls) cm cl e =
     let g : (m ++ spaced ms) ++ (10 ∷ []) ≡ (l ++ spaced ls) ++ (10 ∷ []) = cc in
-    let f : m ++ (spaced ms ++ (10 ∷ [])) ≡ l ++ (spaced ls ++ (10 ∷ [])) = sym (append-assoc m (spaced ms) (10 ∷ [])) ∙ g ∙ append-assoc l (spaced ls) (10 ∷ []) in
+    let f : m ++ (spaced ms ++ (10 ∷ [])) ≡ l ++ (spaced ls ++ (10 ∷ [])) = sym (append-assoc m (spaced ms) (10 ∷ [])) ∙ g
+    ∙ append-assoc l (spaced ls) (10 ∷ []) in
     let r = cut m l (spaced ms ++ (10 ∷ [])) (spaced ls ++ (10 ∷ [])) (cm .0 .0) (cl .0 .0) (spaced-stops ms) (spaced-stops ls) f in
     ap₂ _∷_ (r .0) (spaced-same ms ls (cm .1) (cl .1) (r .1))
 
@@ -113,10 +114,13 @@ word-same [] s t e = e
 word-same (x ∷ w) s t e = word-same w s t (cc)
 
 -- lines of one word with different names are different
-pub words-apart : (w : List ℕ) (ms ls : List (List ℕ)) → AllWords ms → AllWords ls → (ms ≡ ls → ⊥) → equal (wordLine w ms) (wordLine w ls) ≡ false
+pub words-apart : (w : List ℕ) (ms ls : List (List ℕ)) → AllWords ms → AllWords ls → (ms ≡ ls → ⊥)
+    → equal (wordLine w ms) (wordLine w ls) ≡ false
 words-apart w ms ls cm cl h =
     unequal (wordLine w ms) (wordLine w ls)
-    (λ e. h (spaced-same ms ls cm cl (word-same w (spaced ms ++ (10 ∷ [])) (spaced ls ++ (10 ∷ [])) (sym (append-assoc w (spaced ms) (10 ∷ [])) ∙ e ∙ append-assoc w (spaced ls) (10 ∷ [])))))
+    (λ e. h (spaced-same ms ls cm cl
+    (word-same w (spaced ms ++ (10 ∷ [])) (spaced ls ++ (10 ∷ []))
+    (sym (append-assoc w (spaced ms) (10 ∷ [])) ∙ e ∙ append-assoc w (spaced ls) (10 ∷ [])))))
 
 -- ---- the words on a line
 
@@ -127,7 +131,8 @@ piece-word (x ∷ m) b t e s =
     let a = and-both (not (stops x)) (clean m) e in
     rw (not-true (stops x) (a .0)) (ap (onto x) (piece-word m b t (a .1) s))
 
-line-pieces : (w : List ℕ) (ms : List (List ℕ)) → clean w ≡ true → AllWords ms → pieces (w ++ (spaced ms ++ (10 ∷ []))) ≡ w ∷ ms ++ ([] ∷ [])
+line-pieces : (w : List ℕ) (ms : List (List ℕ)) → clean w ≡ true → AllWords ms
+    → pieces (w ++ (spaced ms ++ (10 ∷ []))) ≡ w ∷ ms ++ ([] ∷ [])
 unfolding AllWords spaced pieces
 line-pieces w [] e h = piece-word w 10 [] e refl
 line-pieces w (m ∷ ms) e h =

@@ -3,13 +3,11 @@
 -- word of the text there (`value-read`). Assumes nothing.
 use mathlib.Core.Path.{_≡_, refl, sym, ap, ap₂, _∙_}
 use mathlib.Core.Bool.{Bool, true, false, not}
-use mathlib.Core.List.{List, [], _∷_, _++_}
-use Prim.Native.Nat.{ℕ, zero, suc, _+_, _^_, _≤_, _<_}
+use mathlib.Core.List.{List}
+use Prim.Native.Nat.{ℕ, zero, suc, _^_, _≤_, _<_}
 use native.Mathlib.Omega.{arith}
 use borrow.Author.Tests.{lt-ltb, le-ltb, ltb-false, eq-eqb}
-use lib.Bits.{and-le-l}
-use lib.ListN.{length, length-append}
-use lib.Seq.{take-append-seam, drop-append-seam}
+use lib.ListN.{length, length-map}
 use Rattle.slices.specs.Places.{at, tab}
 use Rattle.slices.specs.Filled.{length-tab}
 use Rattle.slices.specs.Least.{first-below}
@@ -21,7 +19,7 @@ use Rattle.block.specs.Lists.{smallerList}
 use Rattle.block.specs.Tables.{withValue}
 use Rattle.block.specs.Covers.{wordAt}
 use Rattle.block.specs.Model.{patternsOf, modelOf, blockModel, modelText, modelVerdict}
-use Rattle.block.specs.ModelRead.{Outcome, More, Whole, Bad, outcomeOf, start, goodLines, inputsSaid, outputsSaid, matrixSaid, patternsSaid, countsOf, allOf, modelChecks, readModelVerdict, matrixIn, countsIn, patternsIn, badPattern, patternAt, dealt, total, modelValueVerdict, modelValue}
+use Rattle.block.specs.ModelRead.{Outcome, More, Whole, Bad, outcomeOf, start, goodLines, inputsSaid, outputsSaid, matrixSaid, patternsSaid, countsOf, allOf, modelChecks, readModelVerdict, matrixIn, countsIn, patternsIn, badPattern, patternAt, total, modelValueVerdict, modelValue}
 use Rattle.block.specs.Text.{lines}
 use Rattle.block.specs.declared.Row.{Row}
 use Rattle.block.specs.declared.Pattern.{Pattern}
@@ -32,10 +30,10 @@ use Rattle.matrix_laws.specs.Inverse.{length-sigma}
 use Rattle.answered_laws.specs.Passed.{MethodAnswered}
 use Rattle.step_laws.specs.Smaller.{smaller-disjoint}
 use Rattle.demands.specs.Matrix.{sigma-lt, sigma-independent}
-use Rattle.model_laws.specs.Patterns.{SoundPattern, Sounds, AllSound}
 use Rattle.model_laws.specs.Outputs.{rows-sound}
 use Rattle.model_laws.specs.Accepted.{ModelSaid}
 use Rattle.model_laws.specs.Texts.{read-written, written-read}
+use Rattle.model_laws.specs.Dealt.{dealt-back, counts-total, all-good}
 use Rattle.model_theorems.specs.Block.{model-passes}
 
 -- ---- a model that was written
@@ -54,19 +52,19 @@ rows-positive n s e j h = go (s j) refl
 
 module _ (n k y w : ℕ) (rs : List Row) (room : ℕ) (answers : modelVerdict n k y w rs room .number ≡ 0) where
   -- the matrix and the patterns of the block
-  abbrev pub sigma : List ℕ
-  sigma = sigmaOf (ofRows (missing y) rs) n w
+  abbrev pub itsMatrix : List ℕ
+  itsMatrix = sigmaOf (ofRows (missing y) rs) n w
 
-  abbrev pub patterns : List (List Pattern)
-  patterns = tab k (λ j. patternsOf j (smallerList (missing y) n w rs))
+  abbrev pub itsPatterns : List (List Pattern)
+  itsPatterns = tab k (λ j. patternsOf j (smallerList (missing y) n w rs))
 
   passed : MethodAnswered n k y w rs false
   passed = model-passes n k y w rs room answers
 
-  independent : dependent n (at sigma) ≡ n
+  independent : dependent n (at itsMatrix) ≡ n
   independent = sigma-independent (ofRows (missing y) rs) n w (passed .passed .weight .0)
 
-  said : ModelSaid n k sigma patterns
+  said : ModelSaid n k itsMatrix itsPatterns
   said =
       let hw = passed .passed .weight .0 in
       let f : ℕ → ℕ = ofRows (missing y) rs in
@@ -75,38 +73,41 @@ module _ (n k y w : ℕ) (rs : List Row) (room : ℕ) (answers : modelVerdict n 
         full = length-sigma f n w;
         rows = λ j h.
             let l : j < n = omega (arith, length-sigma f n w) in
-            (rows-positive n (at sigma) independent j l, sigma-lt f n w hw j l);
+            (rows-positive n (at itsMatrix) independent j l, sigma-lt f n w hw j l);
         outs = length-tab k (λ j. patternsOf j (smallerList (missing y) n w rs));
-        patterns = rows-sound n k (smallerList (missing y) n w rs) (smaller-disjoint (missing y) n w hw rs (passed .passed .list .disjoint) .sound);
+        patterns =
+            rows-sound n k (smallerList (missing y) n w rs)
+            (smaller-disjoint (missing y) n w hw rs (passed .passed .list .disjoint) .sound);
       }
 
   -- it is read as its matrix and patterns
-  pub reads-written : outcomeOf (modelText (missing y) n k w rs) ≡ Whole n k sigma patterns
+  pub reads-written : outcomeOf (modelText (missing y) n k w rs) ≡ Whole n k itsMatrix itsPatterns
   unfolding modelText blockModel
-  reads-written = read-written n k sigma patterns said
+  reads-written = read-written n k itsMatrix itsPatterns said
 
   -- so these are the results of reading
-  pub matrix-written : matrixIn (modelText (missing y) n k w rs) ≡ sigma
+  pub matrix-written : matrixIn (modelText (missing y) n k w rs) ≡ itsMatrix
   unfolding matrixIn
   matrix-written = ap matrixSaid reads-written
 
-  pub counts-written : countsIn (modelText (missing y) n k w rs) ≡ countsOf patterns
+  pub counts-written : countsIn (modelText (missing y) n k w rs) ≡ countsOf itsPatterns
   unfolding countsIn
   counts-written = ap (λ (o : Outcome). countsOf (patternsSaid o)) reads-written
 
-  pub patterns-written : patternsIn (modelText (missing y) n k w rs) ≡ allOf patterns
+  pub patterns-written : patternsIn (modelText (missing y) n k w rs) ≡ allOf itsPatterns
   unfolding patternsIn
   patterns-written = ap (λ (o : Outcome). allOf (patternsSaid o)) reads-written
 
   -- and reading answers, where there is room
-  pub reads-answers : (roomMatrix roomCounts roomPatterns : ℕ) → n ≤ roomMatrix → k ≤ roomCounts → length (allOf patterns) ≤ roomPatterns
+  pub reads-answers : (roomMatrix roomCounts roomPatterns : ℕ) → n ≤ roomMatrix → k ≤ roomCounts → length (allOf itsPatterns) ≤ roomPatterns
       → readModelVerdict (modelText (missing y) n k w rs) roomMatrix roomCounts roomPatterns ≡ answer 0 0 0
   unfolding readModelVerdict
   reads-answers roomMatrix roomCounts roomPatterns a b c =
-      ap (λ (o : Outcome). verdict (modelChecks o (goodLines start (lines (modelText (missing y) n k w rs))) roomMatrix roomCounts roomPatterns)) reads-written
+      ap (λ (o : Outcome). verdict
+      (modelChecks o (goodLines start (lines (modelText (missing y) n k w rs))) roomMatrix roomCounts roomPatterns)) reads-written
       ∙ verdict-miss _ _ refl
-      ∙ verdict-miss _ _ (rw (le-ltb roomMatrix n a, le-ltb roomCounts k b, le-ltb roomPatterns (length (allOf patterns)) c))
-      ∙ verdict-miss _ _ (le-ltb (dependent n (at sigma)) n (omega (arith, independent)))
+      ∙ verdict-miss _ _ (rw (le-ltb roomMatrix n a, le-ltb roomCounts k b, le-ltb roomPatterns (length (allOf itsPatterns)) c))
+      ∙ verdict-miss _ _ (le-ltb (dependent n (at itsMatrix)) n (omega (arith, independent)))
       ∙ verdict-none
 
 -- ---- a text that is read
@@ -123,43 +124,6 @@ read-once s t n k sigma qs e f = sym (writes-read s n k sigma qs e) ∙ writes-r
 
 -- ---- evaluating what was read
 
--- patterns one after the other, dealt out again
-pub dealt-back : (qs : List (List Pattern)) → dealt (countsOf qs) (allOf qs) ≡ qs
-unfolding dealt allOf
-dealt-back [] = refl
-dealt-back (ps ∷ qs) =
-    ap₂ _∷_ (take-append-seam ps (allOf qs)) (ap (dealt (countsOf qs)) (drop-append-seam ps (allOf qs)) ∙ dealt-back qs)
-
-counts-total : (qs : List (List Pattern)) → total (countsOf qs) ≡ length (allOf qs)
-unfolding total allOf
-counts-total [] = refl
-counts-total (ps ∷ qs) = ap (λ (i : ℕ). length ps + i) (counts-total qs) ∙ sym (length-append ps (allOf qs))
-
-counts-length : (qs : List (List Pattern)) → length (countsOf qs) ≡ length qs
-counts-length [] = refl
-counts-length (ps ∷ qs) = ap suc (counts-length qs)
-
-pattern-good : (n : ℕ) (p : Pattern) → SoundPattern n p → badPattern n p ≡ false
-unfolding badPattern
-pattern-good n p h =
-    rw (
-      lt-ltb (p .mask) (2 ^ n) (h .0),
-      lt-ltb (p .values) (2 ^ n) (omega (arith, h .0, h .1, and-le-l (p .mask) (p .values))),
-      eq-eqb _ (p .values) (h .1),
-    )
-
-sounds-good : (n : ℕ) (ps rest : List Pattern) → Sounds n ps → ((i : ℕ) → i < length rest → badPattern n (patternAt rest i) ≡ false)
-    → (i : ℕ) → i < length (ps ++ rest) → badPattern n (patternAt (ps ++ rest) i) ≡ false
-unfolding Sounds
-sounds-good n [] rest h k i l = k i l
-sounds-good n (p ∷ ps) rest h k zero l = pattern-good n p (h .0)
-sounds-good n (p ∷ ps) rest h k (suc i) l = sounds-good n ps rest (h .1) k i (omega arith)
-
-all-good : (n : ℕ) (qs : List (List Pattern)) → AllSound n qs → (i : ℕ) → i < length (allOf qs) → badPattern n (patternAt (allOf qs) i) ≡ false
-unfolding AllSound allOf
-all-good n [] h i l = absurd (omega arith)
-all-good n (ps ∷ qs) h i l = sounds-good n ps (allOf qs) (h .0) (all-good n qs (h .1)) i l
-
 value-whole : (text : List ℕ) (n k : ℕ) (sigma : List ℕ) (qs : List (List Pattern)) (x : ℕ) → outcomeOf text ≡ Whole n k sigma qs
     → n ≤ dependent n (at sigma) → x < 2 ^ n → modelValue n k x sigma (countsOf qs) (allOf qs) ≡ withValue (answer 0 0 0) (wordAt text x)
 unfolding modelValue modelValueVerdict
@@ -173,7 +137,7 @@ value-whole text n k sigma qs x e d h =
     ∙ verdict-miss _ _
     (rw (
       eq-eqb (length sigma) n (s .full),
-      eq-eqb (length (countsOf qs)) k (counts-length qs ∙ s .outs),
+      eq-eqb (length (countsOf qs)) k (length-map qs (λ (ps : List Pattern). length ps) ∙ s .outs),
       eq-eqb (total (countsOf qs)) (length (allOf qs)) (counts-total qs),
     ))
     ∙ verdict-miss _ _

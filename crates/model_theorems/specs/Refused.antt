@@ -1,16 +1,18 @@
 -- The line of a refusal 10 (02, Ticket 4) is the first that leaves the texts that are read: the lines before it begin a text that is read
 -- (`begins`), and with it they begin none (`begins-none`); the same of bytes, a line being one that ends in LF. Assumes nothing.
 use mathlib.Core.Path.{_≡_, refl, sym, ap, _∙_}
-use mathlib.Core.Bool.{Bool, true, false, cond}
+use mathlib.Core.Bool.{Bool, true, false, not, cond}
 use mathlib.Core.List.{List, [], _∷_, _++_}
-use Prim.Native.Nat.{ℕ, zero, suc, _<_}
+use Prim.Native.Nat.{ℕ, zero, suc, _+_, _<_}
 use native.Mathlib.Omega.{arith}
 use lib.Dec.{eqb}
 use lib.ListN.{length, take, drop, take-append-drop}
 use lib.Seq.{take-suc}
-use Rattle.block.specs.Text.{lines, onto, lineAt}
+use Rattle.block.specs.Refusals.{answer}
+use Rattle.block.specs.Text.{lines, onto, lineAt, firstLine}
 use Rattle.block.specs.Model.{joined, modelCovers}
-use Rattle.block.specs.ModelRead.{Outcome, More, Whole, Bad, after, start, goodLines, outcomeOf, isWhole}
+use Rattle.block.specs.ModelRead.{Outcome, More, Whole, Bad, after, start, goodLines, outcomeOf, isWhole, readModelVerdict}
+use Rattle.refusal_laws.specs.Verdicts.{verdict-hit}
 use Rattle.model_laws.specs.WordLines.{isLine, AllLines, lines-all, lines-before, lines-joined, joined-append, joined-lines}
 use Rattle.model_laws.specs.Plain.{model-plain, model-lines}
 use Rattle.model_laws.specs.Accepted.{lines-led, whole-written}
@@ -19,6 +21,12 @@ use Rattle.model_laws.specs.Endings.{Ends, after-append, outcome-ends, good-lin
 -- the good lines of a text
 abbrev pub goodIn : List ℕ → ℕ
 goodIn text = goodLines start (lines text)
+
+-- a text that is not whole is refused there, before any room is looked at
+pub refused-line : (text : List ℕ) (roomMatrix roomCounts roomPatterns : ℕ) → isWhole (outcomeOf text) ≡ false
+    → readModelVerdict text roomMatrix roomCounts roomPatterns ≡ answer 10 (firstLine + goodIn text) 0
+unfolding readModelVerdict
+refused-line text roomMatrix roomCounts roomPatterns h = verdict-hit _ _ (ap not h)
 
 -- ---- of lines
 
@@ -92,6 +100,7 @@ unfolding AllLines
 begins-none-text text rest h e =
     let good : List (List ℕ) = take (goodIn text) (lines text) in
     let split = take-suc (lines text) (goodIn text) [] h in
-    let all : AllLines (take (suc (goodIn text)) (lines text)) = rw split (lines-all good (lineAt text (goodIn text) ∷ []) (lines-ended text (goodIn text) h) (e, tt)) in
+    let all : AllLines (take (suc (goodIn text)) (lines text)) =
+    rw split (lines-all good (lineAt text (goodIn text) ∷ []) (lines-ended text (goodIn text) h) (e, tt)) in
     ap (λ (ls : List (List ℕ)). isWhole (after start ls)) (lines-before (take (suc (goodIn text)) (lines text)) rest all)
     ∙ begins-none (lines text) (lines rest) h

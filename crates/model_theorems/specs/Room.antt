@@ -2,12 +2,12 @@
 -- (`model-fits`), since names of numbers below 100 are short. So with that room, which the program has, the verdict is the row method's own
 -- (`room-enough`), and 5 never comes (`never-short`). Assumes nothing.
 use mathlib.Core.Path.{_≡_, refl, sym, ap, _∙_}
-use mathlib.Core.Bool.{Bool, true, false, cond, false≢true}
+use mathlib.Core.Bool.{Bool, true, false, cond, _&&_, and-true, false≢true}
 use mathlib.Core.List.{List, [], _∷_, _++_, map, append-nil}
 use Prim.Native.Nat.{ℕ, zero, suc, _+_, _*_, _^_, _≤_, _<_}
 use native.Mathlib.Nat.{mul-le-mul, mul-le-mul-right}
 use native.Mathlib.Omega.{arith}
-use borrow.Author.Tests.{le-ltb, eqb-true}
+use borrow.Author.Tests.{le-ltb, eq-eqb, eqb-true}
 use lib.Dec.{eqb, ltb}
 use lib.ListN.{length, getD, length-append}
 use Rattle.bits.specs.Digits.{bit}
@@ -204,14 +204,16 @@ model-fits n k sigma rs hn hk hr =
     let bc : List Cover = backCovers n 0 qs in
     let count : length qs ≡ k = length-tab k f in
     let c : ℕ = length rs in
-    let few : (l : ℕ) → l < length qs → length (getD qs l []) ≤ c = λ l h. rw (tab-at k f [] l (omega arith)) (patterns-length l rs) in
+    let few : (l : ℕ) → l < length qs → length (getD qs l []) ≤ c =
+    λ l h. rw (tab-at k f [] l (omega arith)) (patterns-length l rs) in
     let row : n * 36 ≤ listInputs * 36 = omega arith in
     let rows : n * (n * 36) ≤ listInputs * (listInputs * 36) = mul-le-mul hn row in
     let line : n + 3 ≤ listInputs + 3 = omega arith in
     let lines : c * (n + 3) ≤ smallerRows * (listInputs + 3) = mul-le-mul hr line in
     let each : 11 + n * 4 + c * (n + 3) ≤ 11 + listInputs * 4 + smallerRows * (listInputs + 3) = omega arith in
     let some : length qs ≤ outputs = omega arith in
-    let outs : length qs * (11 + n * 4 + c * (n + 3)) ≤ outputs * (11 + listInputs * 4 + smallerRows * (listInputs + 3)) = mul-le-mul some each in
+    let outs : length qs * (11 + n * 4 + c * (n + 3)) ≤ outputs * (11 + listInputs * 4 + smallerRows * (listInputs + 3)) =
+    mul-le-mul some each in
     omega (
       arith,
       lines-size n (length qs) (fc ++ bc) (omega arith) (omega arith),
@@ -229,18 +231,19 @@ unfolding methodChecks
 all-numbered n k y w rs short = (refl, (refl, (refl, (refl, (refl, (refl, (refl, (refl, (refl, tt)))))))))
 
 -- no check that holds has the number m
-unfoldable Without : ℕ → List Check → Type 0
-Without m [] = _≡_ {A = ℕ} 0 m → ⊥
-Without m (c ∷ cs) = (c .holds ≡ true → c .number ≡ m → ⊥) × Without m cs
+abbrev Without : ℕ → List Check → Type 0
+Without m [] = eqb 0 m ≡ false
+Without m (c ∷ cs) = (eqb (c .number) m && c .holds ≡ false) × Without m cs
 
-verdict-without : (m : ℕ) (cs : List Check) → Without m cs → verdict cs .number ≡ m → ⊥
-unfolding verdict Without
-verdict-without m [] h e = h e
-verdict-without m (c ∷ cs) h e = go (verdict-without m cs (h .1)) (c .holds) refl e
+verdict-without : (m : ℕ) (cs : List Check) → Without m cs → eqb (verdict cs .number) m ≡ false
+unfolding verdict
+verdict-without m [] h = h
+verdict-without m (c ∷ cs) h = go (c .holds) (h .0) (verdict-without m cs (h .1))
   where
-    go : (verdict cs .number ≡ m → ⊥) → (b : Bool) → c .holds ≡ b → cond b (answer (c .number) (c .a) (c .b)) (verdict cs) .number ≡ m → ⊥
-    go ih true d e = h .0 d e
-    go ih false d e = ih e
+    go : (b : Bool) → eqb (c .number) m && b ≡ false → eqb (verdict cs .number) m ≡ false
+        → eqb (cond b (answer (c .number) (c .a) (c .b)) (verdict cs) .number) m ≡ false
+    go true d ih = sym (and-true (eqb (c .number) m)) ∙ d
+    go false d ih = ih
 
 -- the model of a list that the row method takes
 module _ (n k y w : ℕ) (rs : List Row) where
@@ -279,8 +282,8 @@ module _ (n k y w : ℕ) (rs : List Row) where
 
   -- so 5 never comes
   pub never-short : (room : ℕ) → modelRoom ≤ room → modelVerdict n k y w rs room .number ≡ 5 → ⊥
-  unfolding methodChecks Without
+  unfolding methodChecks
   never-short room h e =
-      verdict-without 5 (methodChecks n k y w rs false)
-      ((λ h q. omega arith), ((λ h q. omega arith), ((λ h q. omega arith), ((λ h q. omega arith), ((λ h q. omega arith), ((λ h q. false≢true h), ((λ h q. omega arith), ((λ h q. omega arith), ((λ h q. omega arith), (λ q. omega arith))))))))))
-      (sym (ap (λ (v : Answer). v .number) (room-enough room h)) ∙ e)
+      let five = eq-eqb _ 5 (sym (ap (λ (v : Answer). v .number) (room-enough room h)) ∙ e) in
+      let others : Without 5 (methodChecks n k y w rs false) = (refl, (refl, (refl, (refl, (refl, (refl, (refl, (refl, (refl, refl))))))))) in
+      false≢true (sym (verdict-without 5 (methodChecks n k y w rs false) others) ∙ five)
