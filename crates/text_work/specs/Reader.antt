@@ -94,53 +94,72 @@ module _ (input text : List ℕ) (reading : Reading) (cut : text ≡ take readBy
   abbrev u : Answer
   u = readVerdict text givenRows
 
-  -- the reader refuses
-  pub reader-refused : (f : Refusal) (l : List ℕ) → reading ≡ Refused f
-      → (record { number = kindNumber (f .kind); a = f .a; b = f .b; before = 0; after = 0; rows = 0; count = 0 } ≡ textWork input)
-      × (l ≡ stored (textVerdict input) (sheetIn input) l)
-  unfolding readText textWork textVerdict
-  reader-refused f l e =
-      let q : numbers (Refused f) ≡ readText text givenRows = ap numbers (sym e) ∙ answers in
-      let said : answer (kindNumber (f .kind)) (f .a) (f .b) ≡ u = ap (λ (x : ReadAnswer). answer (x .number) (x .a) (x .b)) q in
-      let z : u .number ≡ 0 → ⊥ = λ z. kind-some (f .kind) (ap (λ (v : Answer). v .number) said ∙ z) in
-      let t : textVerdict input ≡ u = rw (← cut, ne-eqb (u .number) 0 z) in (
-        ap refused said ∙ no-sheet u (textVerdict input) _ _ _ _ t z,
-        sym (stored-no u (sheetIn input) l z) ∙ ap (λ (v : Answer). stored v (sheetIn input) l) (sym t),
-      )
+  -- the reader refuses: with its number and places, none of which is 0's
+  module _ (f : Refusal) (e : reading ≡ Refused f) where
+    pub reader-said : answer (kindNumber (f .kind)) (f .a) (f .b) ≡ u
+    unfolding readText
+    reader-said =
+        let q : numbers (Refused f) ≡ readText text givenRows = ap numbers (sym e) ∙ answers in
+        ap (λ (x : ReadAnswer). answer (x .number) (x .a) (x .b)) q
+
+    pub reader-some : u .number ≡ 0 → ⊥
+    reader-some z = kind-some (f .kind) (ap (λ (v : Answer). v .number) reader-said ∙ z)
+
+    pub reader-refused : (l : List ℕ)
+        → (record { number = kindNumber (f .kind); a = f .a; b = f .b; before = 0; after = 0; rows = 0; count = 0 } ≡ textWork input)
+        × (l ≡ stored (textVerdict input) (sheetIn input) l)
+    unfolding textWork textVerdict
+    reader-refused l =
+        let t : textVerdict input ≡ u = rw (← cut, ne-eqb (u .number) 0 reader-some) in (
+          ap refused reader-said ∙ no-sheet u (textVerdict input) _ _ _ _ t reader-some,
+          sym (stored-no u (sheetIn input) l reader-some) ∙ ap (λ (v : Answer). stored v (sheetIn input) l) (sym t),
+        )
 
   module _ (h : Headings) (e : reading ≡ Accepted h) where
     same : numbers (Accepted h) ≡ readText text givenRows
     same = ap numbers (sym e) ∙ answers
 
-    zero : u .number ≡ 0
+    pub reader-zero : u .number ≡ 0
     unfolding readText
-    zero = sym (ap (λ (x : ReadAnswer). x .number) same)
+    reader-zero = sym (ap (λ (x : ReadAnswer). x .number) same)
 
-    inputs : h .n ≡ inputsIn text
+    pub reader-inputs : h .n ≡ inputsIn text
     unfolding readText
-    inputs = ap (λ (x : ReadAnswer). x .n) same ∙ carried-yes u (inputsIn text) zero
+    reader-inputs = ap (λ (x : ReadAnswer). x .n) same ∙ carried-yes u (inputsIn text) reader-zero
 
-    columns : h .k ≡ outputsIn text
+    pub reader-outputs : h .k ≡ outputsIn text
     unfolding readText
-    columns = ap (λ (x : ReadAnswer). x .k) same ∙ carried-yes u (outputsIn text) zero
+    reader-outputs = ap (λ (x : ReadAnswer). x .k) same ∙ carried-yes u (outputsIn text) reader-zero
 
-    typed : h .«block_type» ≡ typeIn text
+    pub reader-type : h .«block_type» ≡ typeIn text
     unfolding readText
-    typed = ap (λ (x : ReadAnswer). x .«block_type») same ∙ carried-yes u (typeIn text) zero
+    reader-type = ap (λ (x : ReadAnswer). x .«block_type») same ∙ carried-yes u (typeIn text) reader-zero
 
     counted : h .count ≡ countIn text
     unfolding readText
-    counted = ap (λ (x : ReadAnswer). x .count) same ∙ carried-yes u (countIn text) zero
+    counted = ap (λ (x : ReadAnswer). x .count) same ∙ carried-yes u (countIn text) reader-zero
 
     pub reader-count : h .count ≤ givenRows
-    reader-count = rw counted (count-le text givenRows zero)
+    reader-count = rw counted (count-le text givenRows reader-zero)
 
     -- a part of the rows at the front of storage
     front : (f : Row → ℕ) (l l′ : List ℕ) → l′ ≡ stored u (map f (rowsIn text)) l → take (h .count) l′ ≡ map f (rowsIn text)
     front f l l′ q =
-        ap (take (h .count)) (q ∙ stored-yes u (map f (rowsIn text)) l zero)
+        ap (take (h .count)) (q ∙ stored-yes u (map f (rowsIn text)) l reader-zero)
         ∙ take-at (map f (rowsIn text)) (drop (length (map f (rowsIn text))) l) (h .count)
         (length-map (rowsIn text) f ∙ rows-count text ∙ sym counted)
+
+    -- the rows in storage are those that the text says
+    pub reader-rows : (m v d m′ v′ d′ : List ℕ) → m′ ≡ stored u (map maskPart (rowsIn text)) m
+        → v′ ≡ stored u (map valuesPart (rowsIn text)) v → d′ ≡ stored u (map wordPart (rowsIn text)) d
+        → firstRows (h .count) m′ v′ d′ ≡ rowsIn text
+    reader-rows m v d m′ v′ d′ a b c =
+        rw (
+          front maskPart m m′ a,
+          front valuesPart v v′ b,
+          front wordPart d d′ c,
+          rows-parts (rowsIn text),
+        )
 
     -- the work of the rows in storage
     pub reader-accepted : (m v d m′ v′ d′ : List ℕ) → m′ ≡ stored u (map maskPart (rowsIn text)) m
@@ -152,13 +171,7 @@ module _ (input text : List ℕ) (reading : Reading) (cut : text ≡ take readBy
         → (r ≡ textWork input) × (l′ ≡ stored (textVerdict input) (sheetIn input) l)
     unfolding sheetWork textWork textVerdict sheetIn
     reader-accepted m v d m′ v′ d′ a b c l l′ r long e q =
-        let rows : firstRows (h .count) m′ v′ d′ ≡ rowsIn text =
-        rw (
-          front maskPart m m′ a,
-          front valuesPart v v′ b,
-          front wordPart d d′ c,
-          rows-parts (rowsIn text),
-        ) in (
-          e ∙ rw (← cut, eq-eqb (u .number) 0 zero, inputs, columns, typed, rows, enough (inputsIn text) (outputsIn text) (typeIn text) (min 3 (inputsIn text)) (rowsIn text) (length l) long),
-          q ∙ rw (← cut, eq-eqb (u .number) 0 zero, inputs, columns, typed, rows, enough (inputsIn text) (outputsIn text) (typeIn text) (min 3 (inputsIn text)) (rowsIn text) (length l) long),
+        let rows = reader-rows m v d m′ v′ d′ a b c in (
+          e ∙ rw (← cut, eq-eqb (u .number) 0 reader-zero, reader-inputs, reader-outputs, reader-type, rows, enough (inputsIn text) (outputsIn text) (typeIn text) (min 3 (inputsIn text)) (rowsIn text) (length l) long),
+          q ∙ rw (← cut, eq-eqb (u .number) 0 reader-zero, reader-inputs, reader-outputs, reader-type, rows, enough (inputsIn text) (outputsIn text) (typeIn text) (min 3 (inputsIn text)) (rowsIn text) (length l) long),
         )

@@ -55,7 +55,7 @@ returns c =
     let cut = read .before .before .before .before in
     let a = cut .before .before .before .args in
     rw (c .kind-number .ensures)
-    (reader-refused (now (a .input)) _ _ (cut .first-bytes .ensures) (read .read-text .ensures .answer) _ (now (a .out)) (told .reading .given .1))
+    (reader-refused (now (a .input)) _ _ (cut .first-bytes .ensures) (read .read-text .ensures .answer) _ (told .reading .given .1) (now (a .out)))
 
 same-length : tie.Need-same-length
 same-length c = search needs
