@@ -1,78 +1,29 @@
 -- The word by the patterns that drive each output is the one that the model's text gives (`value-word`): output j has the patterns that are
 -- dealt to it. Assumes nothing.
 use mathlib.Core.Path.{_≡_, refl, sym, ap, ap₂, _∙_}
-use mathlib.Core.Bool.{Bool, true, false, not, cond, _||_}
+use mathlib.Core.Bool.{Bool, true, false, cond, _||_}
 use mathlib.Core.List.{List, [], _∷_}
 use Prim.Native.Nat.{ℕ, zero, suc, _+_, _*_, _^_, _≤_, _<_}
-use native.Mathlib.Nat.{zero-add}
 use native.Mathlib.Omega.{arith}
-use borrow.Author.Tests.{lt-ltb, le-ltb, ltb-true, ltb-false, eqb-true, not-false}
+use borrow.Author.Tests.{lt-ltb, le-ltb, ltb-true, ltb-false}
 use lib.Bits.{bitAnd}
 use lib.Dec.{eqb, ltb}
 use lib.ListN.{length, getD, take, drop, length-drop}
-use lib.Seq.{getD-drop, drop-drop}
+use lib.Seq.{getD-drop}
 use Rattle.slices.specs.Places.{at, first}
 use Rattle.slices.specs.Least.{first-cong}
 use Rattle.sums.specs.Sums.{sum, one}
 use Rattle.sums.specs.Laws.{sum-cong}
-use Rattle.block.specs.Limits.{listInputs, outputs}
 use Rattle.block.specs.Basis.{apply}
 use Rattle.block.specs.Covers.{wordAt}
 use Rattle.block.specs.Model.{pattern, modelOf}
-use Rattle.block.specs.ModelRead.{patternsFlat, patternAt, badPattern, dealt, total}
+use Rattle.block.specs.ModelRead.{patternsFlat, patternAt, dealt}
 use Rattle.block.specs.declared.Pattern.{Pattern}
-use Rattle.shared_checks.specs.Sizes.{or-left, or-right}
-use Rattle.model_laws.specs.Patterns.{SoundPattern, Sounds, AllSound}
+use Rattle.model_laws.specs.Dealt.{dealt-length, dealt-at, dealt-sound}
 use Rattle.model_laws.specs.Outputs.{drives}
 use Rattle.model_laws.specs.Texts.{model-word}
 use Rattle.model_values.specs.Checks.{ValuePassed, flat-at}
-use Rattle.model_values.specs.Driven.{drivenAt, begun, driven, drivenWord, begun-none, begun-more, begun-le}
-
--- ---- patterns that were looked at are sound
-
-good-sound : (n : ℕ) (p : Pattern) → badPattern n p ≡ false → SoundPattern n p
-unfolding badPattern
-good-sound n p e =
-    let a = not (ltb (p .mask) (2 ^ n)) in
-    let b = not (ltb (p .values) (2 ^ n)) in
-    let c = not (eqb (bitAnd (p .mask) (p .values)) (p .values)) in (
-      ltb-true (p .mask) (2 ^ n) (not-false (ltb (p .mask) (2 ^ n)) (or-left a (b || c) e)),
-      eqb-true _ (p .values) (not-false (eqb (bitAnd (p .mask) (p .values)) (p .values)) (or-right b c (or-right a (b || c) e))),
-    )
-
-abbrev Good : ℕ → List Pattern → Type 0
-Good n ps = (i : ℕ) → i < length ps → badPattern n (patternAt ps i) ≡ false
-
-take-sounds : (n c : ℕ) (ps : List Pattern) → Good n ps → Sounds n (take c ps)
-unfolding Sounds
-take-sounds n zero ps h = tt
-take-sounds n (suc c) [] h = tt
-take-sounds n (suc c) (p ∷ ps) h = (good-sound n p (h 0 (omega arith)), take-sounds n c ps (λ i l. h (suc i) (omega arith)))
-
-drop-good : (n c : ℕ) (ps : List Pattern) → Good n ps → Good n (drop c ps)
-drop-good n zero ps h i l = h i l
-drop-good n (suc c) [] h i l = absurd (omega arith)
-drop-good n (suc c) (p ∷ ps) h i l = drop-good n c ps (λ i l. h (suc i) (omega arith)) i l
-
-dealt-sound : (n : ℕ) (counts : List ℕ) (ps : List Pattern) → Good n ps → AllSound n (dealt counts ps)
-unfolding AllSound dealt
-dealt-sound n [] ps h = tt
-dealt-sound n (c ∷ cs) ps h = (take-sounds n c ps h, dealt-sound n cs (drop c ps) (drop-good n c ps h))
-
--- ---- what each output is dealt
-
-dealt-length : (counts : List ℕ) (ps : List Pattern) → length (dealt counts ps) ≡ length counts
-unfolding dealt
-dealt-length [] ps = refl
-dealt-length (c ∷ cs) ps = ap suc (dealt-length cs (drop c ps))
-
-dealt-at : (counts : List ℕ) (ps : List Pattern) (j : ℕ) → j < length counts
-    → getD (dealt counts ps) j [] ≡ take (at counts j) (drop (begun counts j) ps)
-unfolding dealt total
-dealt-at [] ps j h = absurd (omega arith)
-dealt-at (c ∷ cs) ps zero h = refl
-dealt-at (c ∷ cs) ps (suc j) h =
-    dealt-at cs (drop c ps) j (omega arith) ∙ ap (take (at cs j)) (drop-drop (begun cs j) c ps)
+use Rattle.model_values.specs.Driven.{drivenAt, begun, driven, drivenWord, begun-more, begun-le}
 
 -- ---- some pattern of the first ones drives
 

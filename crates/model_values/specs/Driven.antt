@@ -1,7 +1,7 @@
--- The word of a model's outputs at z, from counts and patterns in flat slices: output j is 1 where z lies under one of its patterns. It is
--- that of the patterns dealt to the outputs. Assumes nothing.
+-- The word of a model's outputs at z, from counts and patterns in flat slices: output j is 1 where z lies under one of its patterns. Assumes
+-- nothing.
 use mathlib.Core.Path.{_≡_, refl, sym, ap, ap₂, _∙_}
-use mathlib.Core.Bool.{Bool, true, false, cond, _||_}
+use mathlib.Core.Bool.{Bool, false}
 use mathlib.Core.List.{List, [], _∷_, _++_}
 use Prim.Native.Nat.{ℕ, zero, suc, _+_, _*_, _^_, _≤_, _<_}
 use native.Mathlib.Decide.{ℕ-discrete}
@@ -10,15 +10,12 @@ use native.Mathlib.Omega.{arith}
 use borrow.Author.Tests.{eq-eqb, ne-eqb}
 use lib.Bits.{bitAnd}
 use lib.Dec.{eqb, ltb}
-use lib.ListN.{length, getD, take, drop}
+use lib.ListN.{length, take}
 use lib.Seq.{take-suc, take-all}
 use lib.Pow.{pow-mono}
-use Rattle.slices.specs.Places.{at, tab, first}
-use Rattle.slices.specs.Filled.{length-tab, tab-at}
+use Rattle.slices.specs.Places.{at, first}
 use Rattle.sums.specs.Sums.{sum, one}
-use Rattle.block.specs.Model.{pattern}
-use Rattle.block.specs.ModelRead.{patternsFlat, patternAt, dealt, total}
-use Rattle.block.specs.declared.Pattern.{Pattern}
+use Rattle.block.specs.ModelRead.{total}
 
 -- z lies under pattern i
 abbrev pub drivenAt : List ℕ → List ℕ → ℕ → ℕ → Bool

@@ -3,9 +3,29 @@
 // output and the patterns themselves; `model_value` evaluates a model that was read at a point. Each refuses with a number, and then
 // everything lent holds what it held. This crate holds nothing else: what the operations are made of stands in the crates below it.
 use block::LIST_INPUTS;
+use block::TextAnswer;
 use block::ValueAnswer;
+ghost use Rattle.block.specs.Words.{rowsOf};
 ghost use Rattle.block.specs.ModelRead.{patternsFlat};
-ghost use Rattle.promises.specs.Models.{ModelValuePromise};
+ghost use Rattle.promises.specs.Models.{WriteModelPromise, ModelValuePromise};
+
+// Writes the model of the rows with weight limit w to the front of out. Refuses with 1, 2, 3 (the type, w), 4, 6, 7 and 9, as the row
+// method does, and then with 5 where out is shorter than the model.
+pub fn write_model(
+    n: usize,
+    k: usize,
+    block_type: usize,
+    w: usize,
+    masks: &[u32],
+    values: &[u32],
+    words: &[u32],
+    out: &mut [u8],
+) -> TextAnswer
+    ensures { λ r. ⌜ WriteModelPromise n k «block_type» w (rowsOf (now (masks .entry)) (now (values .entry)) (now (words .entry)))
+        (now (out .entry)) r (now (out .exit)) ⌝ }
+{
+    model_work::make_model(n, k, block_type, w, masks, values, words, out)
+}
 
 // The word of a model that was read at the point x. Refuses with 1, 2, 3 (x), 4, 6 (the matrix first) and 8.
 pub fn model_value(

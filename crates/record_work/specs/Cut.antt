@@ -15,11 +15,12 @@ use Rattle.block.specs.Limits.{listInputs, tableInputs, givenRows, smallerRows,
 use Rattle.block.specs.Words.{fr, missing, ofRows}
 use Rattle.block.specs.Measure.{shift, measure}
 use Rattle.block.specs.Basis.{smallerOf}
-use Rattle.block.specs.Refusals.{Check, check, verdict, answered, carried, stored, outside, typedChecks}
+use Rattle.block.specs.Refusals.{Check, check, verdict, answered, andThen, carried, stored, outside, typedChecks}
 use Rattle.block.specs.Tables.{withValue}
 use Rattle.block.specs.Lists.{countCheck, badRowCheck, rowChecks, rowValueVerdict, rowValue, passingCheck, methodChecks, rowMethodVerdict, rowMethod, smallerList, fillVerdict, filled}
 use Rattle.block.specs.Text.{withBytes, writeVerdict, writeText, textOf}
 use Rattle.block.specs.Sheet.{sheet, sheetVerdict, sheetText}
+use Rattle.block.specs.Model.{modelText, modelVerdict, writeModel}
 use Rattle.block.specs.declared.Row.{Row}
 use Rattle.block.specs.declared.Answer.{Answer}
 use Rattle.refusal_laws.specs.Verdicts.{verdict-hit, verdict-miss, Numbered, verdict-parts}
@@ -156,3 +157,19 @@ module _ (n k y w room : ℕ) where
       ≡ stored (sheetVerdict n k y w rs room) (sheetText (missing y) n k w rs) out
   unfolding sheetVerdict
   sheet-stored-cut out = method-alike n k y w (ltb room sheetRoom) (λ v l. stored v (sheetText (missing y) n k w l) out) (λ v l m h. rw h)
+
+-- ---- a model, whose own length is looked at last
+
+module _ (n k y w room : ℕ) where
+  abbrev roomThen : Answer → List Row → Answer
+  roomThen v l = andThen v (verdict (check (ltb room (length (modelText (missing y) n k w l))) 5 0 0 ∷ []))
+
+  pub model-cut : (rs : List Row) → writeModel n k y w (take cutRows rs) room ≡ writeModel n k y w rs room
+  unfolding writeModel modelVerdict
+  model-cut = method-alike n k y w false (λ v l. withBytes (roomThen v l) (modelText (missing y) n k w l)) (λ v l m h. rw h)
+
+  pub model-stored-cut : (out : List ℕ) (rs : List Row)
+      → stored (modelVerdict n k y w (take cutRows rs) room) (modelText (missing y) n k w (take cutRows rs)) out
+      ≡ stored (modelVerdict n k y w rs room) (modelText (missing y) n k w rs) out
+  unfolding modelVerdict
+  model-stored-cut out = method-alike n k y w false (λ v l. stored (roomThen v l) (modelText (missing y) n k w l) out) (λ v l m h. rw h)

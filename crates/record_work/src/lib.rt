@@ -9,6 +9,7 @@ ghost use Prim.Native.Nat.{_≤_};
 ghost use Rattle.promises.specs.Lists.{RowValuePromise, FillPromise};
 ghost use Rattle.promises.specs.Texts.{WritePromise};
 ghost use Rattle.promises.specs.Sheets.{SheetPromise};
+ghost use Rattle.promises.specs.Models.{WriteModelPromise};
 ghost use Rattle.record_copies.specs.Flat.{heldRows, Sized, listed};
 
 // A single shift value.
@@ -100,6 +101,34 @@ pub fn sheet_of(
     let values = flat.values;
     let words = flat.words;
     sheets::sheet(
+        n,
+        k,
+        block_type,
+        w,
+        &masks[..m],
+        &values[..m],
+        &words[..m],
+        out,
+    )
+}
+
+// Writing a model.
+pub fn model_of(
+    n: usize,
+    k: usize,
+    block_type: usize,
+    w: usize,
+    flat: FlatRows,
+    m: usize,
+    out: &mut [u8],
+) -> TextAnswer
+    requires { ⌜ Sized flat × (m ≤ heldRows) ⌝ }
+    ensures { λ r. ⌜ WriteModelPromise n k «block_type» w (listed flat m) (now (out .entry)) r (now (out .exit)) ⌝ }
+{
+    let masks = flat.masks;
+    let values = flat.values;
+    let words = flat.words;
+    models::write_model(
         n,
         k,
         block_type,

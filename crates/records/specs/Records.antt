@@ -11,6 +11,7 @@ use Rattle.block.specs.Refusals.{stored}
 use Rattle.block.specs.Lists.{rowValue, rowMethodVerdict, rowMethod, smallerList, fillVerdict, filled}
 use Rattle.block.specs.Text.{textOf, writeVerdict, writeText}
 use Rattle.block.specs.Sheet.{sheet, sheetVerdict, sheetText}
+use Rattle.block.specs.Model.{modelText, modelVerdict, writeModel}
 use Rattle.block.specs.declared.Row.{Row}
 use Rattle.block.specs.declared.Answer.{Answer}
 use Rattle.block.specs.declared.ValueAnswer.{ValueAnswer}
@@ -21,9 +22,10 @@ use Rattle.promises.specs.Lent.{lentRecords}
 use Rattle.promises.specs.Lists.{RowValuePromise, RowMethodPromise, FillPromise}
 use Rattle.promises.specs.Texts.{WritePromise, ReadPromise}
 use Rattle.promises.specs.Sheets.{SheetPromise}
+use Rattle.promises.specs.Models.{WriteModelPromise}
 use Rattle.record_copies.specs.declared.FlatRows.{FlatRows}
 use Rattle.record_copies.specs.Flat.{heldRows, Gathered, Scattered, listed, as-records}
-use Rattle.record_work.specs.Cut.{value-cut, fill-cut, filled-cut, write-cut, written-cut, method-cut, method-stored-cut, sheet-cut, sheet-stored-cut}
+use Rattle.record_work.specs.Cut.{value-cut, fill-cut, filled-cut, write-cut, written-cut, method-cut, method-stored-cut, sheet-cut, sheet-stored-cut, model-cut, model-stored-cut}
 use Rattle.record_copies.specs.Yielded.{lentArrays, yielded-stored}
 
 module _ (rs : List Row) {m : ℕ} {f : FlatRows} (e : m ≡ min (length rs) heldRows) (g : Gathered rs m f) where
@@ -55,6 +57,15 @@ module _ (rs : List Row) {m : ℕ} {f : FlatRows} (e : m ≡ min (length rs) hel
       record {
         answer = as-records (λ l. sheet n k y w l room) rs e g (sheet-cut n k y w room rs) (p .answer);
         text = as-records (λ l. stored (sheetVerdict n k y w l room) (sheetText (missing y) n k w l) out₀) rs e g (sheet-stored-cut n k y w room out₀ rs) (p .text);
+      }
+
+  pub model-records : {n k y w : ℕ} {out₀ : List ℕ} {r : TextAnswer} {out₁ : List ℕ} → WriteModelPromise n k y w (listed f m) out₀ r out₁
+      → WriteModelPromise n k y w rs out₀ r out₁
+  model-records {n} {k} {y} {w} {out₀} p =
+      let room : ℕ = length out₀ in
+      record {
+        answer = as-records (λ l. writeModel n k y w l room) rs e g (model-cut n k y w room rs) (p .answer);
+        text = as-records (λ l. stored (modelVerdict n k y w l room) (modelText (missing y) n k w l) out₀) rs e g (model-stored-cut n k y w room out₀ rs) (p .text);
       }
 
   pub method-records : {n k y w : ℕ} {basis₀ sigma₀ : List ℕ} {r : RowMethodAnswer} {basis₁ sigma₁ : List ℕ} {h : FlatRows} {count : ℕ}

@@ -1,5 +1,5 @@
 // The operations on lists of rows for a caller that lends the rows as records, one record a row (01, Words and numbers): a single shift
-// value, the row method, filling a table, row text, written and read, and the sheet. Each takes any numbers and any slices, and answers or
+// value, the row method, filling a table, row text, written and read, the sheet and the model. Each takes any numbers and any slices, and answers or
 // refuses as 01 says; its promise speaks of the records themselves. The records are copied out into arrays (crate record_copies), the work on
 // these is that of the crates record_work, record_method and read_records, and rows that it made are copied in. This crate holds nothing else.
 use block::Answer;
@@ -14,6 +14,7 @@ ghost use Rattle.promises.specs.Lent.{lentRecords};
 ghost use Rattle.promises.specs.Lists.{RowValuePromise, RowMethodPromise, FillPromise};
 ghost use Rattle.promises.specs.Texts.{WritePromise, ReadPromise};
 ghost use Rattle.promises.specs.Sheets.{SheetPromise};
+ghost use Rattle.promises.specs.Models.{WriteModelPromise};
 
 // R(t) of a list. Refuses with 1, 2, 3 (the type, t), 4, 6 and 7.
 pub fn row_value(n: usize, k: usize, block_type: usize, t: usize, rows: &[Row]) -> ValueAnswer
@@ -106,4 +107,21 @@ pub fn sheet(
     let m = record_copies::fits(rows.len());
     let flat = record_copies::gather(rows, m);
     record_work::sheet_of(n, k, block_type, w, flat, m, out)
+}
+
+// Writes the model of the rows with weight limit w to the front of out. Refuses with 1, 2, 3 (the type, w), 4, 6, 7 and 9, as the row
+// method does, and then with 5 where out is shorter than the model.
+pub fn write_model(
+    n: usize,
+    k: usize,
+    block_type: usize,
+    w: usize,
+    rows: &[Row],
+    out: &mut [u8],
+) -> TextAnswer
+    ensures { λ r. ⌜ WriteModelPromise n k «block_type» w (now (rows .entry)) (now (out .entry)) r (now (out .exit)) ⌝ }
+{
+    let m = record_copies::fits(rows.len());
+    let flat = record_copies::gather(rows, m);
+    record_work::model_of(n, k, block_type, w, flat, m, out)
 }

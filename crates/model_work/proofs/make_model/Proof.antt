@@ -27,7 +27,6 @@ slice-aggregate-method-rows-5 c = search needs
 method-rows-requires : tie.Need-method-rows-requires
 method-rows-requires c κs = search needs
 
-
 returns : tie.Need-returns
 returns c =
     let refused = c in
@@ -58,7 +57,6 @@ slice-aggregate-put-model-3 c = search needs
 slice-aggregate-put-model-4 : tie.Need-slice-aggregate-put-model-4
 slice-aggregate-put-model-4 c = search needs
 
-
 put-model-requires : tie.Need-put-model-requires
 put-model-requires c κs =
     let left = c .before .before .before .before .before in
@@ -72,7 +70,6 @@ put-model-requires c κs =
 same-length : tie.Need-same-length
 same-length c = search needs
 
-
 returns-2 : tie.Need-returns-2
 returns-2 c =
     let put = c .before .before .before in
@@ -84,7 +81,6 @@ returns-2 c =
 
 same-length-2 : tie.Need-same-length-2
 same-length-2 c = search needs
-
 
 returns-3 : tie.Need-returns-3
 returns-3 c =
