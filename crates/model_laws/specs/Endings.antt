@@ -151,3 +151,13 @@ pub bad-stays : (o : Outcome) (ls : List (List ℕ)) → isBad o ≡ true → is
 bad-stays (More s) ls e = let z : _≡_ {A = ℕ} 0 1 = cc in absurd (omega arith)
 bad-stays (Whole n k sigma qs) ls e = let z : _≡_ {A = ℕ} 0 1 = cc in absurd (omega arith)
 bad-stays Bad ls e = ap isWhole (after-bad ls)
+
+-- there are no more good lines than lines
+pub good-within : (ls : List (List ℕ)) (o : Outcome) → goodLines o ls ≤ length ls
+unfolding goodLines
+good-within [] o = omega arith
+good-within (l ∷ ls) o = go (isBad (onward o l)) (good-within ls (onward o l))
+  where
+    go : (b : Bool) → goodLines (onward o l) ls ≤ length ls → cond b 0 (suc (goodLines (onward o l) ls)) ≤ suc (length ls)
+    go true h = omega arith
+    go false h = omega arith
