@@ -2,6 +2,7 @@
 //! operation calls them in the order of the numbers. Not here: 9, which the row
 //! method finds at its steps, and 10, which the reader of text finds.
 
+use crate::model::Pattern;
 use crate::{missing, Refusal, Row, FD, FR, OUTPUTS};
 
 type Check = Result<(), Refusal>;
@@ -40,7 +41,7 @@ pub fn weight_limit(w: usize, n: usize) -> Check {
     demand((1..=n).contains(&w), 3)
 }
 
-/// 3: an asked t not below 2^n.
+/// 3: an asked t, or a model's x, not below 2^n.
 pub fn shift(t: usize, n: usize) -> Check {
     demand(t < 1 << n, 3)
 }
@@ -87,6 +88,22 @@ pub fn entries(k: usize, block_type: usize, table: &[u16]) -> Check {
 /// 6: the least index of a matrix row not below 2^n.
 pub fn matrix_rows(n: usize, matrix: &[u32]) -> Check {
     match matrix.iter().position(|&row| row >= 1 << n) {
+        Some(index) => Err(Refusal::at(6, 1, index)),
+        None => Ok(()),
+    }
+}
+
+/// 6 of a model that was read: the least index of a matrix row not below 2^n, with
+/// A 0; then that of a malformed pattern, with A 1.
+pub fn model(n: usize, matrix: &[u32], patterns: &[Pattern]) -> Check {
+    let malformed = |pattern: &Pattern| {
+        let Pattern { mask, values } = *pattern;
+        mask >= 1 << n || values >= 1 << n || values & !mask != 0
+    };
+    if let Some(index) = matrix.iter().position(|&row| row >= 1 << n) {
+        return Err(Refusal::at(6, 0, index));
+    }
+    match patterns.iter().position(malformed) {
         Some(index) => Err(Refusal::at(6, 1, index)),
         None => Ok(()),
     }
