@@ -10,12 +10,13 @@ pub enum Refusal {
     Inputs,
     /// 2: the number of outputs k is out of range.
     Outputs,
-    /// 3: the weight limit w is not 1 to n, t is not below 2^n, the type is
+    /// 3: the weight limit w is not 1 to n, t or x is not below 2^n, the type is
     /// neither [`FR`](crate::FR) nor [`FD`](crate::FD), or the line of
     /// [`FR`](crate::FR) is left out in writing.
     Limit,
     /// 4: no row or too many, flat rows of unequal length, a table without 2^n
-    /// entries, a matrix without n rows.
+    /// entries, a matrix without n rows, not as many counts as outputs or patterns
+    /// as they say.
     Count,
     /// 5: the room lent for a result is too short.
     Room,
@@ -23,6 +24,10 @@ pub enum Refusal {
     Record { index: usize },
     /// 6: a row of the matrix, counted from 0, is not below 2^n.
     MatrixRow { index: usize },
+    /// 6: a row of a model's matrix, counted from 0, is not below 2^n.
+    ModelRow { index: usize },
+    /// 6: a pattern of a model, counted from 0, is malformed.
+    Pattern { index: usize },
     /// 7: two rows, counted from 0, share a point.
     SharedPoint { first: usize, second: usize },
     /// 8: a row of the matrix, counted from 0, is the XOR of some rows before
@@ -45,6 +50,8 @@ impl Refusal {
             Refusal::Room => (5, 0, 0),
             Refusal::Record { index } => (6, 0, index),
             Refusal::MatrixRow { index } => (6, 1, index),
+            Refusal::ModelRow { index } => (6, 0, index),
+            Refusal::Pattern { index } => (6, 1, index),
             Refusal::SharedPoint { first, second } => (7, first, second),
             Refusal::DependentRow { index } => (8, index, 0),
             Refusal::TooManyRows { step } => (9, step, 0),
@@ -80,14 +87,22 @@ impl fmt::Display for Refusal {
         match self {
             Refusal::Inputs => write!(out, "the number of inputs is out of range"),
             Refusal::Outputs => write!(out, "the number of outputs is out of range"),
-            Refusal::Limit => write!(out, "the weight limit, t or the type is out of range"),
-            Refusal::Count => write!(out, "the number of rows or entries is out of range"),
+            Refusal::Limit => write!(out, "the weight limit, t, x or the type is out of range"),
+            Refusal::Count => {
+                write!(
+                    out,
+                    "the number of rows, entries or patterns is out of range"
+                )
+            }
             Refusal::Room => write!(out, "the room lent for a result is too short"),
             Refusal::Record { index } => {
                 write!(out, "record {index}, counted from 0, is malformed")
             }
-            Refusal::MatrixRow { index } => {
+            Refusal::MatrixRow { index } | Refusal::ModelRow { index } => {
                 write!(out, "matrix row {index}, counted from 0, is malformed")
+            }
+            Refusal::Pattern { index } => {
+                write!(out, "pattern {index}, counted from 0, is malformed")
             }
             Refusal::SharedPoint { first, second } => {
                 write!(

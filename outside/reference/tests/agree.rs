@@ -6,7 +6,7 @@ use reference::{fast, matrix, Fast, Operations, Plain, Row, FD, FR};
 use std::collections::BTreeMap;
 
 /// How many seeds the cases below are drawn from.
-const SEEDS: u64 = 6_000;
+const SEEDS: u64 = 8_400;
 
 #[test]
 fn plain_and_fast_give_the_same_and_refusals_change_nothing() {

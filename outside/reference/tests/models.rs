@@ -7,6 +7,7 @@ use reference::inputs::{self, Random};
 use reference::model::{parse, Model, Pattern};
 use reference::{Fast, ModelHead, Operations, Plain, Row, FD, FR, MODEL_ROOM, NO_OUTPUT};
 use std::collections::HashSet;
+use std::slice::from_ref;
 
 /// Models with what they are of: n, k, the type, w and the rows.
 type Written = ([usize; 4], Vec<Row>, Vec<u8>);
@@ -254,7 +255,7 @@ fn small_models(n: usize, k: usize, most: usize) -> Vec<String> {
     for _ in 0..k {
         let with = |outputs: &Vec<Vec<Pattern>>| {
             let outputs = outputs.clone();
-            let more = move |list: &Vec<Pattern>| [&outputs[..], &[list.clone()]].concat();
+            let more = move |list: &Vec<Pattern>| [&outputs[..], from_ref(list)].concat();
             lists.iter().map(more).collect::<Vec<_>>()
         };
         outputs = outputs.iter().flat_map(with).collect();
