@@ -1,8 +1,8 @@
 /*
  * How much stack each operation takes: called in a thread whose stack was filled with one byte, and counted down to the lowest byte that
  * changed. The code has no recursion and its arrays have fixed lengths, so what a call takes goes by the functions that it reaches; each
- * operation is called on a list, table or model that it answers, of either type. Prints a line an operation and type, and ends with 1 where one
- * takes more than MOST or is refused.
+ * operation is called on a list, table or model that it answers, of either type. Prints a line an operation and type, and ends with 1 where
+ * one takes more than MOST or is refused.
  */
 #define _GNU_SOURCE
 #include <pthread.h>

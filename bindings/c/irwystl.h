@@ -36,7 +36,7 @@ extern "C" {
 
 /* ---- limits and rooms */
 
-#define IRWYSTL_MOST_LIST_INPUTS 16  /* inputs of a list of rows, of row text and of a sheet */
+#define IRWYSTL_MOST_LIST_INPUTS 16  /* inputs of a list of rows, of row text, of a sheet and of a model */
 #define IRWYSTL_MOST_TABLE_INPUTS 12 /* inputs of a full table, and of a list that is filled into one */
 #define IRWYSTL_MOST_OUTPUTS 15
 #define IRWYSTL_MOST_ROWS 128     /* rows given; for irwystl_fill_table 512 */
@@ -271,8 +271,8 @@ irwystl_model_answer irwystl_read_model(const uint8_t *text, size_t text_length,
 
 /*
  * The word at x of a model that was read: its n rows of sigma, its k counts and its patterns, each with exactly the length that was answered.
- * Bit j of the word is 1 where one of output j's patterns has sigma x. Refuses with 1, 2, 3 (x), 4, 6 (the matrix with a 0, then the
- * patterns with a 1), 8. masks and values of unequal length hold no pattern. Promise: models::model_value.
+ * Bit j of the word is 1 where one of output j's patterns has sigma x. masks and values of unequal length hold no pattern. Refuses with 1,
+ * 2, 3 (x), 4, 6 (the matrix, where a is 0, then the patterns, where a is 1), 8. Promise: models::model_value.
  */
 irwystl_value_answer irwystl_model_value(size_t n, size_t k, size_t x, const uint32_t *matrix, size_t matrix_length, const size_t *counts,
                                          size_t counts_length, const uint32_t *masks, size_t masks_length, const uint32_t *values,

@@ -29,7 +29,7 @@ mod refusal;
 pub use model::{model_of, read_model, write_model, Model, Pattern};
 pub use refusal::Refusal;
 
-/// The most inputs of a list of rows, of row text and of a sheet.
+/// The most inputs of a list of rows, of row text, of a sheet and of a model.
 pub const MOST_LIST_INPUTS: usize = 16;
 
 /// The most inputs of a full table, and of a list that is filled into one.
