@@ -62,8 +62,7 @@ enum irwystl_number {
   IRWYSTL_COUNT = 4,     /* no row or too many, flat rows of unequal length, a table without 2^n entries, a matrix without n rows; not as
                             many counts as outputs, or not as many patterns as they say */
   IRWYSTL_ROOM = 5,      /* the room lent for a result is too short */
-  IRWYSTL_RECORD = 6,    /* row, entry or matrix row b, counted from 0, is malformed; a is 1 for a matrix row, else 0 (of a model:
-                            0 for a matrix row, 1 for a pattern) */
+  IRWYSTL_RECORD = 6,    /* row, entry, pattern or matrix row b, counted from 0, is malformed; a is 1 for a matrix row, else 0 */
   IRWYSTL_SHARED = 7,    /* rows a and b, counted from 0, share a point */
   IRWYSTL_DEPENDENT = 8, /* matrix row a, counted from 0, is the XOR of some rows before it, or 0 */
   IRWYSTL_PASSED = 9,    /* at step a, counted from 1, the smaller rows pass 512 */
@@ -272,7 +271,7 @@ irwystl_model_answer irwystl_read_model(const uint8_t *text, size_t text_length,
 /*
  * The word at x of a model that was read: its n rows of sigma, its k counts and its patterns, each with exactly the length that was answered.
  * Bit j of the word is 1 where one of output j's patterns has sigma x. masks and values of unequal length hold no pattern. Refuses with 1,
- * 2, 3 (x), 4, 6 (the matrix, where a is 0, then the patterns, where a is 1), 8. Promise: models::model_value.
+ * 2, 3 (x), 4, 6 (the matrix, then the patterns), 8. Promise: models::model_value.
  */
 irwystl_value_answer irwystl_model_value(size_t n, size_t k, size_t x, const uint32_t *matrix, size_t matrix_length, const size_t *counts,
                                          size_t counts_length, const uint32_t *masks, size_t masks_length, const uint32_t *values,

@@ -279,5 +279,5 @@ pub fn model_value(
             values.len(),
         )
     }
-    .word()
+    .result()
 }

@@ -100,16 +100,6 @@ impl ValueAnswer {
     pub(crate) fn result(self) -> Result<u64, Refusal> {
         result(self.number, self.a, self.b, self.value)
     }
-
-    /// The same of a model's word, where the places of 6 are others: the matrix has
-    /// A 0 and the patterns have A 1.
-    pub(crate) fn word(self) -> Result<u64, Refusal> {
-        match (self.number, self.a) {
-            (6, 0) => Err(Refusal::ModelRow { index: self.b }),
-            (6, _) => Err(Refusal::Pattern { index: self.b }),
-            _ => self.result(),
-        }
-    }
 }
 
 impl TableMethodAnswer {

@@ -20,14 +20,10 @@ pub enum Refusal {
     Count,
     /// 5: the room lent for a result is too short.
     Room,
-    /// 6: a row or a table entry, counted from 0, is malformed.
+    /// 6: a row, a table entry or a pattern, counted from 0, is malformed.
     Record { index: usize },
     /// 6: a row of the matrix, counted from 0, is not below 2^n.
     MatrixRow { index: usize },
-    /// 6: a row of a model's matrix, counted from 0, is not below 2^n.
-    ModelRow { index: usize },
-    /// 6: a pattern of a model, counted from 0, is malformed.
-    Pattern { index: usize },
     /// 7: two rows, counted from 0, share a point.
     SharedPoint { first: usize, second: usize },
     /// 8: a row of the matrix, counted from 0, is the XOR of some rows before
@@ -50,8 +46,6 @@ impl Refusal {
             Refusal::Room => (5, 0, 0),
             Refusal::Record { index } => (6, 0, index),
             Refusal::MatrixRow { index } => (6, 1, index),
-            Refusal::ModelRow { index } => (6, 0, index),
-            Refusal::Pattern { index } => (6, 1, index),
             Refusal::SharedPoint { first, second } => (7, first, second),
             Refusal::DependentRow { index } => (8, index, 0),
             Refusal::TooManyRows { step } => (9, step, 0),
@@ -98,11 +92,8 @@ impl fmt::Display for Refusal {
             Refusal::Record { index } => {
                 write!(out, "record {index}, counted from 0, is malformed")
             }
-            Refusal::MatrixRow { index } | Refusal::ModelRow { index } => {
+            Refusal::MatrixRow { index } => {
                 write!(out, "matrix row {index}, counted from 0, is malformed")
-            }
-            Refusal::Pattern { index } => {
-                write!(out, "pattern {index}, counted from 0, is malformed")
             }
             Refusal::SharedPoint { first, second } => {
                 write!(

@@ -93,18 +93,14 @@ pub fn matrix_rows(n: usize, matrix: &[u32]) -> Check {
     }
 }
 
-/// 6 of a model that was read: the least index of a matrix row not below 2^n, with
-/// A 0; then that of a malformed pattern, with A 1.
-pub fn model(n: usize, matrix: &[u32], patterns: &[Pattern]) -> Check {
+/// 6: the least index of a malformed pattern.
+pub fn patterns(n: usize, patterns: &[Pattern]) -> Check {
     let malformed = |pattern: &Pattern| {
         let Pattern { mask, values } = *pattern;
         mask >= 1 << n || values >= 1 << n || values & !mask != 0
     };
-    if let Some(index) = matrix.iter().position(|&row| row >= 1 << n) {
-        return Err(Refusal::at(6, 0, index));
-    }
     match patterns.iter().position(malformed) {
-        Some(index) => Err(Refusal::at(6, 1, index)),
+        Some(index) => Err(Refusal::at(6, 0, index)),
         None => Ok(()),
     }
 }

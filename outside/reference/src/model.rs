@@ -357,7 +357,8 @@ pub(crate) fn check_value(
         .iter()
         .try_fold(0usize, |sum, &count| sum.checked_add(count));
     checks::length(patterns.len(), told.unwrap_or(usize::MAX))?;
-    checks::model(n, matrix, patterns)
+    checks::matrix_rows(n, matrix)?;
+    checks::patterns(n, patterns)
 }
 
 /// What the program prints of the model of these bytes: the model with weight limit
