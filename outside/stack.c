@@ -1,8 +1,8 @@
 /*
  * How much stack each operation takes: called in a thread whose stack was filled with one byte, and counted down to the lowest byte that
  * changed. The code has no recursion and its arrays have fixed lengths, so what a call takes goes by the functions that it reaches; each
- * operation is called on a list or table that it answers, of either type. Prints a line an operation and type, and ends with 1 where one
- * takes more than MOST or is refused.
+ * operation is called on a list, table or model that it answers, of either type. Prints a line an operation and type, and ends with 1 where
+ * one takes more than MOST or is refused.
  */
 #define _GNU_SOURCE
 #include <pthread.h>
@@ -17,13 +17,15 @@
 #define FILL 0xA5
 #define ROWS 128
 #define POINTS 4096
+#define PATTERNS (IRWYSTL_MOST_OUTPUTS * IRWYSTL_SMALLER_ROWS)
 
 static irwystl_row rows[ROWS], smaller[IRWYSTL_SMALLER_ROWS];
 static uint32_t masks[ROWS], values[ROWS], words[ROWS], basis[16], sigma[16];
 static uint32_t smaller_masks[IRWYSTL_SMALLER_ROWS], smaller_values[IRWYSTL_SMALLER_ROWS], smaller_words[IRWYSTL_SMALLER_ROWS];
 static uint16_t table[POINTS], made[POINTS];
-static uint8_t text[8192], out[IRWYSTL_SHEET_ROOM], line[IRWYSTL_LINE_ROOM];
-static size_t text_length, type;
+static uint8_t text[8192], out[IRWYSTL_SHEET_ROOM], line[IRWYSTL_LINE_ROOM], model[IRWYSTL_MODEL_ROOM];
+static uint32_t model_masks[PATTERNS], model_values[PATTERNS], model_matrix[16];
+static size_t text_length, model_length, counts[IRWYSTL_MOST_OUTPUTS], patterns, type;
 
 #define FLAT masks, ROWS, values, ROWS, words, ROWS
 
@@ -55,6 +57,22 @@ static uint32_t records_write_text(void) { return irwystl_records_write_text(16,
 static uint32_t records_read_text(void) { return irwystl_records_read_text(text, text_length, smaller, ROWS).number; }
 static uint32_t records_sheet(void) { return irwystl_records_sheet(16, 7, type, 16, rows, ROWS, out, sizeof out).number; }
 static uint32_t print_text(void) { return irwystl_print_text(text, text_length, out) == 0 || out[0] != 's'; }
+static uint32_t print_model(void) { return irwystl_print_model(text, text_length, model) == 0 || model[0] != '.'; }
+static uint32_t records_write_model(void) { return irwystl_records_write_model(16, 7, type, 16, rows, ROWS, model, sizeof model).number; }
+static uint32_t write_model(void) {
+  irwystl_text_answer r = irwystl_write_model(16, 7, type, 16, FLAT, model, sizeof model);
+  model_length = r.count;
+  return r.number;
+}
+static uint32_t read_model(void) {
+  irwystl_model_answer r = irwystl_read_model(model, model_length, model_matrix, 16, counts, IRWYSTL_MOST_OUTPUTS, model_masks, PATTERNS,
+                                              model_values, PATTERNS);
+  patterns = r.patterns;
+  return r.number;
+}
+static uint32_t model_value(void) {
+  return irwystl_model_value(16, 7, 65535, model_matrix, 16, counts, 7, model_masks, patterns, model_values, patterns).number;
+}
 static uint32_t import_text(void) { return irwystl_import_text((const uint8_t *)"name", 4, text, text_length, out, line).number; }
 
 struct call {
@@ -105,6 +123,11 @@ int main(void) {
       {"records_sheet", records_sheet, 0},
       {"print_text", print_text, 0},
       {"import_text", import_text, 0},
+      {"print_model", print_model, 0},
+      {"records_write_model", records_write_model, 0},
+      {"write_model", write_model, 0},
+      {"read_model", read_model, 0},
+      {"model_value", model_value, 0},
   };
   size_t i, start;
   int failed = 0;

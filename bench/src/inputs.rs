@@ -1,8 +1,12 @@
 //! The calls that are timed, the same in every run, one table for each question.
 
 use crate::calls::Call;
+use reference::inputs::models::rooms_due;
 use reference::inputs::{hidden_rows, rows, table, text, Case, LentRows, Random};
-use reference::{Fast, Operations, Row, TextHead, FD, FR, SHEET_ROOM, SMALLER_ROWS};
+use reference::{
+    Fast, Operations, Row, TextHead, FD, FR, MODEL_ROOM, OUTPUTS, ROW_INPUTS, SHEET_ROOM,
+    SMALLER_ROWS,
+};
 use std::ops::Range;
 
 /// Calls whose times are shown together.
@@ -43,6 +47,18 @@ fn operations() -> Table {
                 row_method(16, FR, 3, &few_words),
             ),
             Call::on_records("the same on records", row_method(16, FR, 3, &few_words)),
+            Call::new(
+                "its model in BLIF, row method and writing",
+                write_model([16, 15, FR, 3], &few_words),
+            ),
+            Call::new(
+                "reading that model",
+                read_model(&model([16, 15, FR, 3], &few_words)),
+            ),
+            Call::new(
+                "a word of that model",
+                model_value(&model([16, 15, FR, 3], &few_words)),
+            ),
             Call::new(
                 "row method, the same rows, w 16",
                 row_method(16, FR, 16, &few_words),
@@ -129,6 +145,12 @@ fn rows_with_missing(random: &mut Random) -> Vec<Row> {
 fn text_parts() -> Table {
     let read: Vec<(TextHead, LentRows)> = (0..300).map(read).collect();
     let each = |case: fn(&(TextHead, LentRows)) -> Case| read.iter().map(case).collect();
+    let block = |head: &TextHead| [head.n, head.k, head.block_type, 3.min(head.n)];
+    // Lists that the row method refuses have no model.
+    let models = read
+        .iter()
+        .map(|(head, rows)| model(block(head), rows))
+        .filter(|text| !text.is_empty());
     Table {
         title: "300 row texts, part by part",
         calls: vec![
@@ -157,6 +179,16 @@ fn text_parts() -> Table {
                     rows: rows.clone(),
                     bytes: vec![0; SHEET_ROOM],
                 }),
+            ),
+            Call::all(
+                "model of each list",
+                read.iter()
+                    .map(|(head, rows)| write_model(block(head), rows))
+                    .collect(),
+            ),
+            Call::all(
+                "reading each model",
+                models.map(|text| read_model(&text)).collect(),
             ),
         ],
     }
@@ -256,6 +288,59 @@ fn row_method(n: usize, block_type: usize, w: usize, rows: &LentRows) -> Case {
         smaller: LentRows::new(&[Row::default(); SMALLER_ROWS]),
         columns: vec![0; n],
         sigma: vec![0; n],
+    }
+}
+
+/// The model of a list, or nothing where it is refused.
+fn model([n, k, block_type, w]: [usize; 4], rows: &LentRows) -> Vec<u8> {
+    let mut bytes = vec![0; MODEL_ROOM];
+    let written = Fast::write_model(n, k, block_type, w, rows.list(), &mut bytes);
+    bytes.truncate(written.results);
+    bytes
+}
+
+/// Writing the model of a list, into room for it.
+fn write_model([n, k, block_type, w]: [usize; 4], rows: &LentRows) -> Case {
+    Case::WriteModel {
+        n,
+        k,
+        block_type,
+        w,
+        rows: rows.clone(),
+        bytes: vec![0; model([n, k, block_type, w], rows).len()],
+    }
+}
+
+/// Reading a model, into room for what it holds.
+fn read_model(text: &[u8]) -> Case {
+    let [n, k, patterns] = rooms_due(text);
+    Case::ReadModel {
+        text: text.to_vec(),
+        matrix: vec![0; n],
+        counts: vec![0; k],
+        masks: vec![0; patterns],
+        values: vec![0; patterns],
+    }
+}
+
+/// The word of a model at one point.
+fn model_value(text: &[u8]) -> Case {
+    let (mut matrix, mut counts) = (vec![0; ROW_INPUTS], vec![0; OUTPUTS]);
+    let [mut masks, mut values] = [vec![0; text.len()], vec![0; text.len()]];
+    let read = Fast::read_model(text, &mut matrix, &mut counts, &mut masks, &mut values);
+    let head = read.results;
+    matrix.truncate(head.n);
+    counts.truncate(head.k);
+    masks.truncate(head.patterns);
+    values.truncate(head.patterns);
+    Case::ModelValue {
+        n: head.n,
+        k: head.k,
+        x: 0b1010_0000,
+        matrix,
+        counts,
+        masks,
+        values,
     }
 }
 

@@ -1,8 +1,8 @@
 /*
- * Irwystl from C: the sheet of a logic block, and every operation behind it.
+ * Irwystl from C: the sheet of a logic block, its model in BLIF, and every operation behind them.
  *
  * Link target/staticlib/libexports.a, which `rt staticlib exports` makes for x86-64; it asks for nothing but memcpy and memset. The
- * shortest use is irwystl_print_text, at the end: row text in, sheet out.
+ * shortest uses are irwystl_print_text and irwystl_print_model, at the end: row text in, sheet or model out.
  *
  * Words. A block has n inputs and k outputs. A point is a number below 2^n, input x0 its lowest bit. A row fixes some inputs and gives one
  * word, a number below 2^k. What a point under no row means goes by the block's type: under IRWYSTL_FR it has no output, under IRWYSTL_FD
@@ -10,6 +10,9 @@
  * points x such that x and x XOR t both have an output and the words are equal; the measure of a block is the sum of R at 1, 2, 4, ..
  * 2^(n-1). The smaller block at z is the block at T z, and the block at x is the smaller block at sigma x; it has the block's type. T comes
  * as n numbers, its columns, and sigma as n numbers, its rows: bit j of sigma x is the parity of (row j AND x).
+ *
+ * A model is the block in BLIF: the inputs x0, x1, .., for each row of sigma the copy of an input or a chain of XORs, z0, z1, .., and for
+ * each output y0, y1, .. its patterns over all of the z: the smaller rows that have a 1 there. A pattern is a mask and values, as in a row.
  *
  * Every call. Any numbers and any contents may come in: each call answers, or refuses with a number (enum irwystl_number) and two places.
  * Each pointer must be valid for its length in elements, and not null even where that is 0; what is written must not overlap anything else
@@ -33,13 +36,14 @@ extern "C" {
 
 /* ---- limits and rooms */
 
-#define IRWYSTL_MOST_LIST_INPUTS 16  /* inputs of a list of rows, of row text and of a sheet */
+#define IRWYSTL_MOST_LIST_INPUTS 16  /* inputs of a list of rows, of row text, of a sheet and of a model */
 #define IRWYSTL_MOST_TABLE_INPUTS 12 /* inputs of a full table, and of a list that is filled into one */
 #define IRWYSTL_MOST_OUTPUTS 15
 #define IRWYSTL_MOST_ROWS 128     /* rows given; for irwystl_fill_table 512 */
 #define IRWYSTL_SMALLER_ROWS 512  /* the room for smaller rows, however few they are */
 #define IRWYSTL_TEXT_ROOM 4255    /* the bytes of the longest row text: the room for any */
 #define IRWYSTL_SHEET_ROOM 17518  /* the bytes of the longest sheet: the room for any */
+#define IRWYSTL_MODEL_ROOM 156420 /* room for any model; one asks for no more than its own length */
 #define IRWYSTL_LINE_ROOM 4176    /* the bytes of the longest line of an import: the room for any */
 #define IRWYSTL_NO_OUTPUT 65535   /* the table entry of a point without an output */
 
@@ -54,10 +58,11 @@ enum irwystl_number {
   IRWYSTL_ANSWERED = 0,
   IRWYSTL_INPUTS = 1,    /* n is out of range */
   IRWYSTL_OUTPUTS = 2,   /* k is out of range */
-  IRWYSTL_LIMIT = 3,     /* w is not 1 to n, t not below 2^n, the type no type; or the line of IRWYSTL_FR is left out in writing */
-  IRWYSTL_COUNT = 4,     /* no row or too many, flat rows of unequal length, a table without 2^n entries, a matrix without n rows */
+  IRWYSTL_LIMIT = 3,     /* w is not 1 to n, t or x not below 2^n, the type no type; or the line of IRWYSTL_FR is left out in writing */
+  IRWYSTL_COUNT = 4,     /* no row or too many, flat rows of unequal length, a table without 2^n entries, a matrix without n rows; not as
+                            many counts as outputs, or not as many patterns as they say */
   IRWYSTL_ROOM = 5,      /* the room lent for a result is too short */
-  IRWYSTL_RECORD = 6,    /* row, entry or matrix row b, counted from 0, is malformed; a is 1 for a matrix row, else 0 */
+  IRWYSTL_RECORD = 6,    /* row, entry, pattern or matrix row b, counted from 0, is malformed; a is 1 for a matrix row, else 0 */
   IRWYSTL_SHARED = 7,    /* rows a and b, counted from 0, share a point */
   IRWYSTL_DEPENDENT = 8, /* matrix row a, counted from 0, is the XOR of some rows before it, or 0 */
   IRWYSTL_PASSED = 9,    /* at step a, counted from 1, the smaller rows pass 512 */
@@ -83,7 +88,7 @@ typedef struct irwystl_value_answer {
   uint32_t number;
   size_t a;
   size_t b;
-  uint64_t value; /* R(t) */
+  uint64_t value; /* R(t), or the word of a model */
 } irwystl_value_answer;
 
 typedef struct irwystl_table_method_answer {
@@ -120,6 +125,15 @@ typedef struct irwystl_read_answer {
   size_t type_line; /* whether the type line stands in it: 1 or 0 */
   size_t count;     /* how many rows it has */
 } irwystl_read_answer;
+
+typedef struct irwystl_model_answer {
+  uint32_t number;
+  size_t a;
+  size_t b;
+  size_t n;        /* the inputs of the model */
+  size_t k;        /* its outputs */
+  size_t patterns; /* how many patterns its outputs have together */
+} irwystl_model_answer;
 
 typedef struct irwystl_import_answer {
   uint32_t number;
@@ -195,6 +209,14 @@ irwystl_text_answer irwystl_records_sheet(size_t n, size_t k, size_t type, size_
                                           uint8_t *out, size_t out_length);
 
 /*
+ * The model of a list of 1 to 128 rows with weight limit w, for the T that the sheet has. Evaluated at x it gives the block's word, wherever
+ * the block has an output. out is room for at least as many bytes as this model has, and IRWYSTL_MODEL_ROOM is enough for any. Refuses with
+ * 1, 2, 3 (type, w), 4, 6, 7, 9, 5. Promise: records::write_model.
+ */
+irwystl_text_answer irwystl_records_write_model(size_t n, size_t k, size_t type, size_t w, const irwystl_row *rows, size_t rows_length,
+                                                uint8_t *out, size_t out_length);
+
+/*
  * ---- the same on rows in three flat arrays: row i is masks[i], values[i] and words[i]. Given arrays of unequal length are refused with 4.
  * Of arrays that are room the shortest is the room.
  */
@@ -229,7 +251,33 @@ irwystl_text_answer irwystl_sheet(size_t n, size_t k, size_t type, size_t w, con
                                   const uint32_t *values, size_t values_length, const uint32_t *words, size_t words_length, uint8_t *out,
                                   size_t out_length);
 
-/* ---- from row text to its sheet, with weight limit 3, or n where the block has n < 3 inputs, and the type that the text tells:
+/* Promise: models::write_model. */
+irwystl_text_answer irwystl_write_model(size_t n, size_t k, size_t type, size_t w, const uint32_t *masks, size_t masks_length,
+                                        const uint32_t *values, size_t values_length, const uint32_t *words, size_t words_length,
+                                        uint8_t *out, size_t out_length);
+
+/* ---- models, of 1 to 16 inputs */
+
+/*
+ * What a model says, from its text: any bytes. Read is what the writer can print, and no other BLIF; the patterns may be any. matrix gets
+ * sigma's n rows, counts for each output, lowest first, how many patterns it has, masks and values the patterns of all outputs one after the
+ * other. Each is room for at least that many; a pattern's line has at least 4 bytes, so that text_length / 4 patterns are enough for any
+ * text. Refuses with 10 (the first line outside the subset), 5 (of masks and values the shorter is the room), 8. Promise: models::read_model.
+ */
+irwystl_model_answer irwystl_read_model(const uint8_t *text, size_t text_length, uint32_t *matrix, size_t matrix_length, size_t *counts,
+                                        size_t counts_length, uint32_t *masks, size_t masks_length, uint32_t *values,
+                                        size_t values_length);
+
+/*
+ * The word at x of a model that was read: its n rows of sigma, its k counts and its patterns, each with exactly the length that was answered.
+ * Bit j of the word is 1 where one of output j's patterns has sigma x. masks and values of unequal length hold no pattern. Refuses with 1,
+ * 2, 3 (x), 4, 6 (the matrix, then the patterns), 8. Promise: models::model_value.
+ */
+irwystl_value_answer irwystl_model_value(size_t n, size_t k, size_t x, const uint32_t *matrix, size_t matrix_length, const size_t *counts,
+                                         size_t counts_length, const uint32_t *masks, size_t masks_length, const uint32_t *values,
+                                         size_t values_length);
+
+/* ---- from row text to its sheet or model, with weight limit 3, or n where the block has n < 3 inputs, and the type that the text tells:
  * IRWYSTL_FD without a type line. Any bytes may come in; at most 8,192 of them are looked at, and no longer text is accepted. */
 
 /*
@@ -237,6 +285,12 @@ irwystl_text_answer irwystl_sheet(size_t n, size_t k, size_t type, size_t w, con
  * one line "refused N A B", where N is 1, 2, 4, 7, 9 or 10. out is room for IRWYSTL_SHEET_ROOM bytes. Promise: printing::print_text.
  */
 size_t irwystl_print_text(const uint8_t *text, size_t text_length, uint8_t *out);
+
+/*
+ * Writes the model to the front of out in place of the sheet, or that line, and returns how many bytes it is. A model begins with the line
+ * .model block. out is room for IRWYSTL_MODEL_ROOM bytes. Promise: printing::print_model.
+ */
+size_t irwystl_print_model(const uint8_t *text, size_t text_length, uint8_t *out);
 
 /*
  * One list of a bulk import: the sheet of the text, and the line that says what came of it, without its end: the name, and then

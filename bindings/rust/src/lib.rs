@@ -1,11 +1,12 @@
-//! Irwystl from Rust: the sheet of a logic block, and every operation behind it.
+//! Irwystl from Rust: the sheet of a logic block, its model in BLIF, and every
+//! operation behind them.
 //!
 //! A block has n inputs and k outputs. It comes as a list of [`Row`]s, as three
 //! flat slices ([`flat`]), as row text or as a full table of 2^n words. Its type
 //! says what a point under no row means: under [`FR`] it has no output, and the
 //! table's entry is [`NO_OUTPUT`]; under [`FD`], the type of a text without a type
-//! line, it has word 0. The shortest use is [`sheet_of`], row text in and sheet
-//! out:
+//! line, it has word 0. The shortest uses are [`sheet_of`] and [`model_of`], row text
+//! in and sheet or model out:
 //!
 //! ```
 //! let text = b".i 3\n.o 2\n.p 4\n00- 01\n11- 01\n01- 10\n10- 10\n.e\n";
@@ -21,12 +22,14 @@
 //! promises; a function here has the promise of the operation of its name.
 
 pub mod flat;
+mod model;
 pub mod raw;
 mod refusal;
 
+pub use model::{model_of, read_model, write_model, Model, Pattern};
 pub use refusal::Refusal;
 
-/// The most inputs of a list of rows, of row text and of a sheet.
+/// The most inputs of a list of rows, of row text, of a sheet and of a model.
 pub const MOST_LIST_INPUTS: usize = 16;
 
 /// The most inputs of a full table, and of a list that is filled into one.
@@ -46,6 +49,9 @@ pub const TEXT_ROOM: usize = 4255;
 
 /// The bytes of the longest sheet, and so the room for any.
 pub const SHEET_ROOM: usize = 17518;
+
+/// Room for any model; one asks for no more than its own length.
+pub const MODEL_ROOM: usize = 156420;
 
 /// The bytes of the longest line of an import, and so the room for any.
 pub const LINE_ROOM: usize = 4176;
@@ -97,6 +103,14 @@ pub struct Headings {
     pub count: usize,
 }
 
+/// What a model that is read has: inputs, outputs, and the patterns of all outputs.
+#[derive(Clone, Copy, Debug, PartialEq, Eq)]
+pub struct ModelSize {
+    pub n: usize,
+    pub k: usize,
+    pub patterns: usize,
+}
+
 /// What came of one list of an import.
 #[derive(Clone, Copy, Debug, PartialEq, Eq)]
 pub struct Imported {
@@ -106,7 +120,7 @@ pub struct Imported {
     pub line: usize,
 }
 
-// Every pointer below, and in `flat`, comes from a slice or an array that is lent
+// Every pointer below, in `flat` and in `model`, comes from a slice or an array that is lent
 // for the whole call, with its length, and no room overlaps anything else: that is
 // all that the calls ask for.
 
@@ -423,6 +437,20 @@ pub fn sheet(
 /// ```
 pub fn print_text(text: &[u8], out: &mut [u8; SHEET_ROOM]) -> usize {
     unsafe { raw::irwystl_print_text(text.as_ptr(), text.len(), out.as_mut_ptr()) }
+}
+
+/// Writes the model of a text to the front of `out`, where [`print_text`] writes the
+/// sheet, and gives the number of its bytes; or else the same line.
+///
+/// ```
+/// let mut out = Box::new([0; irwystl::MODEL_ROOM]);
+/// let count = irwystl::print_model(b".i 1\n.o 1\n.p 1\n0 1\n.e\n", &mut out);
+/// assert!(out[..count].starts_with(b".model block\n"));
+/// let count = irwystl::print_model(b"", &mut out);
+/// assert_eq!(&out[..count], b"refused 10 1 0\n");
+/// ```
+pub fn print_model(text: &[u8], out: &mut [u8; MODEL_ROOM]) -> usize {
+    unsafe { raw::irwystl_print_model(text.as_ptr(), text.len(), out.as_mut_ptr()) }
 }
 
 /// One list of an import: the sheet of a text, with the weight limit of

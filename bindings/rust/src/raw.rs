@@ -2,7 +2,7 @@
 //! what each does and asks for. The functions of this crate call these, and need
 //! no `unsafe`.
 
-use crate::{Headings, Imported, Measures, Refusal, Row, Smaller};
+use crate::{Headings, Imported, Measures, ModelSize, Refusal, Row, Smaller};
 
 #[repr(C)]
 #[derive(Clone, Copy, Debug, PartialEq, Eq)]
@@ -66,6 +66,17 @@ pub struct ReadAnswer {
 
 #[repr(C)]
 #[derive(Clone, Copy, Debug, PartialEq, Eq)]
+pub struct ModelAnswer {
+    pub number: u32,
+    pub a: usize,
+    pub b: usize,
+    pub n: usize,
+    pub k: usize,
+    pub patterns: usize,
+}
+
+#[repr(C)]
+#[derive(Clone, Copy, Debug, PartialEq, Eq)]
 pub struct ImportAnswer {
     pub number: u32,
     pub a: usize,
@@ -125,6 +136,17 @@ impl ReadAnswer {
             count: self.count,
         };
         result(self.number, self.a, self.b, told)
+    }
+}
+
+impl ModelAnswer {
+    pub(crate) fn result(self) -> Result<ModelSize, Refusal> {
+        let size = ModelSize {
+            n: self.n,
+            k: self.k,
+            patterns: self.patterns,
+        };
+        result(self.number, self.a, self.b, size)
     }
 }
 
@@ -237,6 +259,17 @@ extern "C" {
         out_length: usize,
     ) -> TextAnswer;
 
+    pub fn irwystl_records_write_model(
+        n: usize,
+        k: usize,
+        block_type: usize,
+        w: usize,
+        rows: *const Row,
+        rows_length: usize,
+        out: *mut u8,
+        out_length: usize,
+    ) -> TextAnswer;
+
     pub fn irwystl_row_value(
         n: usize,
         k: usize,
@@ -328,7 +361,51 @@ extern "C" {
         out_length: usize,
     ) -> TextAnswer;
 
+    pub fn irwystl_write_model(
+        n: usize,
+        k: usize,
+        block_type: usize,
+        w: usize,
+        masks: *const u32,
+        masks_length: usize,
+        values: *const u32,
+        values_length: usize,
+        words: *const u32,
+        words_length: usize,
+        out: *mut u8,
+        out_length: usize,
+    ) -> TextAnswer;
+
+    pub fn irwystl_read_model(
+        text: *const u8,
+        text_length: usize,
+        matrix: *mut u32,
+        matrix_length: usize,
+        counts: *mut usize,
+        counts_length: usize,
+        masks: *mut u32,
+        masks_length: usize,
+        values: *mut u32,
+        values_length: usize,
+    ) -> ModelAnswer;
+
+    pub fn irwystl_model_value(
+        n: usize,
+        k: usize,
+        x: usize,
+        matrix: *const u32,
+        matrix_length: usize,
+        counts: *const usize,
+        counts_length: usize,
+        masks: *const u32,
+        masks_length: usize,
+        values: *const u32,
+        values_length: usize,
+    ) -> ValueAnswer;
+
     pub fn irwystl_print_text(text: *const u8, text_length: usize, out: *mut u8) -> usize;
+
+    pub fn irwystl_print_model(text: *const u8, text_length: usize, out: *mut u8) -> usize;
 
     pub fn irwystl_import_text(
         name: *const u8,

@@ -10,16 +10,17 @@ pub enum Refusal {
     Inputs,
     /// 2: the number of outputs k is out of range.
     Outputs,
-    /// 3: the weight limit w is not 1 to n, t is not below 2^n, the type is
+    /// 3: the weight limit w is not 1 to n, t or x is not below 2^n, the type is
     /// neither [`FR`](crate::FR) nor [`FD`](crate::FD), or the line of
     /// [`FR`](crate::FR) is left out in writing.
     Limit,
     /// 4: no row or too many, flat rows of unequal length, a table without 2^n
-    /// entries, a matrix without n rows.
+    /// entries, a matrix without n rows, not as many counts as outputs or patterns
+    /// as they say.
     Count,
     /// 5: the room lent for a result is too short.
     Room,
-    /// 6: a row or a table entry, counted from 0, is malformed.
+    /// 6: a row, a table entry or a pattern, counted from 0, is malformed.
     Record { index: usize },
     /// 6: a row of the matrix, counted from 0, is not below 2^n.
     MatrixRow { index: usize },
@@ -80,8 +81,13 @@ impl fmt::Display for Refusal {
         match self {
             Refusal::Inputs => write!(out, "the number of inputs is out of range"),
             Refusal::Outputs => write!(out, "the number of outputs is out of range"),
-            Refusal::Limit => write!(out, "the weight limit, t or the type is out of range"),
-            Refusal::Count => write!(out, "the number of rows or entries is out of range"),
+            Refusal::Limit => write!(out, "the weight limit, t, x or the type is out of range"),
+            Refusal::Count => {
+                write!(
+                    out,
+                    "the number of rows, entries or patterns is out of range"
+                )
+            }
             Refusal::Room => write!(out, "the room lent for a result is too short"),
             Refusal::Record { index } => {
                 write!(out, "record {index}, counted from 0, is malformed")

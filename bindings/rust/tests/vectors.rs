@@ -2,10 +2,11 @@
 //! drawn calls against the independent implementation: answers and all lent storage.
 
 use irwystl::flat::{self, Room, Rows};
-use irwystl::{Headings, Refusal, SHEET_ROOM};
-use reference::data::{check_lists, check_operations};
-use reference::inputs::Case;
-use reference::{Answer, Flat, FlatRoom, Measures, Operations, Plain, Row, Smaller, TextHead};
+use irwystl::{Headings, Refusal, MODEL_ROOM, SHEET_ROOM};
+use reference::data::{check_lists, check_models, check_operations};
+use reference::inputs::{models, Case, Random};
+use reference::{Answer, Flat, FlatRoom, Measures, ModelHead, Operations, Plain, Row};
+use reference::{Smaller, TextHead};
 
 /// This crate as one more implementation of 01 and 02.
 struct Safe;
@@ -251,6 +252,68 @@ impl Operations for Safe {
         let count = irwystl::print_text(input, &mut out);
         out[..count].to_vec()
     }
+
+    fn write_model(
+        n: usize,
+        k: usize,
+        block_type: usize,
+        w: usize,
+        rows: Flat,
+        bytes: &mut [u8],
+    ) -> Answer<usize> {
+        answer(
+            flat::write_model(n, k, block_type, w, given(rows), bytes),
+            |count| count,
+        )
+    }
+
+    fn write_model_records(
+        n: usize,
+        k: usize,
+        block_type: usize,
+        w: usize,
+        rows: &[Row],
+        bytes: &mut [u8],
+    ) -> Answer<usize> {
+        let written = irwystl::write_model(n, k, block_type, w, &records(rows), bytes);
+        answer(written, |count| count)
+    }
+
+    fn read_model(
+        text: &[u8],
+        matrix: &mut [u32],
+        counts: &mut [usize],
+        masks: &mut [u32],
+        values: &mut [u32],
+    ) -> Answer<ModelHead> {
+        let size = flat::read_model(text, matrix, counts, masks, values);
+        answer(size, |size| ModelHead {
+            n: size.n,
+            k: size.k,
+            patterns: size.patterns,
+        })
+    }
+
+    fn model_value(
+        n: usize,
+        k: usize,
+        x: usize,
+        matrix: &[u32],
+        counts: &[usize],
+        masks: &[u32],
+        values: &[u32],
+    ) -> Answer<u64> {
+        answer(
+            flat::model_value(n, k, x, matrix, counts, masks, values),
+            |word| word,
+        )
+    }
+
+    fn print_model(input: &[u8]) -> Vec<u8> {
+        let mut out = [0; MODEL_ROOM];
+        let count = irwystl::print_model(input, &mut out);
+        out[..count].to_vec()
+    }
 }
 
 #[test]
@@ -261,6 +324,70 @@ fn every_operation_has_the_answer_due() {
 #[test]
 fn every_list_has_the_sheet_due() {
     check_lists::<Safe>();
+}
+
+#[test]
+fn every_model_is_the_one_due() {
+    check_models::<Safe>();
+}
+
+/// A model as an owner has it: read without rooms of the caller's, with the patterns
+/// of each output apart, and its words.
+#[test]
+fn drawn_models() {
+    let [mut read, mut refused] = [0, 0];
+    for seed in 0..600 {
+        let random = &mut Random::new(seed);
+        let text = models::model_text(random);
+        let (mut matrix, mut counts) = (vec![0; 16], vec![0; 15]);
+        let [mut masks, mut values] = [vec![0; text.len()], vec![0; text.len()]];
+        let due = Plain::read_model(&text, &mut matrix, &mut counts, &mut masks, &mut values);
+        let model = match irwystl::read_model(&text) {
+            Ok(model) => model,
+            Err(refusal) => {
+                let due = (due.number, due.a as usize, due.b as usize);
+                assert_eq!(refusal.numbers(), due, "seed {seed}");
+                refused += 1;
+                continue;
+            }
+        };
+        let ModelHead { n, k, patterns } = due.results;
+        assert_eq!((due.number, model.inputs(), model.outputs()), (0, n, k));
+        assert_eq!(model.matrix(), &matrix[..n]);
+        assert_eq!(model.counts(), &counts[..k]);
+        let all: Vec<_> = (0..k + 1).flat_map(|j| model.patterns(j)).collect();
+        let [masks, values] = [&masks[..patterns], &values[..patterns]];
+        assert!(all.iter().map(|pattern| &pattern.mask).eq(masks));
+        assert!(all.iter().map(|pattern| &pattern.values).eq(values));
+        for _ in 0..8 {
+            let x = random.below(1 << n);
+            let due = Plain::model_value(n, k, x, &matrix[..n], &counts[..k], masks, values);
+            assert_eq!(model.word(x).map(u64::from), Ok(due.results), "seed {seed}");
+        }
+        assert_eq!(model.word(1 << n), Err(Refusal::Limit));
+        read += 1;
+    }
+    assert!(read > 100 && refused > 100, "{read} {refused}");
+}
+
+/// The model of a text is what is printed for it, or the refusal.
+#[test]
+fn drawn_texts_to_models() {
+    let mut models = 0;
+    for seed in 0..1_500 {
+        let input = match Case::new(seed) {
+            Case::PrintModel { input } => input,
+            _ => continue,
+        };
+        let got = irwystl::model_of(&input).unwrap_or_else(|refusal| {
+            let (number, a, b) = refusal.numbers();
+            format!("refused {number} {a} {b}\n")
+        });
+        let due = Plain::print_model(&input);
+        assert_eq!(got, String::from_utf8_lossy(&due), "seed {seed}");
+        models += usize::from(got.starts_with('.'));
+    }
+    assert!(models > 20);
 }
 
 #[test]

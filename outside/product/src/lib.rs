@@ -4,8 +4,13 @@
 //! the Rust binding declares, as C has them: with a refusal, too, every result
 //! that comes back is looked at.
 
-use irwystl::raw::{self, ReadAnswer, RowMethodAnswer, TableMethodAnswer, TextAnswer, ValueAnswer};
-use reference::{Answer, Flat, FlatRoom, Measures, Operations, Row, Smaller, TextHead, SHEET_ROOM};
+use irwystl::raw::{
+    self, ModelAnswer, ReadAnswer, RowMethodAnswer, TableMethodAnswer, TextAnswer, ValueAnswer,
+};
+use reference::{
+    Answer, Flat, FlatRoom, Measures, ModelHead, Operations, Row, Smaller, TextHead, MODEL_ROOM,
+    SHEET_ROOM,
+};
 
 /// The product.
 pub struct Product;
@@ -53,6 +58,15 @@ fn head(r: ReadAnswer) -> Answer<TextHead> {
         block_type: r.block_type,
         type_line: r.type_line,
         rows: r.count,
+    };
+    answer(r.number, r.a, r.b, results)
+}
+
+fn model_head(r: ModelAnswer) -> Answer<ModelHead> {
+    let results = ModelHead {
+        n: r.n,
+        k: r.k,
+        patterns: r.patterns,
     };
     answer(r.number, r.a, r.b, results)
 }
@@ -377,6 +391,111 @@ impl Operations for Product {
         let mut out = vec![0; SHEET_ROOM];
         let count =
             unsafe { raw::irwystl_print_text(input.as_ptr(), input.len(), out.as_mut_ptr()) };
+        out.truncate(count);
+        out
+    }
+
+    fn write_model(
+        n: usize,
+        k: usize,
+        block_type: usize,
+        w: usize,
+        rows: Flat,
+        bytes: &mut [u8],
+    ) -> Answer<usize> {
+        bytes_written(unsafe {
+            raw::irwystl_write_model(
+                n,
+                k,
+                block_type,
+                w,
+                rows.masks.as_ptr(),
+                rows.masks.len(),
+                rows.values.as_ptr(),
+                rows.values.len(),
+                rows.words.as_ptr(),
+                rows.words.len(),
+                bytes.as_mut_ptr(),
+                bytes.len(),
+            )
+        })
+    }
+
+    fn write_model_records(
+        n: usize,
+        k: usize,
+        block_type: usize,
+        w: usize,
+        rows: &[Row],
+        bytes: &mut [u8],
+    ) -> Answer<usize> {
+        bytes_written(unsafe {
+            raw::irwystl_records_write_model(
+                n,
+                k,
+                block_type,
+                w,
+                given(rows),
+                rows.len(),
+                bytes.as_mut_ptr(),
+                bytes.len(),
+            )
+        })
+    }
+
+    fn read_model(
+        text: &[u8],
+        matrix: &mut [u32],
+        counts: &mut [usize],
+        masks: &mut [u32],
+        values: &mut [u32],
+    ) -> Answer<ModelHead> {
+        model_head(unsafe {
+            raw::irwystl_read_model(
+                text.as_ptr(),
+                text.len(),
+                matrix.as_mut_ptr(),
+                matrix.len(),
+                counts.as_mut_ptr(),
+                counts.len(),
+                masks.as_mut_ptr(),
+                masks.len(),
+                values.as_mut_ptr(),
+                values.len(),
+            )
+        })
+    }
+
+    fn model_value(
+        n: usize,
+        k: usize,
+        x: usize,
+        matrix: &[u32],
+        counts: &[usize],
+        masks: &[u32],
+        values: &[u32],
+    ) -> Answer<u64> {
+        value(unsafe {
+            raw::irwystl_model_value(
+                n,
+                k,
+                x,
+                matrix.as_ptr(),
+                matrix.len(),
+                counts.as_ptr(),
+                counts.len(),
+                masks.as_ptr(),
+                masks.len(),
+                values.as_ptr(),
+                values.len(),
+            )
+        })
+    }
+
+    fn print_model(input: &[u8]) -> Vec<u8> {
+        let mut out = vec![0; MODEL_ROOM];
+        let count =
+            unsafe { raw::irwystl_print_model(input.as_ptr(), input.len(), out.as_mut_ptr()) };
         out.truncate(count);
         out
     }

@@ -1,15 +1,16 @@
 //! The product against the plain operations of `reference`: seeded calls, valid
 //! and damaged, every operation with rows in flat slices and as records, answers
-//! and everything lent compared; imports of drawn texts; then the cases with answers
+//! and everything lent compared; models there and back, damaged, and with rooms near
+//! what they ask for; imports of drawn texts; then the cases with answers
 //! (outside/CASES.md). Lent storage holds a pattern before each call and is never
 //! cleared, so that a stray write shows. Each call of the product runs in a thread
 //! with 1 MiB of stack.
 
 use irwystl::{import_text, LINE_ROOM};
 use product::Product;
-use reference::data::{check_lists, check_operations};
-use reference::inputs::{Case, Random};
-use reference::{Operations, Plain, SHEET_ROOM};
+use reference::data::{check_lists, check_models, check_operations};
+use reference::inputs::{models, Case, Random};
+use reference::{Operations, Plain, MODEL_ROOM, SHEET_ROOM};
 use std::{env, thread};
 
 /// What the rooms of an import hold before the call.
@@ -65,6 +66,126 @@ fn every_operation_has_the_answer_due() {
 #[test]
 fn every_list_has_the_sheet_due() {
     small_stack(check_lists::<Product>);
+}
+
+#[test]
+fn every_model_is_the_one_due() {
+    small_stack(check_models::<Product>);
+}
+
+/// A call of the product and of the plain operation on the same: answers and all that
+/// was lent.
+fn same(name: &str, case: Case) -> Case {
+    let mut due = case;
+    let got = due.clone();
+    let due_answer = due.run::<Plain>();
+    let (answer, got) = small_stack(move || {
+        let mut got = got;
+        (got.run::<Product>(), got)
+    });
+    assert_eq!(answer, due_answer, "{name}");
+    assert_eq!(got, due, "{name}: what was lent");
+    due
+}
+
+/// The text of a case that writes a model, with its own length as the room, one byte
+/// less and a few more.
+fn written_in_rooms(name: &str, case: &Case) -> Option<Vec<u8>> {
+    let in_room = |room: usize| match case.clone() {
+        Case::WriteModel {
+            n,
+            k,
+            block_type,
+            w,
+            rows,
+            ..
+        } => Case::WriteModel {
+            n,
+            k,
+            block_type,
+            w,
+            rows,
+            bytes: vec![HELD; room],
+        },
+        other => other,
+    };
+    let written = |case: Case| match case {
+        Case::WriteModel { bytes, .. } => bytes,
+        _ => Vec::new(),
+    };
+    let whole = written(same(name, in_room(MODEL_ROOM)));
+    let length = whole.iter().position(|&byte| byte == HELD)?;
+    if length == 0 {
+        return None;
+    }
+    for room in [0, length - 1, length, length + 1, length + 9] {
+        let bytes = written(same(name, in_room(room)));
+        let due = if room < length { 0 } else { length };
+        assert_eq!(bytes[..due], whole[..due], "{name}");
+        assert!(bytes[due..].iter().all(|byte| *byte == HELD), "{name}");
+    }
+    Some(whole[..length].to_vec())
+}
+
+/// Written models of drawn lists, in rooms near their length, read back in rooms near
+/// what they ask for.
+#[test]
+fn drawn_models_in_rooms() {
+    let mut models = 0;
+    for seed in 0..draws() / 2 {
+        let case = Case::new(seed);
+        if !matches!(case, Case::WriteModel { .. }) {
+            continue;
+        }
+        let name = format!("seed {seed}");
+        if let Some(text) = written_in_rooms(&name, &case) {
+            read_in_rooms(&name, &text);
+            models += 1;
+        }
+    }
+    assert!(models > 0);
+}
+
+/// Reads a text with each room exact, one short and a little longer.
+fn read_in_rooms(name: &str, text: &[u8]) {
+    let [n, k, patterns] = models::rooms_due(text);
+    let longer = [n + 2, k + 2, patterns + 2];
+    let short = |due: usize| due.saturating_sub(1);
+    for [matrix, counts, masks, values] in [
+        [n, k, patterns, patterns],
+        [longer[0], longer[1], longer[2], longer[2]],
+        [short(n), k, patterns, patterns],
+        [n, short(k), patterns, patterns],
+        [n, k, short(patterns), patterns],
+        [n, k, patterns, short(patterns)],
+        [n, k, longer[2], patterns],
+    ] {
+        let case = Case::ReadModel {
+            text: text.to_vec(),
+            matrix: vec![0xABCD_1234; matrix],
+            counts: vec![0xABCD_1234_ABCD; counts],
+            masks: vec![0xABCD_1234; masks],
+            values: vec![0xABCD_1234; values],
+        };
+        same(name, case);
+    }
+}
+
+/// Texts of models damaged at random, in rooms for what they would hold.
+#[test]
+fn damaged_models() {
+    for seed in 0..draws() {
+        let text = models::damaged_model(&mut Random::new(seed));
+        let [n, k, patterns] = models::rooms_due(&text);
+        let case = Case::ReadModel {
+            text,
+            matrix: vec![0xABCD_1234; n],
+            counts: vec![0xABCD_1234_ABCD; k],
+            masks: vec![0xABCD_1234; patterns],
+            values: vec![0xABCD_1234; patterns],
+        };
+        same(&format!("seed {seed}"), case);
+    }
 }
 
 /// A name of an import: any bytes, at times longer than a line shows.

@@ -17,8 +17,8 @@ impl Refusal {
 
     /// The refusal with this number and these places.
     pub fn at(number: u32, a: usize, b: usize) -> Self {
-        // Places are indices of rows, of table entries, of steps and of lines
-        // among the first 134, so they always fit.
+        // Places are indices of rows, of table entries, of patterns, of steps and
+        // of lines, so they fit for everything that fits in memory here.
         let place = |p| u32::try_from(p).expect("a place fits in 32 bits");
         Refusal {
             number,
@@ -81,4 +81,13 @@ pub struct TextHead {
     pub block_type: usize,
     pub type_line: usize,
     pub rows: usize,
+}
+
+/// The results of reading a model: inputs, outputs, and the number of patterns of
+/// all outputs.
+#[derive(Clone, Copy, Debug, Default, PartialEq, Eq)]
+pub struct ModelHead {
+    pub n: usize,
+    pub k: usize,
+    pub patterns: usize,
 }

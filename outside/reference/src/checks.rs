@@ -2,6 +2,7 @@
 //! operation calls them in the order of the numbers. Not here: 9, which the row
 //! method finds at its steps, and 10, which the reader of text finds.
 
+use crate::model::Pattern;
 use crate::{missing, Refusal, Row, FD, FR, OUTPUTS};
 
 type Check = Result<(), Refusal>;
@@ -40,7 +41,7 @@ pub fn weight_limit(w: usize, n: usize) -> Check {
     demand((1..=n).contains(&w), 3)
 }
 
-/// 3: an asked t not below 2^n.
+/// 3: an asked t, or a model's x, not below 2^n.
 pub fn shift(t: usize, n: usize) -> Check {
     demand(t < 1 << n, 3)
 }
@@ -88,6 +89,18 @@ pub fn entries(k: usize, block_type: usize, table: &[u16]) -> Check {
 pub fn matrix_rows(n: usize, matrix: &[u32]) -> Check {
     match matrix.iter().position(|&row| row >= 1 << n) {
         Some(index) => Err(Refusal::at(6, 1, index)),
+        None => Ok(()),
+    }
+}
+
+/// 6: the least index of a malformed pattern.
+pub fn patterns(n: usize, patterns: &[Pattern]) -> Check {
+    let malformed = |pattern: &Pattern| {
+        let Pattern { mask, values } = *pattern;
+        mask >= 1 << n || values >= 1 << n || values & !mask != 0
+    };
+    match patterns.iter().position(malformed) {
+        Some(index) => Err(Refusal::at(6, 0, index)),
         None => Ok(()),
     }
 }

@@ -1,11 +1,13 @@
 //! An implementation against cases with their answers (outside/CASES.md): the
 //! files of `crates/run_operations/data` have one operation a line with its answer,
-//! `crates/run_texts/data` texts for the program with what it prints. All but
-//! `ranges.txt` and a few texts are worked out by a third program. Lent storage is
-//! looked at in full: what an answer does not write holds what it held.
+//! `crates/run_texts/data` texts for the program with what it prints, and
+//! `crates/run_models/data` both for models. All but `ranges.txt` and a few texts are
+//! worked out by a third program. Lent storage is looked at in full: what an answer
+//! does not write holds what it held.
 
+use crate::blif::{self, Network};
 use crate::inputs::LentRows;
-use crate::{Answer, Flat, Operations, Row, FD, FR};
+use crate::{Answer, Flat, ModelHead, Operations, Row, FD, FR, OUTPUTS, ROW_INPUTS};
 use std::fmt::{Debug, Display};
 use std::fs;
 use std::path::PathBuf;
@@ -26,6 +28,12 @@ const HELD_ENTRY: u16 = 0xABCD;
 
 /// What lent bytes hold before the call.
 const HELD_BYTE: u8 = 0xAB;
+
+/// What lent counts hold before the call.
+const HELD_COUNT: usize = 0xABCD_1234_ABCD;
+
+/// Where the cases of models are.
+const MODELS: &str = "../../crates/run_models/data";
 
 fn from_here(path: &str) -> PathBuf {
     PathBuf::from(env!("CARGO_MANIFEST_DIR")).join(path)
@@ -184,9 +192,90 @@ fn answer<O: Operations>(line: &str) -> (String, Option<Vec<u8>>) {
                 |rows, out| O::sheet(n, k, block_type, w, rows, out),
             );
         }
+        "blif_write" => {
+            let [n, k, block_type] = block();
+            let w = parse(words[4]);
+            return text_answer(
+                parse(words[5]),
+                &rows(words[6]),
+                |rows, out| O::write_model_records(n, k, block_type, w, rows, out),
+                |rows, out| O::write_model(n, k, block_type, w, rows, out),
+            );
+        }
+        "blif_read" => {
+            let room = [parse(words[1]), parse(words[2]), parse(words[3])];
+            let (got, model) = read_model::<O>(&model_file(words[4]), room);
+            let head = got.results;
+            format!(
+                "{} {} {} {} {}",
+                places(&got),
+                head.n,
+                head.k,
+                head.patterns,
+                model.joined(),
+            )
+        }
+        "blif_value" => {
+            let model = model_file(words[2]);
+            let (read, held) = read_model::<O>(&model, [ROW_INPUTS, OUTPUTS, model.len()]);
+            let ModelHead { n, k, .. } = read.results;
+            assert_eq!(read.number, 0);
+            let Held {
+                matrix,
+                counts,
+                masks,
+                values,
+            } = held;
+            let x = parse(words[1]);
+            let got = O::model_value(n, k, x, &matrix, &counts, &masks, &values);
+            // what the model's text says in BLIF at large
+            let network = Network::read(&String::from_utf8(model).unwrap()).unwrap();
+            assert_eq!(blif::word(&network, x as u32), Ok(got.results as u32));
+            format!("{} {}", places(&got), got.results)
+        }
         other => panic!("no operation {other}"),
     };
     (said, None)
+}
+
+/// A file of a model.
+fn model_file(name: &str) -> Vec<u8> {
+    fs::read(from_here(MODELS).join(name)).unwrap()
+}
+
+/// What reading a model wrote.
+struct Held {
+    matrix: Vec<u32>,
+    counts: Vec<usize>,
+    masks: Vec<u32>,
+    values: Vec<u32>,
+}
+
+impl Held {
+    /// Matrix, counts and patterns, as a line has them.
+    fn joined(&self) -> String {
+        let patterns = self.masks.iter().zip(&self.values);
+        let patterns: Vec<String> = patterns.map(|(m, v)| format!("{m}:{v}")).collect();
+        let [matrix, counts] = [joined(&self.matrix), joined(&self.counts)];
+        format!("{matrix} {counts} {}", joined(&patterns))
+    }
+}
+
+/// The answer of reading a model, into room for so many numbers, counts and
+/// patterns, and what it wrote.
+fn read_model<O: Operations>(text: &[u8], room: [usize; 3]) -> (Answer<ModelHead>, Held) {
+    let mut matrix = vec![HELD; room[0]];
+    let mut counts = vec![HELD_COUNT; room[1]];
+    let [mut masks, mut values] = [vec![HELD; room[2]], vec![HELD; room[2]]];
+    let got = O::read_model(text, &mut matrix, &mut counts, &mut masks, &mut values);
+    let ModelHead { n, k, patterns } = got.results;
+    let held = Held {
+        matrix: written(&matrix, n, HELD).to_vec(),
+        counts: written(&counts, k, HELD_COUNT).to_vec(),
+        masks: written(&masks, patterns, HELD).to_vec(),
+        values: written(&values, patterns, HELD).to_vec(),
+    };
+    (got, held)
 }
 
 fn table_method_answer<O: Operations>([n, k, block_type]: [usize; 3], words: &[&str]) -> String {
@@ -302,13 +391,18 @@ fn written_out(line: &str) -> String {
     line.split(' ').map(items).collect::<Vec<_>>().join(" ")
 }
 
-/// Whether what an operation answered is what a line has.
+/// Whether what an operation answered is what a line has. A model stands in a file
+/// that the line names.
 fn is_due((said, text): &(String, Option<Vec<u8>>), due: &str) -> bool {
+    let text_due = |word: &str| match word.ends_with(".blif") {
+        true => model_file(word),
+        false => text_of(word),
+    };
     match text {
         None => said == due,
         Some(bytes) => {
-            let due_text = due.strip_prefix(&format!("{said} "));
-            due_text.map(text_of).as_ref() == Some(bytes)
+            let word = due.strip_prefix(&format!("{said} "));
+            word.map(text_due).as_ref() == Some(bytes)
         }
     }
 }
@@ -324,22 +418,61 @@ pub fn check_operations<O: Operations>() {
         ("type_texts.txt", 102),
         ("ranges.txt", 176),
     ] {
-        let path = from_here("../../crates/run_operations/data").join(name);
-        let text = fs::read_to_string(path).unwrap();
-        let mut count = 0;
-        for (index, line) in text.lines().enumerate() {
-            let line = written_out(line);
-            let (given, due) = line.split_once(" => ").unwrap();
-            let got = answer::<O>(given);
-            assert!(
-                is_due(&got, due),
-                "{name}, line {}: {given}: {got:?}",
-                index + 1
-            );
-            count += 1;
-        }
-        assert_eq!(count, cases, "{name}");
+        check_file::<O>("../../crates/run_operations/data", name, cases);
     }
+}
+
+/// Every line of a file, so many, has the answer that stands beside it.
+fn check_file<O: Operations>(folder: &str, name: &str, cases: usize) {
+    let text = fs::read_to_string(from_here(folder).join(name)).unwrap();
+    let mut count = 0;
+    for (index, line) in text.lines().enumerate() {
+        let line = written_out(line);
+        let (given, due) = line.split_once(" => ").unwrap();
+        let got = answer::<O>(given);
+        assert!(
+            is_due(&got, due),
+            "{name}, line {}: {given}: {got:?}",
+            index + 1
+        );
+        count += 1;
+    }
+    assert_eq!(count, cases, "{name}");
+}
+
+/// Every operation on models of `crates/run_models/data` has the answer that stands
+/// beside it; every list there has its model, or the refusal, and every text that
+/// is no model its refusal.
+pub fn check_models<O: Operations>() {
+    check_file::<O>(MODELS, "operations-04.txt", 241);
+    let [mut models, mut refused, mut bad] = [0; 3];
+    for entry in fs::read_dir(from_here(MODELS)).unwrap() {
+        let path = entry.unwrap().path();
+        let text = || fs::read(&path).unwrap();
+        let answer = || fs::read_to_string(path.with_extension("answer")).unwrap();
+        let end = path.extension().and_then(|end| end.to_str());
+        let (got, due) = match end {
+            Some("list") if path.with_extension("blif").exists() => {
+                models += 1;
+                let due = fs::read_to_string(path.with_extension("blif")).unwrap();
+                (O::print_model(&text()), due)
+            }
+            Some("list") => {
+                refused += 1;
+                (O::print_model(&text()), answer())
+            }
+            Some("bad") => {
+                bad += 1;
+                let text = text();
+                let (got, _) = read_model::<O>(&text, [ROW_INPUTS, OUTPUTS, text.len()]);
+                let said = format!("refused {}\n", places(&got));
+                (said.into_bytes(), answer())
+            }
+            _ => continue,
+        };
+        assert_eq!(String::from_utf8_lossy(&got), due, "{}", path.display());
+    }
+    assert_eq!([models, refused, bad], [38, 7, 43]);
 }
 
 /// Every text of `crates/run_texts/data` has the sheet, or the refusal, that stands beside it.

@@ -1,6 +1,6 @@
 //! The same operations as one would write them for speed, in plain safe Rust:
 //! the baseline for timing. Answers and refusals are those of the other
-//! modules, and so are the checks and the texts.
+//! modules, and so are the checks, row text and the sheet.
 //!
 //! The candidates of a small weight limit come from a printed list (02, Ticket 3).
 //! R is worked out once for every candidate: over a table by counting each pair
@@ -19,8 +19,11 @@ use crate::{
 };
 use std::iter::once;
 
+mod model;
+
 pub use crate::table::table_value;
 pub use crate::text::{read_text, write_text};
+pub use model::{model_value, print_model, read_model, write_model};
 
 /// The numbers below 2^16 with one to three one-bits, smallest first (02,
 /// Ticket 3).

@@ -1,13 +1,15 @@
 //! Inputs from a seed, the same for the same seed: tables, lists of disjoint
-//! rows, matrices, row texts, and all of these damaged; their types; numbers in
-//! and out of range; rooms short, exact and long. [`Case::new`] draws a whole call of one
-//! operation with everything it is lent.
+//! rows, matrices, row texts, models ([`models`]), and all of these damaged; their
+//! types; numbers in and out of range; rooms short, exact and long. [`Case::new`]
+//! draws a whole call of one operation with everything it is lent.
+
+pub mod models;
 
 use crate::list::Step;
 use crate::{
-    fast, matrix, missing, write_text, Answer, Flat, FlatRoom, List, Operations, Row, Smaller,
-    TextHead, FD, FILL_ROWS, FR, NO_OUTPUT, OUTPUTS, ROWS, ROW_INPUTS, SHEET_ROOM, SMALLER_ROWS,
-    TABLE_INPUTS, TEXT_ROOM,
+    fast, matrix, missing, write_text, Answer, Flat, FlatRoom, List, ModelHead, Operations, Row,
+    Smaller, TextHead, FD, FILL_ROWS, FR, MODEL_ROOM, NO_OUTPUT, OUTPUTS, ROWS, ROW_INPUTS,
+    SHEET_ROOM, SMALLER_ROWS, TABLE_INPUTS, TEXT_ROOM,
 };
 
 /// A source of numbers that depend on the seed alone (SplitMix64).
@@ -316,14 +318,14 @@ pub fn damaged_text(random: &mut Random) -> Vec<u8> {
     text
 }
 
-/// One damage to a text.
-fn damage(random: &mut Random, text: &mut Vec<u8>) {
+/// One damage to the bytes of a text, for which these are usual.
+fn damage_bytes(random: &mut Random, text: &mut Vec<u8>, usual: &[u8]) {
     let place = random.below(text.len() + 1);
-    match random.below(16) {
+    match random.below(9) {
         // A byte flipped, another byte, one more, one less.
         0 if place < text.len() => text[place] ^= 1 << random.below(8),
-        1 if place < text.len() => text[place] = random.pick(b"01- .\n\r\t2e\0"),
-        2 => text.insert(place, random.pick(b"01- .\n\r\t\0")),
+        1 if place < text.len() => text[place] = random.pick(usual),
+        2 => text.insert(place, random.pick(usual)),
         3 if place < text.len() => drop(text.remove(place)),
         // Cut short, or its last LF gone.
         4 => text.truncate(place),
@@ -336,10 +338,17 @@ fn damage(random: &mut Random, text: &mut Vec<u8>) {
             text.splice(place..place, vec![byte; more]);
         }
         // CR before each LF.
-        8 => {
+        _ => {
             let lines = text.split(|&byte| byte == b'\n');
             *text = lines.collect::<Vec<_>>().join(&b"\r\n"[..]);
         }
+    }
+}
+
+/// One damage to a text.
+fn damage(random: &mut Random, text: &mut Vec<u8>) {
+    match random.below(16) {
+        0..=8 => damage_bytes(random, text, b"01- .\n\r\t2e\0"),
         // A heading's number replaced by one that has form, or has not.
         9..=11 => {
             let line = random.below(4);
@@ -577,13 +586,40 @@ pub enum Case {
     Program {
         input: Vec<u8>,
     },
+    WriteModel {
+        n: usize,
+        k: usize,
+        block_type: usize,
+        w: usize,
+        rows: LentRows,
+        bytes: Vec<u8>,
+    },
+    ReadModel {
+        text: Vec<u8>,
+        matrix: Vec<u32>,
+        counts: Vec<usize>,
+        masks: Vec<u32>,
+        values: Vec<u32>,
+    },
+    ModelValue {
+        n: usize,
+        k: usize,
+        x: usize,
+        matrix: Vec<u32>,
+        counts: Vec<usize>,
+        masks: Vec<u32>,
+        values: Vec<u32>,
+    },
+    PrintModel {
+        input: Vec<u8>,
+    },
 }
 
 impl Case {
     /// The case of a seed.
     pub fn new(seed: u64) -> Case {
         let random = &mut Random::new(seed);
-        match random.below(10) {
+        match random.below(14) {
             0 => {
                 let ([n, k, block_type], table) = any_table(random);
                 let t = number(random, 0, (1 << n.min(16)) - 1);
@@ -718,7 +754,67 @@ impl Case {
                     bytes,
                 }
             }
-            _ => Case::Program {
+            9 => Case::Program {
+                input: any_text(random),
+            },
+            10 => {
+                let ([n, k, block_type, w], rows) = method_list(random);
+                let mut bytes = vec![0; MODEL_ROOM];
+                let written = fast::write_model(n, k, block_type, w, rows.list(), &mut bytes);
+                // The model's own length, or any where there is no model.
+                let due = match written.number {
+                    0 => written.results,
+                    _ => random.below(999),
+                };
+                let room = models::near(random, due);
+                Case::WriteModel {
+                    n,
+                    k,
+                    block_type,
+                    w,
+                    rows,
+                    bytes: (0..room).map(|_| random.word(8) as u8).collect(),
+                }
+            }
+            11 => {
+                let text = models::model_text(random);
+                let [n, k, patterns] = models::rooms_due(&text);
+                let mut lent = |due: usize| -> Vec<u32> {
+                    let room = models::near(random, due);
+                    (0..room).map(|_| random.word(32)).collect()
+                };
+                let [matrix, counts, masks] = [lent(n), lent(k), lent(patterns)];
+                let mut values = masks.clone();
+                if random.one_in(12) {
+                    uneven(random, &mut values);
+                }
+                Case::ReadModel {
+                    text,
+                    matrix,
+                    counts: counts.into_iter().map(|count| count as usize).collect(),
+                    masks,
+                    values,
+                }
+            }
+            12 => {
+                let models::Asked {
+                    numbers: [n, k, x],
+                    matrix,
+                    counts,
+                    masks,
+                    values,
+                } = models::asked(random);
+                Case::ModelValue {
+                    n,
+                    k,
+                    x,
+                    matrix,
+                    counts,
+                    masks,
+                    values,
+                }
+            }
+            _ => Case::PrintModel {
                 input: any_text(random),
             },
         }
@@ -831,6 +927,43 @@ impl Case {
                 *input = O::program(input);
                 Answer::default()
             }
+            Case::WriteModel {
+                n,
+                k,
+                block_type,
+                w,
+                rows,
+                bytes,
+            } => flat(
+                O::write_model(*n, *k, *block_type, *w, rows.list(), bytes),
+                |count| vec![count as u64],
+            ),
+            Case::ReadModel {
+                text,
+                matrix,
+                counts,
+                masks,
+                values,
+            } => flat(
+                O::read_model(text, matrix, counts, masks, values),
+                model_results,
+            ),
+            Case::ModelValue {
+                n,
+                k,
+                x,
+                matrix,
+                counts,
+                masks,
+                values,
+            } => flat(
+                O::model_value(*n, *k, *x, matrix, counts, masks, values),
+                |word| vec![word],
+            ),
+            Case::PrintModel { input } => {
+                *input = O::print_model(input);
+                Answer::default()
+            }
         }
     }
 
@@ -922,6 +1055,20 @@ impl Case {
                     |count| vec![count as u64],
                 )
             }
+            Case::WriteModel {
+                n,
+                k,
+                block_type,
+                w,
+                rows,
+                bytes,
+            } => {
+                let rows = rows.records()?;
+                flat(
+                    O::write_model_records(*n, *k, *block_type, *w, &rows, bytes),
+                    |count| vec![count as u64],
+                )
+            }
             _ => return None,
         };
         Some(answer)
@@ -953,6 +1100,11 @@ fn head_results(head: TextHead) -> Vec<u64> {
     [n, k, block_type, type_line, rows]
         .map(|result| result as u64)
         .to_vec()
+}
+
+fn model_results(head: ModelHead) -> Vec<u64> {
+    let ModelHead { n, k, patterns } = head;
+    [n, k, patterns].map(|result| result as u64).to_vec()
 }
 
 /// n, k, the type and a table, mostly within their ranges. At times it has 65,535

@@ -1,28 +1,31 @@
 //! The operations of 01 in plain Rust, with the requests of 02 that are met. A
 //! client gets: single values of R, the table method, restoring, the row method,
-//! filling, reading and writing row text, the sheet, and what the program prints.
-//! Every operation takes any inputs and answers with a number, the places A and
-//! B, and its results. A type goes with every list and table.
+//! filling, reading and writing row text, the sheet, models in BLIF, and what the
+//! program prints. Every operation takes any inputs and answers with a number, the
+//! places A and B, and its results. A type goes with every list and table.
 //!
 //! In order: [`answer`] and [`rows`] hold what goes in and out, [`types`] what a
 //! missing point means, [`checks`] the refusals, [`matrix`] the basis and its
 //! inverse, [`table`] and [`list`] the operations on full tables and on rows,
-//! [`text`] and [`sheet`] the texts.
+//! [`text`], [`sheet`] and [`model`] the texts.
 //! These are written to be read beside 01 and take the long way wherever that
 //! is the plain one. [`fast`] has the same operations as one would write them
 //! for speed, [`operations`] both under one trait, [`inputs`] makes inputs
-//! from a seed, and [`data`] holds an implementation to the cases with answers
-//! (outside/CASES.md).
+//! from a seed, [`data`] holds an implementation to the cases with answers
+//! (outside/CASES.md), and [`blif`] evaluates any BLIF of covers, whatever its
+//! names, so that a model's text is judged by what it says in that language.
 //!
 //! Not here: anything of the proved product. The two share nothing but 01 and 02.
 
 pub mod answer;
+pub mod blif;
 pub mod checks;
 pub mod data;
 pub mod fast;
 pub mod inputs;
 pub mod list;
 pub mod matrix;
+pub mod model;
 pub mod operations;
 pub mod rows;
 pub mod sheet;
@@ -30,7 +33,7 @@ pub mod table;
 pub mod text;
 pub mod types;
 
-pub use answer::{Answer, Measures, Refusal, Smaller, TextHead};
+pub use answer::{Answer, Measures, ModelHead, Refusal, Smaller, TextHead};
 pub use operations::{Fast, Operations, Plain};
 pub use plain::*;
 pub use rows::{Flat, FlatRoom, List, Room, Row};
@@ -39,6 +42,7 @@ pub use types::{missing, FD, FR};
 /// The operations that are written to be read beside 01.
 mod plain {
     pub use crate::list::{fill, row_method, row_value};
+    pub use crate::model::{model_value, print_model, read_model, write_model};
     pub use crate::sheet::{program, sheet};
     pub use crate::table::{restore, table_method, table_value};
     pub use crate::text::{read_text, write_text};
@@ -70,6 +74,10 @@ pub const TEXT_ROOM: usize = 4_255;
 
 /// The room to lend for a sheet.
 pub const SHEET_ROOM: usize = 17_518;
+
+/// Room for any model that is written: 16 inputs, 15 outputs and 512 smaller rows
+/// give no longer one. A model asks for its own length alone.
+pub const MODEL_ROOM: usize = 156_420;
 
 /// The program reads at most this many bytes.
 pub const PROGRAM_READS: usize = 8_192;

@@ -1,7 +1,7 @@
 //! All operations under one trait, each operation on rows in both forms, so that
 //! one test or one timing runs over any implementation of 01 and 02.
 
-use crate::{Answer, Flat, FlatRoom, Measures, Row, Smaller, TextHead};
+use crate::{Answer, Flat, FlatRoom, Measures, ModelHead, Row, Smaller, TextHead};
 
 /// An implementation of 01 and 02. What a function is lent and gives is said at the
 /// function of the same name in this library.
@@ -111,6 +111,44 @@ pub trait Operations {
     ) -> Answer<usize>;
 
     fn program(input: &[u8]) -> Vec<u8>;
+
+    fn write_model(
+        n: usize,
+        k: usize,
+        block_type: usize,
+        w: usize,
+        rows: Flat,
+        bytes: &mut [u8],
+    ) -> Answer<usize>;
+
+    fn write_model_records(
+        n: usize,
+        k: usize,
+        block_type: usize,
+        w: usize,
+        rows: &[Row],
+        bytes: &mut [u8],
+    ) -> Answer<usize>;
+
+    fn read_model(
+        text: &[u8],
+        matrix: &mut [u32],
+        counts: &mut [usize],
+        masks: &mut [u32],
+        values: &mut [u32],
+    ) -> Answer<ModelHead>;
+
+    fn model_value(
+        n: usize,
+        k: usize,
+        x: usize,
+        matrix: &[u32],
+        counts: &[usize],
+        masks: &[u32],
+        values: &[u32],
+    ) -> Answer<u64>;
+
+    fn print_model(input: &[u8]) -> Vec<u8>;
 }
 
 /// The operations that are written to be read beside 01.
@@ -293,6 +331,59 @@ macro_rules! operations_of {
             fn program(input: &[u8]) -> Vec<u8> {
                 use $module as operations;
                 operations::program(input)
+            }
+
+            fn write_model(
+                n: usize,
+                k: usize,
+                block_type: usize,
+                w: usize,
+                rows: Flat,
+                bytes: &mut [u8],
+            ) -> Answer<usize> {
+                use $module as operations;
+                operations::write_model(n, k, block_type, w, rows, bytes)
+            }
+
+            fn write_model_records(
+                n: usize,
+                k: usize,
+                block_type: usize,
+                w: usize,
+                rows: &[Row],
+                bytes: &mut [u8],
+            ) -> Answer<usize> {
+                use $module as operations;
+                operations::write_model(n, k, block_type, w, rows, bytes)
+            }
+
+            fn read_model(
+                text: &[u8],
+                matrix: &mut [u32],
+                counts: &mut [usize],
+                masks: &mut [u32],
+                values: &mut [u32],
+            ) -> Answer<ModelHead> {
+                use $module as operations;
+                operations::read_model(text, matrix, counts, masks, values)
+            }
+
+            fn model_value(
+                n: usize,
+                k: usize,
+                x: usize,
+                matrix: &[u32],
+                counts: &[usize],
+                masks: &[u32],
+                values: &[u32],
+            ) -> Answer<u64> {
+                use $module as operations;
+                operations::model_value(n, k, x, matrix, counts, masks, values)
+            }
+
+            fn print_model(input: &[u8]) -> Vec<u8> {
+                use $module as operations;
+                operations::print_model(input)
             }
         }
     };

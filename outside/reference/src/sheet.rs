@@ -2,7 +2,7 @@
 
 use crate::list::{check_method, find, Find, Found};
 use crate::text::{push_bits, row_line};
-use crate::{checks, read_text, Answer, List, Row, PROGRAM_READS, ROWS, SHEET_ROOM};
+use crate::{checks, read_text, Answer, List, Row, TextHead, PROGRAM_READS, ROWS, SHEET_ROOM};
 
 /// Makes the sheet in the lent bytes, and gives the number of its bytes.
 pub fn sheet(
@@ -65,6 +65,19 @@ pub fn program(input: &[u8]) -> Vec<u8> {
 
 /// What the program prints, with this way to find the row method's results.
 pub(crate) fn print(input: &[u8], find: Find) -> Vec<u8> {
+    print_made(input, SHEET_ROOM, |head, w, rows, bytes| {
+        answer_sheet(head.n, head.k, head.block_type, w, rows, bytes, find)
+    })
+}
+
+/// What is printed for these bytes where `make` writes it, from what the text tells,
+/// the weight limit and the rows, into so much room: that, or the refusal in one
+/// line.
+pub(crate) fn print_made(
+    input: &[u8],
+    room: usize,
+    make: impl FnOnce(TextHead, usize, &[Row], &mut [u8]) -> Answer<usize>,
+) -> Vec<u8> {
     let text = &input[..input.len().min(PROGRAM_READS)];
     let mut rows = [Row::default(); ROWS];
     let read = read_text(text, &mut rows[..]);
@@ -72,10 +85,8 @@ pub(crate) fn print(input: &[u8], find: Find) -> Vec<u8> {
         return refused(read.number, read.a, read.b);
     }
     let head = read.results;
-    let mut bytes = vec![0; SHEET_ROOM];
-    let list = &rows[..head.rows];
-    let w = head.n.min(3);
-    let made = answer_sheet(head.n, head.k, head.block_type, w, list, &mut bytes, find);
+    let mut bytes = vec![0; room];
+    let made = make(head, head.n.min(3), &rows[..head.rows], &mut bytes);
     if made.number != 0 {
         return refused(made.number, made.a, made.b);
     }

@@ -20,10 +20,7 @@ pub fn read_text(text: &[u8], mut room: impl Room) -> Answer<TextHead> {
 
 /// The headings and the rows of a text, or its refusal.
 fn parse(text: &[u8], room: usize) -> Result<(TextHead, Vec<Row>), Refusal> {
-    let mut lines = Lines {
-        rest: text,
-        line: 0,
-    };
+    let mut lines = Lines::new(text);
     let n = lines.heading(b".i ")?;
     let k = lines.heading(b".o ")?;
     let told = lines.type_line();
@@ -36,6 +33,7 @@ fn parse(text: &[u8], room: usize) -> Result<(TextHead, Vec<Row>), Refusal> {
     for _ in 0..count {
         rows.push(lines.row(n, k)?);
     }
+    lines.is(".e")?;
     lines.end()?;
     let head = TextHead {
         n,
@@ -48,7 +46,7 @@ fn parse(text: &[u8], room: usize) -> Result<(TextHead, Vec<Row>), Refusal> {
 }
 
 /// The lines of a text, one after the other.
-struct Lines<'a> {
+pub(crate) struct Lines<'a> {
     /// What follows the lines that were taken.
     rest: &'a [u8],
     /// The number of the line taken last, from 1.
@@ -56,14 +54,21 @@ struct Lines<'a> {
 }
 
 impl<'a> Lines<'a> {
+    pub(crate) fn new(text: &'a [u8]) -> Lines<'a> {
+        Lines {
+            rest: text,
+            line: 0,
+        }
+    }
+
     /// Refusal 10 at the line taken last.
-    fn lacks_form(&self) -> Refusal {
+    pub(crate) fn lacks_form(&self) -> Refusal {
         Refusal::at(10, self.line, 0)
     }
 
     /// Takes the next line, without its LF. Where the text ends first, the line
     /// that was due lacks form.
-    fn take(&mut self) -> Result<&'a [u8], Refusal> {
+    pub(crate) fn take(&mut self) -> Result<&'a [u8], Refusal> {
         self.line += 1;
         let length = self.rest.iter().position(|&byte| byte == b'\n');
         let length = length.ok_or(self.lacks_form())?;
@@ -97,11 +102,16 @@ impl<'a> Lines<'a> {
         row(line, n, k).ok_or(self.lacks_form())
     }
 
-    /// Takes ".e", after which nothing may follow.
-    fn end(&mut self) -> Result<(), Refusal> {
-        if self.take()? != b".e" {
+    /// Takes the line that is due.
+    pub(crate) fn is(&mut self, due: &str) -> Result<(), Refusal> {
+        if self.take()? != due.as_bytes() {
             return Err(self.lacks_form());
         }
+        Ok(())
+    }
+
+    /// Nothing may follow the lines that were taken.
+    pub(crate) fn end(&mut self) -> Result<(), Refusal> {
         if !self.rest.is_empty() {
             self.line += 1;
             return Err(self.lacks_form());

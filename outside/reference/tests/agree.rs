@@ -6,7 +6,7 @@ use reference::{fast, matrix, Fast, Operations, Plain, Row, FD, FR};
 use std::collections::BTreeMap;
 
 /// How many seeds the cases below are drawn from.
-const SEEDS: u64 = 6_000;
+const SEEDS: u64 = 8_400;
 
 #[test]
 fn plain_and_fast_give_the_same_and_refusals_change_nothing() {
@@ -31,7 +31,8 @@ fn plain_and_fast_give_the_same_and_refusals_change_nothing() {
             assert!(answer.results.iter().all(|&result| result == 0));
         }
         let number = match &plain {
-            Case::Program { input } => refusal(input),
+            Case::Program { input } => refusal(input, "sheet 1\n"),
+            Case::PrintModel { input } => refusal(input, ".model block\n"),
             _ => answer.number,
         };
         let name = format!("{case:?}");
@@ -51,6 +52,10 @@ fn plain_and_fast_give_the_same_and_refusals_change_nothing() {
         ("WriteText", &[0, 1, 2, 3, 4, 5, 6]),
         ("Sheet", &[0, 1, 2, 3, 4, 5, 6, 7, 9]),
         ("Program", &[0, 1, 2, 4, 7, 10]),
+        ("WriteModel", &[0, 1, 2, 3, 4, 5, 6, 7, 9]),
+        ("ReadModel", &[0, 5, 8, 10]),
+        ("ModelValue", &[0, 1, 2, 3, 4, 6, 8]),
+        ("PrintModel", &[0, 1, 2, 4, 7, 10]),
     ] {
         let met: Vec<u32> = seen
             .keys()
@@ -60,7 +65,8 @@ fn plain_and_fast_give_the_same_and_refusals_change_nothing() {
         for number in numbers {
             assert!(met.contains(number), "{name} never answers {number}");
         }
-        let may = |number: &u32| numbers.contains(number) || (name == "Program" && *number == 9);
+        let prints = ["Program", "PrintModel"].contains(&name);
+        let may = |number: &u32| numbers.contains(number) || prints && *number == 9;
         assert!(met.iter().all(may), "{name}: {met:?}");
     }
 }
@@ -77,13 +83,13 @@ fn the_printed_list_has_the_candidates() {
     }
 }
 
-/// The number that the program's print shows.
-fn refusal(printed: &[u8]) -> u32 {
+/// The number that the program's print shows; what is no refusal begins so.
+fn refusal(printed: &[u8], begins: &str) -> u32 {
     let printed = std::str::from_utf8(printed).unwrap();
     match printed.strip_prefix("refused ") {
         Some(places) => places.split(' ').next().unwrap().parse().unwrap(),
         None => {
-            assert!(printed.starts_with("sheet 1\n"));
+            assert!(printed.starts_with(begins));
             0
         }
     }

@@ -1,6 +1,6 @@
 //! The reference against the cases with answers (outside/CASES.md).
 
-use reference::data::{check_lists, check_operations};
+use reference::data::{check_lists, check_models, check_operations};
 use reference::{Fast, Plain};
 
 #[test]
@@ -21,4 +21,14 @@ fn every_list_has_the_sheet_due() {
 #[test]
 fn every_list_has_the_sheet_due_fast() {
     check_lists::<Fast>();
+}
+
+#[test]
+fn every_model_is_the_one_due() {
+    check_models::<Plain>();
+}
+
+#[test]
+fn every_model_is_the_one_due_fast() {
+    check_models::<Fast>();
 }
