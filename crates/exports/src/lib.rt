@@ -2,6 +2,8 @@
 // is passed as a pointer and then a length, an array as a pointer alone, and an answer comes back as a struct of numbers. The names begin
 // with irwystl_, those on rows that are lent as records with irwystl_records_. This crate holds nothing else.
 use block::Answer;
+use block::MODEL_ROOM;
+use block::ModelAnswer;
 use block::ReadAnswer;
 use block::Row;
 use block::RowMethodAnswer;
@@ -11,11 +13,13 @@ use block::TextAnswer;
 use block::ValueAnswer;
 use importing::Imported;
 ghost use Rattle.block.specs.Words.{rowsOf};
+ghost use Rattle.block.specs.ModelRead.{patternsFlat};
 ghost use Rattle.promises.specs.Lent.{lentFlat, lentRecords};
 ghost use Rattle.promises.specs.Tables.{TableValuePromise, TableMethodPromise, RestorePromise};
 ghost use Rattle.promises.specs.Lists.{RowValuePromise, RowMethodPromise, FillPromise};
 ghost use Rattle.promises.specs.Texts.{WritePromise, ReadPromise};
 ghost use Rattle.promises.specs.Sheets.{SheetPromise, PrintPromise};
+ghost use Rattle.promises.specs.Models.{WriteModelPromise, ReadModelPromise, ModelValuePromise, PrintModelPromise};
 ghost use Rattle.importing.specs.Import.{ImportPromise};
 
 // ---- tables
@@ -262,6 +266,68 @@ pub extern "C" fn irwystl_records_sheet(
     records::sheet(n, k, block_type, w, rows, out)
 }
 
+#[no_mangle]
+pub extern "C" fn irwystl_records_write_model(
+    n: usize,
+    k: usize,
+    block_type: usize,
+    w: usize,
+    rows: &[Row],
+    out: &mut [u8],
+) -> TextAnswer
+    ensures { λ r. ⌜ WriteModelPromise n k «block_type» w (now (rows .entry)) (now (out .entry)) r (now (out .exit)) ⌝ }
+{
+    records::write_model(n, k, block_type, w, rows, out)
+}
+
+// ---- models in BLIF
+
+#[no_mangle]
+pub extern "C" fn irwystl_write_model(
+    n: usize,
+    k: usize,
+    block_type: usize,
+    w: usize,
+    masks: &[u32],
+    values: &[u32],
+    words: &[u32],
+    out: &mut [u8],
+) -> TextAnswer
+    ensures { λ r. ⌜ WriteModelPromise n k «block_type» w (rowsOf (now (masks .entry)) (now (values .entry)) (now (words .entry)))
+        (now (out .entry)) r (now (out .exit)) ⌝ }
+{
+    models::write_model(n, k, block_type, w, masks, values, words, out)
+}
+
+#[no_mangle]
+pub extern "C" fn irwystl_read_model(
+    text: &[u8],
+    matrix: &mut [u32],
+    counts: &mut [usize],
+    masks: &mut [u32],
+    values: &mut [u32],
+) -> ModelAnswer
+    ensures { λ r. ⌜ ReadModelPromise (now (text .entry)) (now (matrix .entry)) (now (counts .entry)) (now (masks .entry)) (now (values .entry))
+        r (now (matrix .exit)) (now (counts .exit)) (now (masks .exit)) (now (values .exit)) ⌝ }
+{
+    models::read_model(text, matrix, counts, masks, values)
+}
+
+#[no_mangle]
+pub extern "C" fn irwystl_model_value(
+    n: usize,
+    k: usize,
+    x: usize,
+    matrix: &[u32],
+    counts: &[usize],
+    masks: &[u32],
+    values: &[u32],
+) -> ValueAnswer
+    ensures { λ r. ⌜ ModelValuePromise n k x (now (matrix .entry)) (now (counts .entry)) (patternsFlat (now (masks .entry)) (now (values .entry))) r ⌝ }
+{
+    models::model_value(n, k, x, matrix, counts, masks, values)
+}
+
 // ---- texts alone, with rooms of fixed length
 
 #[no_mangle]
@@ -269,6 +335,13 @@ pub extern "C" fn irwystl_print_text(input: &[u8], out: &mut [u8; SHEET_ROOM]) -
     ensures { λ r. ⌜ PrintPromise (now (input .entry)) (now (out .entry)) r (now (out .exit)) ⌝ }
 {
     printing::print_text(input, out)
+}
+
+#[no_mangle]
+pub extern "C" fn irwystl_print_model(input: &[u8], out: &mut [u8; MODEL_ROOM]) -> usize
+    ensures { λ r. ⌜ PrintModelPromise (now (input .entry)) (now (out .entry)) r (now (out .exit)) ⌝ }
+{
+    printing::print_model(input, out)
 }
 
 #[no_mangle]
