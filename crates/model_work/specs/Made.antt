@@ -31,12 +31,13 @@ use Rattle.row_work.specs.Method.{MethodDone}
 use Rattle.put_chains.specs.Rows.{Below}
 
 -- an answer with its bytes, and the slice, by a verdict
-abbrev Written : Answer → List ℕ → List ℕ → TextAnswer → List ℕ → Type 0
+abbrev pub Written : Answer → List ℕ → List ℕ → TextAnswer → List ℕ → Type 0
 Written v t l r l′ = (r ≡ withBytes v t) × (l′ ≡ stored v t l)
 
-refused : (u v : Answer) (t l : List ℕ) → u ≡ v → (u .number ≡ 0 → ⊥)
+-- a refusal has no bytes and leaves the slice alone
+pub not-written : (u v : Answer) (t l : List ℕ) → u ≡ v → (u .number ≡ 0 → ⊥)
     → Written v t l (record { number = u .number; a = u .a; b = u .b; count = 0 }) l
-refused u v t l e h = rw (← e, ne-eqb (u .number) 0 h) (refl, refl)
+not-written u v t l e h = rw (← e, ne-eqb (u .number) 0 h) (refl, refl)
 
 module _ (n k y w : ℕ) (rs : List Row) (l t s m v d t′ s′ m′ v′ d′ : List ℕ) (r : RowMethodAnswer)
     (g : MethodDone n k y w rs false t s m v d t′ s′ m′ v′ d′ r) where
@@ -62,7 +63,7 @@ module _ (n k y w : ℕ) (rs : List Row) (l t s m v d t′ s′ m′ v′ d′ :
   unfolding modelVerdict
   model-refused h =
       let z : u .number ≡ 0 → ⊥ = λ e. h (number-same ∙ e) in
-      done u _ l (then-refused u _ z) (rw (g .answers) (refused u u text l refl z))
+      done u _ l (then-refused u _ z) (rw (g .answers) (not-written u u text l refl z))
 
   module _ (h : r .number ≡ 0) where
     zero : u .number ≡ 0
