@@ -22,7 +22,8 @@ use Rattle.text_work.specs.Reader.{reader-said, reader-some, reader-zero, reade
 use Rattle.model_work.specs.Made.{Written, not-written}
 use Rattle.model_text_work.specs.Work.{modelInVerdict, modelIn}
 
-module _ (input text : List ℕ) (reading : Reading) (cut : text ≡ take readBytes input) (answers : numbers reading ≡ readText text givenRows) where
+module _ (input text : List ℕ) (reading : Reading) (cut : text ≡ take readBytes input)
+    (answers : numbers reading ≡ readText text givenRows) where
   abbrev u : Answer
   u = readVerdict text givenRows
 

@@ -39,7 +39,7 @@ pub printed-model-by : (input : List ℕ) → printedModel input ≡ orRefused (
 unfolding printedModel printedModelOf modelInVerdict modelIn
 printed-model-by input = or-or _ _ _
 
--- what is printed where the work of a text left l′ in l and says this number, these places and so many bytes, by the verdict u and the text t
+-- what is printed where the work of a text left l′ in l and says this number and these places, by the verdict u and the text t
 module _ (u : Answer) (t l l′ : List ℕ) (text : l′ ≡ stored u t l) (number a b : ℕ) (said : answer number a b ≡ u) where
   numbered : number ≡ u .number
   numbered = ap (λ (v : Answer). v .number) said

@@ -1,4 +1,5 @@
--- `model_text_work::model_rows` meets its contract: by the writing of the list that the first rows are, with the weight limit. Assumes nothing.
+-- `model_text_work::model_rows` meets its contract: by the writing of the list that the first rows are, with the weight limit. Assumes
+-- nothing.
 use native.Mathlib.Omega.{arith}
 use lib.ListN.{length-take}
 use borrow.Author.Needs.{needs}

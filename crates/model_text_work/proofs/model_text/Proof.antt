@@ -1,4 +1,5 @@
--- `model_text_work::model_text` meets its contract: by the reader's answer, the refusal or the model of the rows in storage. Assumes nothing.
+-- `model_text_work::model_text` meets its contract: by the reader's answer, the refusal or the model of the rows in storage. Assumes
+-- nothing.
 use native.Mathlib.Omega.{arith}
 use borrow.Author.Needs.{needs}
 use denote.Ref.{now}
@@ -56,7 +57,8 @@ returns c =
     let cut = read .before .before .before .before in
     let a = cut .before .before .before .args in
     rw (c .kind-number .ensures)
-    (text-refused (now (a .input)) _ _ (cut .first-bytes .ensures) (read .read-text .ensures .answer) _ (now (a .out)) (told .reading .given .1))
+    (text-refused (now (a .input)) _ _ (cut .first-bytes .ensures) (read .read-text .ensures .answer) _ (now (a .out))
+    (told .reading .given .1))
 
 same-length : tie.Need-same-length
 same-length c = search needs
@@ -69,7 +71,8 @@ returns-2 c =
     let start = cut .before .before .before in
     let r = read .read-text .ensures in
     let e = c .before .before .model-rows .ensures in
-    text-accepted (now (start .args .input)) _ _ (cut .first-bytes .ensures) (r .answer) _ (told .reading2 .given .1) _ _ _ _ _ _ (r .rows .masks) (r .rows .values) (r .rows .words)
+    text-accepted (now (start .args .input)) _ _ (cut .first-bytes .ensures) (r .answer) _ (told .reading2 .given .1)
+    _ _ _ _ _ _ (r .rows .masks) (r .rows .values) (r .rows .words)
     (now (start .args .out)) _ _ (start .pre) (e .0) (e .1)
 
 pub model-text-spec : {M : Type 1} → statement M
