@@ -138,4 +138,3 @@ unfolding upwards inputsOf
 inputs-upwards zero v = refl
 inputs-upwards (suc n) v =
     upwards-top n 0 v ∙ ap₂ (λ (l : List ℕ) (c : ℕ). l ++ cond (eqb (bit v n) 0) [] (c ∷ [])) (inputs-upwards n v) (zero-add n)
-

@@ -63,7 +63,7 @@ pub row-done : (l₀ : List ℕ) (from i n v a q b r : ℕ) (l : List ℕ) (to :
     → Fitted l₀ from (coverText (rowCovers i (inputsOf n v))) l to
 row-done l₀ from i n v a q b r l to w e =
     let nothing : coverText (remaining i a q (upwards (n - b) b r)) ≡ [] =
-        ap (λ (x : ℕ). coverText (remaining i a q (upwards (n - b) b x))) e ∙ ap coverText (nothing-left i a q (n - b) b) ∙ no-text in
+    ap (λ (x : ℕ). coverText (remaining i a q (upwards (n - b) b x))) e ∙ ap coverText (nothing-left i a q (n - b) b) ∙ no-text in
     rw (sym (w .whole) ∙ ap (λ (t : List ℕ). w .done ++ t) nothing ∙ append-nil (w .done)) (w .put)
 
 -- half of what is left is below half the bound

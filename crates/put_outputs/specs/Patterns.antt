@@ -36,7 +36,7 @@ pub symbols-more : (l : List ℕ) (to m v i x y : ℕ) → x ≡ m / 2 ^ i → y
     → set (symbolsPut l to m v i) (to + i) (symbolOf (x % 2) (y % 2)) ≡ symbolsPut l to m v (i + 1)
 symbols-more l to m v i x y e f =
     let more : tab i (symbolAt m v) ++ (symbolOf (x % 2) (y % 2) ∷ []) ≡ tab (i + 1) (symbolAt m v) =
-        rw (add-one i, tab-suc i (symbolAt m v), e, f) in
+    rw (add-one i, tab-suc i (symbolAt m v), e, f) in
     sets-append (tab i (symbolAt m v)) (symbolOf (x % 2) (y % 2) ∷ []) l to (to + i)
     (ap (λ (j : ℕ). to + j) (sym (length-tab i (symbolAt m v))))
     ∙ ap (sets l to) more

@@ -9,7 +9,6 @@ use Rattle.model_text_work.proofs.model_rows.Tie as tie
 weight-limit-requires : tie.Need-weight-limit-requires
 weight-limit-requires c κs = search needs
 
-
 slice-aggregate-make-model : tie.Need-slice-aggregate-make-model
 slice-aggregate-make-model c = simp length-take (omega arith)
 
@@ -24,7 +23,6 @@ make-model-requires c κs = search needs
 
 same-length : tie.Need-same-length
 same-length c = search needs
-
 
 returns : tie.Need-returns
 returns c =

@@ -26,13 +26,11 @@ slice-aggregate-method-rows-5 c = search needs
 method-rows-requires : tie.Need-method-rows-requires
 method-rows-requires c κs = search needs
 
-
 returns : tie.Need-returns
 returns c =
-    let refused = c in
-    let made = refused .before .before .before .before .before .before .before in
+    let made = c .before .before .before .before .before .before .before in
     let a = made .before .before .before .before .before .before .before .before .before .before .args in
-    model-refused (now (a .out)) (made .method-rows .ensures) (refused .if1 .taken)
+    model-refused (now (a .out)) (made .method-rows .ensures) (c .if1 .taken)
 
 array-share-prefix-sigma : tie.Need-array-share-prefix-sigma
 array-share-prefix-sigma c =
@@ -57,7 +55,6 @@ slice-aggregate-put-model-3 c = search needs
 slice-aggregate-put-model-4 : tie.Need-slice-aggregate-put-model-4
 slice-aggregate-put-model-4 c = search needs
 
-
 put-model-requires : tie.Need-put-model-requires
 put-model-requires c κs =
     let left = c .before .before .before .before .before in
@@ -71,7 +68,6 @@ put-model-requires c κs =
 same-length : tie.Need-same-length
 same-length c = search needs
 
-
 returns-2 : tie.Need-returns-2
 returns-2 c =
     let put = c .before .before .before in
@@ -83,7 +79,6 @@ returns-2 c =
 
 same-length-2 : tie.Need-same-length-2
 same-length-2 c = search needs
-
 
 returns-3 : tie.Need-returns-3
 returns-3 c =

@@ -27,8 +27,8 @@ returns c =
     let e = worked .model-text .ensures in
     let said = ap (λ (x : TextAnswer). answer (x .number) (x .a) (x .b)) (e .0) in
     let p =
-        line-printed (modelInVerdict (now (a .input))) (modelIn (now (a .input))) (now (a .out)) _ (e .1) _ _ _ said _ _ _
-        (printed-model-by (now (a .input))) (c .before .before .if1 .taken) (omega arith) (c .put-refusal .ensures) in
+    line-printed (modelInVerdict (now (a .input))) (modelIn (now (a .input))) (now (a .out)) _ (e .1) _ _ _ said _ _ _
+    (printed-model-by (now (a .input))) (c .before .before .if1 .taken) (omega arith) (c .put-refusal .ensures) in
     record { text = p .0; bytes = p .1 }
 
 returns-2 : tie.Need-returns-2
@@ -38,8 +38,8 @@ returns-2 c =
     let e = worked .model-text .ensures in
     let said = ap (λ (x : TextAnswer). answer (x .number) (x .a) (x .b)) (e .0) in
     let p =
-        text-printed (modelInVerdict (now (a .input))) (modelIn (now (a .input))) (now (a .out)) _ (e .1) _ _ _ said _ _
-        (printed-model-by (now (a .input))) (c .if1 .left) (ap (λ (x : TextAnswer). x .count) (e .0)) in
+    text-printed (modelInVerdict (now (a .input))) (modelIn (now (a .input))) (now (a .out)) _ (e .1) _ _ _ said _ _
+    (printed-model-by (now (a .input))) (c .if1 .left) (ap (λ (x : TextAnswer). x .count) (e .0)) in
     record { text = p .0; bytes = p .1 }
 
 pub print-model-spec : {M : Type 1} → statement M

@@ -28,8 +28,8 @@ returns c =
     let e = worked .work-text .ensures in
     let said = ap (λ (x : SheetWork). answer (x .number) (x .a) (x .b)) (e .0) in
     let p =
-        line-printed (textVerdict (now (a .input))) (sheetIn (now (a .input))) (now (a .out)) _ (e .1) _ _ _ said _ _ _
-        (printed-by (now (a .input))) (c .before .before .if1 .taken) (omega arith) (c .put-refusal .ensures) in
+    line-printed (textVerdict (now (a .input))) (sheetIn (now (a .input))) (now (a .out)) _ (e .1) _ _ _ said _ _ _
+    (printed-by (now (a .input))) (c .before .before .if1 .taken) (omega arith) (c .put-refusal .ensures) in
     record { text = p .0; bytes = p .1 }
 
 returns-2 : tie.Need-returns-2
@@ -40,8 +40,8 @@ returns-2 c =
     let e = worked .work-text .ensures in
     let said = ap (λ (x : SheetWork). answer (x .number) (x .a) (x .b)) (e .0) in
     let p =
-        text-printed (textVerdict (now (a .input))) (sheetIn (now (a .input))) (now (a .out)) _ (e .1) _ _ _ said _ _
-        (printed-by (now (a .input))) (c .if1 .left) (ap (λ (x : SheetWork). x .count) (e .0)) in
+    text-printed (textVerdict (now (a .input))) (sheetIn (now (a .input))) (now (a .out)) _ (e .1) _ _ _ said _ _
+    (printed-by (now (a .input))) (c .if1 .left) (ap (λ (x : SheetWork). x .count) (e .0)) in
     record { text = p .0; bytes = p .1 }
 
 pub print-text-spec : {M : Type 1} → statement M

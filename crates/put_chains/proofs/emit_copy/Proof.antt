@@ -30,7 +30,6 @@ emit-bytes-requires-2 c κs = search needs
 same-length : tie.Need-same-length
 same-length c = search needs
 
-
 returns : tie.Need-returns
 returns c =
     let end = c .before .before in
@@ -39,9 +38,9 @@ returns c =
     let input = space .before .before .before .before in
     let word = input .before .before .before .before in (
       rw copy-text
-      (next (word .emit-bytes .ensures .0)
-      (next (input .emit-name .ensures .0)
-      (next (space .emit .ensures .0) (next (to .emit-name2 .ensures .0) (end .emit-bytes2 .ensures .0))))),
+          (next (word .emit-bytes .ensures .0)
+          (next (input .emit-name .ensures .0)
+          (next (space .emit .ensures .0) (next (to .emit-name2 .ensures .0) (end .emit-bytes2 .ensures .0))))),
       omega (
         arith,
         word .emit-bytes .ensures .1,

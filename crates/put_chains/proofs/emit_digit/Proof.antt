@@ -18,7 +18,6 @@ emit-link-requires c κs = search needs
 same-length : tie.Need-same-length
 same-length c = search needs
 
-
 returns-2 : tie.Need-returns-2
 returns-2 c =
     let r = c .before .before .before .before .before .before .args .rest in

@@ -12,7 +12,6 @@ emit-name-requires c κs = search needs
 same-length : tie.Need-same-length
 same-length c = search needs
 
-
 returns : tie.Need-returns
 returns c =
     let q = c .before .before .before .before .before .before .args .q in
@@ -27,7 +26,6 @@ emit-part-requires c κs = search needs
 
 same-length-2 : tie.Need-same-length-2
 same-length-2 c = search needs
-
 
 returns-2 : tie.Need-returns-2
 returns-2 c =

@@ -53,7 +53,7 @@ loop-again c =
       omega (arith, put .emit-row .ensures .1),
       omega (arith, put .emit-row .kept .0),
       rw (front-more (a .n) (λ (j : ℕ). getD (now (a .sigma)) j 0) (l .i))
-      (next (l .inv .3) (rw (put .before .wide .ensures) at (put .emit-row .ensures .0))),
+          (next (l .inv .3) (rw (put .before .wide .ensures) at (put .emit-row .ensures .0))),
     )
 
 same-length : tie.Need-same-length Inv-loop μ-loop

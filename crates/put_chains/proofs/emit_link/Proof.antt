@@ -15,7 +15,6 @@ emit-copy-requires c κs = search needs
 same-length : tie.Need-same-length
 same-length c = search needs
 
-
 returns : tie.Need-returns
 returns c =
     let q = c .before .before .before .before .before .before .before .args .q in
@@ -33,7 +32,6 @@ emit-xor-requires c κs = search needs
 
 same-length-2 : tie.Need-same-length-2
 same-length-2 c = search needs
-
 
 returns-3 : tie.Need-returns-3
 returns-3 c =

@@ -9,7 +9,6 @@ emit-name-requires c κs = search needs
 same-length : tie.Need-same-length
 same-length c = search needs
 
-
 returns : tie.Need-returns
 returns c = (rw (c .before .before .before .before .if1 .taken) (c .before .before .emit-name .ensures .0), search needs)
 
@@ -18,7 +17,6 @@ emit-part-requires c κs = search needs
 
 same-length-2 : tie.Need-same-length-2
 same-length-2 c = search needs
-
 
 returns-2 : tie.Need-returns-2
 returns-2 c = (rw (c .before .before .before .before .if1 .left) (c .before .before .emit-part .ensures .0), search needs)

@@ -30,7 +30,6 @@ emit-to-requires c κs = search needs
 slice-aggregate-emit-bytes-2 : tie.Need-slice-aggregate-emit-bytes-2
 slice-aggregate-emit-bytes-2 c = search needs
 
-
 emit-bytes-requires-2 : tie.Need-emit-bytes-requires-2
 emit-bytes-requires-2 c κs =
     let to = c .before .before .before .before in
@@ -53,7 +52,6 @@ emit-bytes-requires-2 c κs =
 same-length : tie.Need-same-length
 same-length c = search needs
 
-
 returns : tie.Need-returns
 returns c =
     let end = c .before .before in
@@ -64,11 +62,11 @@ returns c =
     let from = space .before .before .before .before in
     let word = from .before .before .before .before in (
       rw xor-text
-      (next (word .emit-bytes .ensures .0)
-      (next (from .emit-from .ensures .0)
-      (next (space .emit .ensures .0)
-      (next (input .emit-name .ensures .0)
-      (next (after .emit2 .ensures .0) (next (to .emit-to .ensures .0) (end .emit-bytes2 .ensures .0))))))),
+          (next (word .emit-bytes .ensures .0)
+          (next (from .emit-from .ensures .0)
+          (next (space .emit .ensures .0)
+          (next (input .emit-name .ensures .0)
+          (next (after .emit2 .ensures .0) (next (to .emit-to .ensures .0) (end .emit-bytes2 .ensures .0))))))),
       omega (
         arith,
         word .emit-bytes .ensures .1,

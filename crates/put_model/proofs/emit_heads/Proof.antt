@@ -29,7 +29,6 @@ emit-requires c κs = search needs
 same-length : tie.Need-same-length
 same-length c = search needs
 
-
 returns : tie.Need-returns
 returns c =
     let end = c .before .before in
@@ -39,8 +38,8 @@ returns c =
     let first = inputs .before .before .before .before in
     let start = first .before .before .before .before in (
       next (first .emit-bytes .ensures .0)
-      (next (inputs .emit-names .ensures .0)
-      (next (second .emit-bytes2 .ensures .0) (next (outputs .emit-names2 .ensures .0) (end .emit .ensures .0)))),
+          (next (inputs .emit-names .ensures .0)
+          (next (second .emit-bytes2 .ensures .0) (next (outputs .emit-names2 .ensures .0) (end .emit .ensures .0)))),
       omega (
         arith,
         first .emit-bytes .ensures .1,

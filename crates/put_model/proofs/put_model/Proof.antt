@@ -16,7 +16,6 @@ slice-aggregate-emit-model c = search needs
 emit-model-requires : tie.Need-emit-model-requires
 emit-model-requires c κs = search needs
 
-
 returns : tie.Need-returns
 returns c = (whole-length _ _ _ _ (c .before .before .emit-model .ensures), rw (lt-ltb _ _ (c .if1 .taken)))
 
@@ -26,7 +25,6 @@ emit-model-requires-2 c κs = search needs
 same-length : tie.Need-same-length
 same-length c = search needs
 
-
 returns-2 : tie.Need-returns-2
 returns-2 c =
     let second = c .before .before in
@@ -34,7 +32,7 @@ returns-2 c =
     let o = second .before .before .before .before .before .before .before .before .before .before .before .args .out in
     let r = second .emit-model2 .result in
     let e : r ≤ length (now o) =
-        omega (arith, second .emit-model2 .ensures .place, first .emit-model .ensures .place, second .before .before .if1 .left) in
+    omega (arith, second .emit-model2 .ensures .place, first .emit-model .ensures .place, second .before .before .if1 .left) in
     let p = second .emit-model2 .ensures in
     (whole-length _ _ _ _ p, rw (le-ltb (length (now o)) r e) (whole-over _ _ _ _ p e))
 

@@ -12,13 +12,11 @@ put-byte-requires c κs = search needs
 same-length : tie.Need-same-length
 same-length c = search needs
 
-
 returns : tie.Need-returns
 returns c = let p = c .before .before .put-byte .ensures in (put-fitted p, p .place)
 
 add-result : tie.Need-add-result
 add-result c = search needs
-
 
 returns-2 : tie.Need-returns-2
 returns-2 c = (past-end refl (omega arith), refl)

@@ -15,7 +15,6 @@ put-bytes-requires c κs = search needs
 same-length : tie.Need-same-length
 same-length c = search needs
 
-
 returns : tie.Need-returns
 returns c = let p = c .before .before .put-bytes .ensures in (put-fitted p, p .place)
 

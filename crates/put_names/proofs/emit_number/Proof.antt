@@ -10,7 +10,6 @@ use Rattle.put_names.proofs.emit_number.Tie as tie
 places-requires : tie.Need-places-requires
 places-requires c κs = search needs
 
-
 add-end : tie.Need-add-end
 add-end c = let short = decimal-le 2 (c .before .before .args .v) (omega arith) (omega arith) in search needs
 
@@ -19,7 +18,6 @@ put-decimal-requires c κs = search needs
 
 same-length : tie.Need-same-length
 same-length c = search needs
-
 
 returns : tie.Need-returns
 returns c =

@@ -49,7 +49,7 @@ loop-again c =
       omega (arith, put .emit-output .ensures .1),
       omega (arith, put .emit-output .kept .0),
       rw (back-more (a .n) (λ (i : ℕ). patternsOf i (rowsFrom (a .p) (now (a .masks)) (now (a .values)) (now (a .words)))) (l .j))
-      (next (l .inv .4) (put .emit-output .ensures .0)),
+          (next (l .inv .4) (put .emit-output .ensures .0)),
     )
 
 same-length : tie.Need-same-length Inv-loop μ-loop

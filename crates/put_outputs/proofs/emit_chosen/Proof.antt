@@ -19,7 +19,6 @@ emit-cube-requires c κs = search needs
 same-length : tie.Need-same-length
 same-length c = search needs
 
-
 returns-2 : tie.Need-returns-2
 returns-2 c =
     let line = c .before .before in

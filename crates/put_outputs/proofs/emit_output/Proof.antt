@@ -30,7 +30,6 @@ emit-patterns-requires c κs = search needs
 same-length : tie.Need-same-length
 same-length c = search needs
 
-
 returns : tie.Need-returns
 returns c =
     let lines = c .before .before in
@@ -41,10 +40,10 @@ returns c =
     let word = names .before .before .before .before in
     let start = word .before .before .before .before .before .before .before in (
       rw output-text
-      (next (word .emit-bytes .ensures .0)
-      (next (names .emit-names .ensures .0)
-      (next (space .emit .ensures .0)
-      (next (name .emit-name .ensures .0) (next (end .emit2 .ensures .0) (lines .emit-patterns .ensures .0)))))),
+          (next (word .emit-bytes .ensures .0)
+          (next (names .emit-names .ensures .0)
+          (next (space .emit .ensures .0)
+          (next (name .emit-name .ensures .0) (next (end .emit2 .ensures .0) (lines .emit-patterns .ensures .0)))))),
       omega (
         arith,
         word .emit-bytes .ensures .1,

@@ -31,7 +31,6 @@ mul-emit-chosen c = search needs
 shared-slice-read-emit-chosen : tie.Need-shared-slice-read-emit-chosen Inv-loop μ-loop
 shared-slice-read-emit-chosen c = search needs
 
-
 div-emit-chosen : tie.Need-div-emit-chosen Inv-loop μ-loop
 div-emit-chosen c = omega (arith, pow-pos (c .before .before .before .before .before .before .before .before .args .j))
 
@@ -56,7 +55,6 @@ add-i c = search needs
 loop-less : tie.Need-loop-less Inv-loop μ-loop
 loop-less c = search needs
 
-
 loop-again : tie.Need-loop-again Inv-loop μ-loop
 loop-again c =
     let line = c .before .before in
@@ -68,7 +66,7 @@ loop-again c =
       omega (arith, line .emit-chosen .ensures .1),
       omega (arith, line .emit-chosen .kept .0),
       rw (patterns-more (a .n) (a .j) (l .i) (now (a .masks)) (now (a .values)) (now (a .words)))
-      (next (l .inv .3) (rw (start .pre .0 .2) at (line .emit-chosen .ensures .0))),
+          (next (l .inv .3) (rw (start .pre .0 .2) at (line .emit-chosen .ensures .0))),
     )
 
 same-length : tie.Need-same-length Inv-loop μ-loop

@@ -45,7 +45,7 @@ loop-again c =
       half-more (a .mask) (l .i) (l .m) (l .inv .2),
       half-more (a .values) (l .i) (l .v) (l .inv .3),
       rw (c .symbol .ensures, l .inv .4)
-      (symbols-more (now (a .out)) (a .at) (a .mask) (a .values) (l .i) (l .m) (l .v) (l .inv .2) (l .inv .3)),
+          (symbols-more (now (a .out)) (a .at) (a .mask) (a .values) (l .i) (l .m) (l .v) (l .inv .2) (l .inv .3)),
     )
 
 add-result : tie.Need-add-result Inv-loop μ-loop
