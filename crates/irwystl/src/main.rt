@@ -1,13 +1,27 @@
-// The program (01, the first section): reads row text on standard input, at most 8,192 bytes of it, and prints its sheet with weight
-// limit 3, or n where n is below 3, or the one line "refused N A B". What is printed is promised by `print_text` of the crate printing;
-// no contract says which bytes the system reads and writes. A read or a write that fails is told on standard error; where a read fails
-// nothing is printed, since the text is not known.
+// The program (01, the first section; 02, Ticket 4). It reads row text on standard input, at most 8,192 bytes of it, and prints its sheet
+// with weight limit 3, or n where n is below 3; called with --blif it prints the model in BLIF in the sheet's place. Called with --model it
+// reads a model, and prints "model INPUTS OUTPUTS PATTERNS", or, where a point follows, "word" and the word there. Whatever it can't answer
+// it answers with the one line "refused N A B". What is printed of a list is promised by `print_text` and `print_model` of the crate printing,
+// what is said of a model by `read_model` and `model_value` of the crate models; no contract says which bytes the system reads and writes.
+// A read or a write that fails is told on standard error; where a read fails nothing is printed, since the text is not known.
+use block::LIST_INPUTS;
+use block::MODEL_ROOM;
+use block::ModelAnswer;
+use block::OUTPUTS;
 use block::READ_BYTES;
 use block::SHEET_ROOM;
 use libc::STDERR_FILENO;
 use libc::STDIN_FILENO;
 use libc::STDOUT_FILENO;
+use saying::say;
+use saying::say_number;
 ghost use Rattle.io.specs.Counts.{Counts};
+
+// The bytes of a model that are read, which are more than any model that is written has, and the patterns that they can hold: a line of one
+// has four bytes.
+const MODEL_BYTES: usize = 262144;
+
+const MODEL_PATTERNS: usize = 65536;
 
 // What was read: how many bytes, and whether a read failed.
 struct Input {
@@ -41,11 +55,9 @@ fn read_input(text: &mut [u8]) -> Input
     }
 }
 
-// Prints what the text gives.
-fn print_answer(text: &[u8]) {
-    let mut out = [0u8; SHEET_ROOM];
-    let count = printing::print_text(text, &mut out);
-    if !io::write_all(STDOUT_FILENO, &out[..count]) {
+// Writes what is printed.
+fn print_bytes(bytes: &[u8]) {
+    if !io::write_all(STDOUT_FILENO, bytes) {
         io::write_all(
             STDERR_FILENO,
             b"irwystl: standard output did not take all that was printed\n",
@@ -53,7 +65,22 @@ fn print_answer(text: &[u8]) {
     }
 }
 
-fn main() {
+// Prints the sheet of a text, or why not.
+fn print_sheet(text: &[u8]) {
+    let mut out = [0u8; SHEET_ROOM];
+    let count = printing::print_text(text, &mut out);
+    print_bytes(&out[..count]);
+}
+
+// Prints the model of a text, or why not.
+fn print_model(text: &[u8]) {
+    let mut out = [0u8; MODEL_ROOM];
+    let count = printing::print_model(text, &mut out);
+    print_bytes(&out[..count]);
+}
+
+// Prints what the list on standard input gives.
+fn answer_list(blif: bool) {
     let mut text = [0u8; READ_BYTES];
     let input = read_input(&mut text);
     if input.failed {
@@ -61,5 +88,155 @@ fn main() {
         return;
     }
     let length = input.length;
-    print_answer(&text[..length]);
+    if blif {
+        print_model(&text[..length]);
+    } else {
+        print_sheet(&text[..length]);
+    }
+}
+
+// Says a refusal.
+fn say_refused(number: u32, a: usize, b: usize) {
+    say(b"refused");
+    say_number(number as u64);
+    say_number(a as u64);
+    say_number(b as u64);
+    say(b"\n");
+}
+
+// Says that a model was read.
+fn say_model(r: ModelAnswer) {
+    say(b"model");
+    say_number(r.n as u64);
+    say_number(r.k as u64);
+    say_number(r.patterns as u64);
+    say(b"\n");
+}
+
+// Says a word of k outputs, highest first.
+fn say_word(k: usize, word: u64) {
+    let mut digits = [48u8; OUTPUTS];
+    let mut rest = word;
+    let mut left = k;
+    say(b"word ");
+    if k <= OUTPUTS {
+        while 0 < left {
+            left -= 1;
+            digits[left] = (48 + rest % 2) as u8;
+            rest /= 2;
+        }
+        say(&digits[..k]);
+    }
+    say(b"\n");
+}
+
+// A point that was asked for, or none: `kind` is 0 where none was, 1 where x is it, and 2 where it is no number of this kind.
+struct Point {
+    kind: usize,
+    x: usize,
+}
+
+// The point that digits name: at most nine, and so above every point long before they would not fit.
+fn point_of(digits: &[u8]) -> Point {
+    if digits.len() == 0 || 9 < digits.len() {
+        return Point { kind: 2, x: 0 };
+    }
+    let mut x: usize = 0;
+    let mut i = 0;
+    while i < digits.len() {
+        if digits[i] < b'0' || b'9' < digits[i] {
+            return Point { kind: 2, x: 0 };
+        }
+        x = std::num::wrapping_add_usize(
+            std::num::wrapping_mul_usize(x, 10),
+            (digits[i] - b'0') as usize,
+        );
+        i += 1;
+    }
+    Point { kind: 1, x }
+}
+
+// The point that the second argument names.
+fn asked_point() -> Point {
+    if os::arg_count() < 3 {
+        return Point { kind: 0, x: 0 };
+    }
+    let mut name = io::buffer();
+    let length = os::arg(2, &mut name);
+    point_of(&name[..length])
+}
+
+// Reads a model, and says what it is, or its word at a point.
+fn answer_text(text: &[u8], point: Point) {
+    let mut matrix = [0u32; LIST_INPUTS];
+    let mut counts = [0usize; OUTPUTS];
+    let mut masks = [0u32; MODEL_PATTERNS];
+    let mut values = [0u32; MODEL_PATTERNS];
+    let r = models::read_model(text, &mut matrix, &mut counts, &mut masks, &mut values);
+    if r.number != 0 {
+        say_refused(r.number, r.a, r.b);
+        return;
+    }
+    if point.kind == 0 {
+        say_model(r);
+        return;
+    }
+    let v = models::model_value(
+        r.n,
+        r.k,
+        point.x,
+        &matrix[..r.n],
+        &counts[..r.k],
+        &masks[..r.patterns],
+        &values[..r.patterns],
+    );
+    if v.number != 0 {
+        say_refused(v.number, v.a, v.b);
+        return;
+    }
+    say_word(r.k, v.value);
+}
+
+// Answers the model on standard input. One that is longer than what is read is not known, and so not answered.
+fn answer_model() {
+    let point = asked_point();
+    if point.kind == 2 {
+        io::write_all(STDERR_FILENO, b"irwystl: the point is no decimal number of at most nine digits\n");
+        return;
+    }
+    let mut text = [0u8; MODEL_BYTES];
+    let input = read_input(&mut text);
+    if input.failed {
+        os::fail(b"irwystl: standard input can't be read");
+        return;
+    }
+    let length = input.length;
+    if length == MODEL_BYTES {
+        io::write_all(STDERR_FILENO, b"irwystl: the model has 262,144 bytes or more, and is not read\n");
+        return;
+    }
+    answer_text(&text[..length], point);
+}
+
+// Whether the first argument is this one.
+fn is_called(option: &[u8]) -> bool {
+    let mut name = io::buffer();
+    let length = os::arg(1, &mut name);
+    saying::is_same(&name[..length], option)
+}
+
+fn main() {
+    if os::arg_count() < 2 {
+        answer_list(false);
+        return;
+    }
+    if is_called(b"--blif") {
+        answer_list(true);
+        return;
+    }
+    if is_called(b"--model") {
+        answer_model();
+        return;
+    }
+    io::write_all(STDERR_FILENO, b"irwystl: there is no such option\n");
 }

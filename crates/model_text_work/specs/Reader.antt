@@ -3,12 +3,12 @@
 use mathlib.Core.Path.{_≡_, sym, ap, _∙_}
 use mathlib.Core.List.{List, map}
 use Prim.Native.Nat.{ℕ, min}
-use borrow.Author.Tests.{eq-eqb, ne-eqb}
+use borrow.Author.Tests.{eq-eqb}
 use lib.ListN.{length, take}
 use Rattle.block.specs.Limits.{modelRoom, givenRows, readBytes}
 use Rattle.block.specs.Words.{missing, maskPart, valuesPart, wordPart}
-use Rattle.block.specs.Refusals.{stored}
-use Rattle.block.specs.Text.{typeIn, inputsIn, outputsIn, rowsIn, readVerdict, readText, withBytes, kindNumber, numbers}
+use Rattle.block.specs.Refusals.{answer, stored}
+use Rattle.block.specs.Text.{typeIn, inputsIn, outputsIn, rowsIn, readVerdict, readText, kindNumber, numbers}
 use Rattle.block.specs.Model.{modelText, modelVerdict, writeModel}
 use Rattle.block.specs.declared.Answer.{Answer}
 use Rattle.block.specs.declared.TextAnswer.{TextAnswer}
@@ -16,28 +16,27 @@ use Rattle.block.specs.declared.Headings.{Headings}
 use Rattle.block.specs.declared.Refusal.{Refusal}
 use Rattle.block.specs.declared.Reading.{Reading}
 use Rattle.block.specs.declared.Reading.the-variants.{Accepted, Refused}
-use Rattle.refusal_laws.specs.Verdicts.{then-refused, then-answered, stored-no}
+use Rattle.refusal_laws.specs.Verdicts.{then-refused}
 use Rattle.text_work.specs.Work.{firstRows}
 use Rattle.text_work.specs.Reader.{reader-said, reader-some, reader-zero, reader-inputs, reader-outputs, reader-type, reader-rows}
+use Rattle.model_work.specs.Made.{Written, not-written}
 use Rattle.model_text_work.specs.Work.{modelInVerdict, modelIn}
 
-module _ (input text : List ℕ) (reading : Reading) (cut : text ≡ take readBytes input) (answers : numbers reading ≡ readText text givenRows) where
+module _ (input text : List ℕ) (reading : Reading) (cut : text ≡ take readBytes input)
+    (answers : numbers reading ≡ readText text givenRows) where
   abbrev u : Answer
   u = readVerdict text givenRows
 
   -- the reader refuses
   pub text-refused : (f : Refusal) (l : List ℕ) → reading ≡ Refused f
-      → (record { number = kindNumber (f .kind); a = f .a; b = f .b; count = 0 } ≡ withBytes (modelInVerdict input) (modelIn input))
-      × (l ≡ stored (modelInVerdict input) (modelIn input) l)
+      → Written (modelInVerdict input) (modelIn input) l (record { number = kindNumber (f .kind); a = f .a; b = f .b; count = 0 }) l
   unfolding modelInVerdict
   text-refused f l e =
       let said = reader-said input text reading cut answers f e in
-      let z = reader-some input text reading cut answers f e in
-      let t : u ≡ modelInVerdict input = rw (← cut) (then-refused u _ z) in
-      rw (← t) (
-        ap (λ (v : Answer). withBytes v (modelIn input)) said,
-        sym (stored-no u (modelIn input) l z),
-      )
+      let some = reader-some input text reading cut answers f e in
+      let t : u ≡ modelInVerdict input = rw (← cut) (then-refused u _ some) in
+      not-written (answer (kindNumber (f .kind)) (f .a) (f .b)) (modelInVerdict input) (modelIn input) l (said ∙ t)
+      (λ z. some (sym (ap (λ (v : Answer). v .number) said) ∙ z))
 
   module _ (h : Headings) (e : reading ≡ Accepted h) where
     -- the model of the rows in storage
@@ -47,7 +46,7 @@ module _ (input text : List ℕ) (reading : Reading) (cut : text ≡ take readBy
         → r ≡ writeModel (h .n) (h .k) (h .«block_type») (min 3 (h .n)) (firstRows (h .count) m′ v′ d′) (length l)
         → l′ ≡ stored (modelVerdict (h .n) (h .k) (h .«block_type») (min 3 (h .n)) (firstRows (h .count) m′ v′ d′) (length l))
         (modelText (missing (h .«block_type»)) (h .n) (h .k) (min 3 (h .n)) (firstRows (h .count) m′ v′ d′)) l
-        → (r ≡ withBytes (modelInVerdict input) (modelIn input)) × (l′ ≡ stored (modelInVerdict input) (modelIn input) l)
+        → Written (modelInVerdict input) (modelIn input) l r l′
     unfolding writeModel modelInVerdict modelIn
     text-accepted m v d m′ v′ d′ a b c l l′ r long p q =
         let zero = reader-zero input text reading cut answers h e in

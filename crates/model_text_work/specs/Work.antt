@@ -1,5 +1,5 @@
--- What the work of a text for a model comes to (02, Ticket 4): the reader's refusal, or the model of the rows that the text says, of the type
--- that it has, with weight limit 3, or n where n is below 3. At most 8,192 bytes are looked at. Assumes nothing.
+-- What the work of a text for a model comes to (02, Ticket 4): the reader's refusal, or the model of the rows that the text says, of the
+-- type that it has, with weight limit 3, or n where n is below 3. At most 8,192 bytes are looked at. Assumes nothing.
 use mathlib.Core.List.{List}
 use Prim.Native.Nat.{ℕ, min}
 use lib.ListN.{take}

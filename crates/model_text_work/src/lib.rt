@@ -1,5 +1,5 @@
-// The work of a text for the program's `--blif` (02, Ticket 4): the model of the rows that the text says, with the weight limit of the sheet.
-// All functions here are inner.
+// The work of a text where the program prints a model (02, Ticket 4): the model of the rows that the text says, with the weight limit of
+// the sheet. All functions here are inner.
 use block::GIVEN_ROWS;
 use block::READ_BYTES;
 use block::Reading;
@@ -27,9 +27,11 @@ pub fn model_rows(
     out: &mut [u8],
 ) -> TextAnswer
     requires { ⌜ (count ≤ length (now masks)) × (count ≤ length (now values)) × (count ≤ length (now words)) ⌝ }
-    ensures { λ r. ⌜ r ≡ writeModel n k «block_type» (min 3 n) (firstRows count (now (masks .entry)) (now (values .entry)) (now (words .entry))) (length (now (out .entry))) ⌝ }
     ensures { λ r. ⌜ (let rs = firstRows count (now (masks .entry)) (now (values .entry)) (now (words .entry)) in
-        now (out .exit) ≡ stored (modelVerdict n k «block_type» (min 3 n) rs (length (now (out .entry)))) (modelText (missing «block_type») n k (min 3 n) rs) (now (out .entry))) ⌝ }
+        r ≡ writeModel n k «block_type» (min 3 n) rs (length (now (out .entry)))) ⌝ }
+    ensures { λ r. ⌜ (let rs = firstRows count (now (masks .entry)) (now (values .entry)) (now (words .entry)) in
+        let verdict = modelVerdict n k «block_type» (min 3 n) rs (length (now (out .entry))) in
+        now (out .exit) ≡ stored verdict (modelText (missing «block_type») n k (min 3 n) rs) (now (out .entry))) ⌝ }
 {
     let w = text_work::weight_limit(n);
     model_work::make_model(

@@ -2,43 +2,42 @@
 -- that storage is the model of 02, Ticket 4, or the room is too short for it. Assumes nothing.
 use mathlib.Core.Path.{_≡_, refl, sym, ap, ap₂, _∙_}
 use mathlib.Core.Bool.{false, cond}
-use mathlib.Core.List.{List, [], _∷_, map}
+use mathlib.Core.List.{List, []}
 use Prim.Native.Nat.{ℕ, _≤_, _<_}
 use native.Mathlib.Omega.{arith}
 use borrow.Author.Tests.{ne-eqb, lt-ltb, le-ltb}
 use lib.Dec.{ltb}
-use lib.ListN.{length, take, drop, length-take}
-use lib.Seq.{take-at}
+use lib.ListN.{length, take, length-take}
 use Rattle.slices.specs.Places.{at, over}
-use Rattle.block.specs.Limits.{listInputs, smallerRows}
+use Rattle.block.specs.Limits.{listInputs}
 use Rattle.block.specs.Words.{missing, ofRows}
 use Rattle.block.specs.Basis.{basisOf, sigmaOf}
-use Rattle.block.specs.Refusals.{check, answer, verdict, andThen, stored}
-use Rattle.block.specs.Lists.{methodChecks, smallerList}
+use Rattle.block.specs.Refusals.{check, answer, verdict, stored}
+use Rattle.block.specs.Lists.{methodChecks}
 use Rattle.block.specs.Text.{withBytes}
 use Rattle.block.specs.Model.{blockModel, modelText, modelVerdict, writeModel}
 use Rattle.block.specs.declared.Row.{Row}
 use Rattle.block.specs.declared.Answer.{Answer}
 use Rattle.block.specs.declared.TextAnswer.{TextAnswer}
 use Rattle.block.specs.declared.RowMethodAnswer.{RowMethodAnswer}
-use Rattle.refusal_laws.specs.Verdicts.{verdict-hit, verdict-miss, verdict-none, then-refused, then-answered, carried-yes, stored-yes, stored-no}
-use Rattle.answered_laws.specs.Passed.{MethodAnswered, method-answered}
+use Rattle.refusal_laws.specs.Verdicts.{verdict-hit, verdict-miss, verdict-none, then-refused, then-answered}
 use Rattle.matrix_laws.specs.Candidate.{basis-independent}
-use Rattle.matrix_laws.specs.Inverse.{length-sigma, inverse-lt}
+use Rattle.matrix_laws.specs.Inverse.{inverse-lt}
 use Rattle.flat_rows.specs.Listing.{rowsFrom}
-use Rattle.moved_rows.specs.Put.{rows-put}
 use Rattle.row_work.specs.Method.{MethodDone}
+use Rattle.row_work.specs.Left.{left-number, left-zero, left-ready, left-count, left-sigma, left-rows}
 use Rattle.put_chains.specs.Rows.{Below}
 
 -- an answer with its bytes, and the slice, by a verdict
-abbrev Written : Answer → List ℕ → List ℕ → TextAnswer → List ℕ → Type 0
+abbrev pub Written : Answer → List ℕ → List ℕ → TextAnswer → List ℕ → Type 0
 Written v t l r l′ = (r ≡ withBytes v t) × (l′ ≡ stored v t l)
 
-refused : (u v : Answer) (t l : List ℕ) → u ≡ v → (u .number ≡ 0 → ⊥)
+-- a refusal has no bytes and leaves the slice alone
+pub not-written : (u v : Answer) (t l : List ℕ) → u ≡ v → (u .number ≡ 0 → ⊥)
     → Written v t l (record { number = u .number; a = u .a; b = u .b; count = 0 }) l
-refused u v t l e h = rw (← e, ne-eqb (u .number) 0 h) (refl, refl)
+not-written u v t l e h = rw (← e, ne-eqb (u .number) 0 h) (refl, refl)
 
-module _ (n k y w : ℕ) (rs : List Row) (l t s m v d t′ s′ m′ v′ d′ : List ℕ) (r : RowMethodAnswer)
+module _ {n k y w : ℕ} {rs : List Row} {t s m v d t′ s′ m′ v′ d′ : List ℕ} {r : RowMethodAnswer} (l : List ℕ)
     (g : MethodDone n k y w rs false t s m v d t′ s′ m′ v′ d′ r) where
   abbrev u : Answer
   u = verdict (methodChecks n k y w rs false)
@@ -54,58 +53,39 @@ module _ (n k y w : ℕ) (rs : List Row) (l t s m v d t′ s′ m′ v′ d′ :
   unfolding writeModel
   done v a l′ e p = rw (← e) p
 
-  number-same : r .number ≡ u .number
-  number-same = ap (λ (x : RowMethodAnswer). x .number) (g .answers)
-
   -- a refusal of the row method
   pub model-refused : (r .number ≡ 0 → ⊥) → Done (record { number = r .number; a = r .a; b = r .b; count = 0 }) l
   unfolding modelVerdict
   model-refused h =
-      let z : u .number ≡ 0 → ⊥ = λ e. h (number-same ∙ e) in
-      done u _ l (then-refused u _ z) (rw (g .answers) (refused u u text l refl z))
+      let z : u .number ≡ 0 → ⊥ = λ e. h (left-number g ∙ e) in
+      done u _ l (then-refused u _ z) (rw (g .answers) (not-written u u text l refl z))
 
   module _ (h : r .number ≡ 0) where
-    zero : u .number ≡ 0
-    zero = sym number-same ∙ h
-
-    ready : MethodAnswered n k y w rs false
-    ready = method-answered n k y w rs false zero
-
-    -- there are so many inputs that the storage holds sigma
+    -- there are so few inputs that the storage holds sigma
     pub model-inputs : n ≤ listInputs
-    model-inputs = ready .passed .list .range .size .1
-
-    counted : r .count ≡ length (smallerList (missing y) n w rs)
-    counted = ap (λ (x : RowMethodAnswer). x .count) (g .answers) ∙ carried-yes u (length (smallerList (missing y) n w rs)) zero
-
-    sigma : take n s′ ≡ sigmaOf (ofRows (missing y) rs) n w
-    sigma =
-        ap (take n) (g .sigma ∙ stored-yes u (sigmaOf (ofRows (missing y) rs) n w) s zero)
-        ∙ take-at (sigmaOf (ofRows (missing y) rs) n w) (drop (length (sigmaOf (ofRows (missing y) rs) n w)) s) n
-        (length-sigma (ofRows (missing y) rs) n w)
-
-    rows : rowsFrom (r .count) m′ v′ d′ ≡ smallerList (missing y) n w rs
-    rows =
-        rows-put (r .count) counted
-        (record {
-          masks = g .masks ∙ stored-yes u (map (λ (r : Row). r .mask) (smallerList (missing y) n w rs)) m zero;
-          values = g .values ∙ stored-yes u (map (λ (r : Row). r .values) (smallerList (missing y) n w rs)) v zero;
-          words = g .words ∙ stored-yes u (map (λ (r : Row). r .word) (smallerList (missing y) n w rs)) d zero;
-        })
+    model-inputs = left-ready g h .passed .list .range .size .1
 
     below : Below n (take n s′)
     unfolding sigmaOf
-    below = rw sigma (inverse-lt (at (basisOf (ofRows (missing y) rs) n w)) n (basis-independent (ofRows (missing y) rs) n w (ready .passed .weight .0)))
+    below =
+        rw (left-sigma g h)
+        (inverse-lt (at (basisOf (ofRows (missing y) rs) n w)) n
+        (basis-independent (ofRows (missing y) rs) n w (left-ready g h .passed .weight .0)))
 
     -- what the text is put from is in range
     pub model-ready : n ≤ length s′ → (n < 100) × (k ≤ 15) × (r .count ≤ 512) × (n ≤ length (take n s′)) × Below n (take n s′)
-    model-ready q =
-        (omega (arith, model-inputs), ready .passed .list .range .columns .1, rw counted (ready .few), simp length-take (omega arith), below)
+    model-ready q = (
+      omega (arith, model-inputs),
+      left-ready g h .passed .list .range .columns .1,
+      rw (left-count g h) (left-ready g h .few),
+      simp length-take (omega arith),
+      below,
+    )
 
     -- the text put from the storage is the model
     same-text : blockModel n k (take n s′) (rowsFrom (r .count) m′ v′ d′) ≡ text
     unfolding modelText
-    same-text = ap₂ (blockModel n k) sigma rows
+    same-text = ap₂ (blockModel n k) (left-sigma g h) (left-rows g h)
 
     module _ (l′ : List ℕ) (c : ℕ) (long : c ≡ length (blockModel n k (take n s′) (rowsFrom (r .count) m′ v′ d′)))
         (lies : l′ ≡ cond (ltb (length l) c) l (over (blockModel n k (take n s′) (rowsFrom (r .count) m′ v′ d′)) l)) where
@@ -118,7 +98,7 @@ module _ (n k y w : ℕ) (rs : List Row) (l t s m v d t′ s′ m′ v′ d′ :
       model-short q =
           done (answer 5 0 0) _ l′
           (sym (verdict-hit (check (ltb (length l) (length text)) 5 0 0) [] (lt-ltb (length l) (length text) (omega (arith, length-text))))
-          ∙ then-answered u _ zero)
+          ∙ then-answered u _ (left-zero g h))
           (refl, lies ∙ rw (lt-ltb (length l) c q))
 
       -- the model is written
@@ -129,5 +109,5 @@ module _ (n k y w : ℕ) (rs : List Row) (l t s m v d t′ s′ m′ v′ d′ :
           (sym
           (verdict-miss (check (ltb (length l) (length text)) 5 0 0) [] (le-ltb (length l) (length text) (omega (arith, length-text)))
           ∙ verdict-none)
-          ∙ then-answered u _ zero)
+          ∙ then-answered u _ (left-zero g h))
           (rw length-text refl, lies ∙ rw (le-ltb (length l) c q, same-text))

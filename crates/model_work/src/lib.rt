@@ -1,5 +1,5 @@
-// The work of writing a model in BLIF (02, Ticket 4): the row method in working storage, and the model's text from what it leaves there. The
-// room is looked at last, after 9, against this model's own length. The function here is inner.
+// The work of writing a model in BLIF (02, Ticket 4): the row method in working storage, and the model's text from what it leaves there.
+// The room is looked at last, after 9, against this model's own length. The function here is inner.
 use block::LIST_INPUTS;
 use block::SMALLER_ROWS;
 use block::TextAnswer;
@@ -20,9 +20,11 @@ pub fn make_model(
     words: &[u32],
     out: &mut [u8],
 ) -> TextAnswer
-    ensures { λ r. ⌜ r ≡ writeModel n k «block_type» w (rowsOf (now (masks .entry)) (now (values .entry)) (now (words .entry))) (length (now (out .entry))) ⌝ }
     ensures { λ r. ⌜ (let rs = rowsOf (now (masks .entry)) (now (values .entry)) (now (words .entry)) in
-        now (out .exit) ≡ stored (modelVerdict n k «block_type» w rs (length (now (out .entry)))) (modelText (missing «block_type») n k w rs) (now (out .entry))) ⌝ }
+        r ≡ writeModel n k «block_type» w rs (length (now (out .entry)))) ⌝ }
+    ensures { λ r. ⌜ (let rs = rowsOf (now (masks .entry)) (now (values .entry)) (now (words .entry)) in
+        let verdict = modelVerdict n k «block_type» w rs (length (now (out .entry))) in
+        now (out .exit) ≡ stored verdict (modelText (missing «block_type») n k w rs) (now (out .entry))) ⌝ }
 {
     let mut basis = [0u32; LIST_INPUTS];
     let mut sigma = [0u32; LIST_INPUTS];

@@ -1,4 +1,4 @@
--- What the program prints, by the work of its text: the sheet itself, or the line of the refusal. Assumes nothing.
+-- What the program prints, by the work of its text: the sheet or the model itself, or the line of the refusal. Assumes nothing.
 use mathlib.Core.Path.{_≡_, refl, sym, ap, _∙_}
 use mathlib.Core.Bool.{Bool, true, false, cond}
 use mathlib.Core.List.{List}
@@ -8,14 +8,15 @@ use native.Mathlib.Omega.{arith}
 use borrow.Author.Tests.{eq-eqb, ne-eqb}
 use lib.ListN.{length}
 use Rattle.slices.specs.Places.{over}
-use Rattle.block.specs.Refusals.{answer, answered, stored}
+use Rattle.block.specs.Refusals.{answer, answered, carried, stored}
 use Rattle.block.specs.Sheet.{refusalLine, orRefused, printedList, printed}
+use Rattle.block.specs.Model.{printedModelOf, printedModel}
 use Rattle.block.specs.declared.Answer.{Answer}
 use Rattle.refusal_laws.specs.Verdicts.{carried-yes, stored-yes, stored-no}
 use Rattle.put_bytes.specs.Puts.{Put, put-over}
-use Rattle.block.specs.declared.SheetWork.{SheetWork}
 use Rattle.put_refusal.specs.Length.{refusalRoom, refusal-le}
-use Rattle.text_work.specs.Work.{textVerdict, sheetIn, textWork}
+use Rattle.text_work.specs.Work.{textVerdict, sheetIn}
+use Rattle.model_text_work.specs.Work.{modelInVerdict, modelIn}
 
 -- a text or the line of a second refusal, or the line of a first, is by the verdict of both
 or-or : (u v : Answer) (t : List ℕ) → orRefused u (orRefused v t) ≡ orRefused (cond (answered u) v u) t
@@ -33,32 +34,30 @@ pub printed-by : (input : List ℕ) → printed input ≡ orRefused (textVerdict
 unfolding printed printedList textVerdict sheetIn
 printed-by input = or-or _ _ _
 
-module _ (input l l′ : List ℕ) (r : SheetWork) (answers : r ≡ textWork input) (text : l′ ≡ stored (textVerdict input) (sheetIn input) l) where
-  abbrev u : Answer
-  u = textVerdict input
+-- and with --blif the model
+pub printed-model-by : (input : List ℕ) → printedModel input ≡ orRefused (modelInVerdict input) (modelIn input)
+unfolding printedModel printedModelOf modelInVerdict modelIn
+printed-model-by input = or-or _ _ _
 
-  numbered : r .number ≡ u .number
-  unfolding textWork
-  numbered = ap (λ (x : SheetWork). x .number) answers
+-- what is printed where the work of a text left l′ in l and says this number and these places, by the verdict u and the text t
+module _ (u : Answer) (t l l′ : List ℕ) (text : l′ ≡ stored u t l) (number a b : ℕ) (said : answer number a b ≡ u) where
+  numbered : number ≡ u .number
+  numbered = ap (λ (v : Answer). v .number) said
 
   -- the line of a refusal
-  pub text-refused : (l″ : List ℕ) (c : ℕ) → (r .number ≡ 0 → ⊥) → refusalRoom ≤ length l
-      → Put l′ 0 (refusalLine (answer (r .number) (r .a) (r .b))) l″ c → (l″ ≡ over (printed input) l) × (c ≡ length (printed input))
-  unfolding textWork orRefused
-  text-refused l″ c h long p =
+  pub line-printed : (p l″ : List ℕ) (c : ℕ) → p ≡ orRefused u t → (number ≡ 0 → ⊥) → refusalRoom ≤ length l
+      → Put l′ 0 (refusalLine (answer number a b)) l″ c → (l″ ≡ over p l) × (c ≡ length p)
+  unfolding orRefused
+  line-printed p l″ c e h long q =
       let z : u .number ≡ 0 → ⊥ = λ e. h (numbered ∙ e) in
-      let said : answer (r .number) (r .a) (r .b) ≡ u = ap (λ (x : SheetWork). answer (x .number) (x .a) (x .b)) answers in
-      let f : printed input ≡ refusalLine (answer (r .number) (r .a) (r .b)) = printed-by input ∙ rw (ne-eqb (u .number) 0 z, said) in
-      let q : Put l 0 (refusalLine (answer (r .number) (r .a) (r .b))) l″ c = rw (text ∙ stored-no u (sheetIn input) l z) at p in
-      rw f (put-over (omega (arith, refusal-le (answer (r .number) (r .a) (r .b)))) q, q .place ∙ zero-add _)
+      let f : p ≡ refusalLine (answer number a b) = e ∙ rw (ne-eqb (u .number) 0 z, said) in
+      let put : Put l 0 (refusalLine (answer number a b)) l″ c = rw (text ∙ stored-no u t l z) at q in
+      rw f (put-over (omega (arith, refusal-le (answer number a b))) put, put .place ∙ zero-add _)
 
-  -- the sheet
-  pub text-printed : r .number ≡ 0 → (l′ ≡ over (printed input) l) × (r .count ≡ length (printed input))
-  unfolding textWork orRefused
-  text-printed h =
+  -- the text
+  pub text-printed : (p : List ℕ) (c : ℕ) → p ≡ orRefused u t → number ≡ 0 → c ≡ carried u (length t) → (l′ ≡ over p l) × (c ≡ length p)
+  unfolding orRefused
+  text-printed p c e h count =
       let z : u .number ≡ 0 = sym numbered ∙ h in
-      let f : printed input ≡ sheetIn input = printed-by input ∙ rw (eq-eqb (u .number) 0 z) in
-      rw f (
-        text ∙ stored-yes u (sheetIn input) l z,
-        ap (λ (x : SheetWork). x .count) answers ∙ carried-yes u (length (sheetIn input)) z,
-      )
+      let f : p ≡ t = e ∙ rw (eq-eqb (u .number) 0 z) in
+      rw f (text ∙ stored-yes u t l z, count ∙ carried-yes u (length t) z)

@@ -1,7 +1,9 @@
-// What the program prints (01, the first section, and The sheet). One function: `print_text` looks at the first 8,192 bytes of a text,
-// and writes the sheet of its rows with weight limit 3, or n where n is below 3, to the front of lent room; or it writes the one line
-// "refused N A B". It answers the number of bytes. This crate holds nothing else.
+// What the program prints (01, the first section, and The sheet; 02, Ticket 4). Two functions, each of which looks at the first 8,192 bytes
+// of a text and writes to the front of lent room, with weight limit 3, or n where n is below 3: `print_text` the sheet of the text's rows,
+// `print_model` their model in BLIF; or the one line "refused N A B". Each answers the number of bytes. This crate holds nothing else.
+use block::MODEL_ROOM;
 use block::SHEET_ROOM;
+ghost use Rattle.promises.specs.Models.{PrintModelPromise};
 ghost use Rattle.promises.specs.Sheets.{PrintPromise};
 
 // Prints the sheet of a text, or the line that says why not: every byte, and how many.
@@ -13,4 +15,15 @@ pub fn print_text(input: &[u8], out: &mut [u8; SHEET_ROOM]) -> usize
         return put_refusal::put_refusal(out, r.number, r.a, r.b);
     }
     r.count
+}
+
+// Prints the model of a text, or the line that says why not: every byte, and how many.
+pub fn print_model(input: &[u8], out: &mut [u8; MODEL_ROOM]) -> usize
+    ensures { λ r. ⌜ PrintModelPromise (now (input .entry)) (now (out .entry)) r (now (out .exit)) ⌝ }
+{
+    let m = model_text_work::model_text(input, out);
+    if m.number != 0 {
+        return put_refusal::put_refusal(out, m.number, m.a, m.b);
+    }
+    m.count
 }

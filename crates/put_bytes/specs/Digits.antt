@@ -9,16 +9,13 @@ use native.Mathlib.Nat.{pow-suc}
 use native.Mathlib.Numerals.{add-one}
 use native.Mathlib.Omega.{arith}
 use borrow.Author.Tests.{lt-ltb, le-ltb, ltb-true}
-use lib.Dec.{eqb, ltb}
+use lib.Dec.{ltb}
 use lib.ListN.{length, set, length-append}
 use lib.Seq.{sets}
 use Rattle.bits.specs.Bit.{bit-zero, bit-suc}
 use Rattle.block.specs.Text.{digits, decimal, symbols, bits}
+use Rattle.block.specs.Model.{symbolOf}
 use Rattle.put_bytes.specs.Puts.{sets-append, sets-set}
-
--- the symbol of a mask bit and a value bit
-abbrev pub symbolOf : ℕ → ℕ → ℕ
-symbolOf m v = cond (eqb m 0) 45 (48 + v)
 
 -- the last digits of v in a base, so many of them
 unfoldable pub lastDigits : ℕ → ℕ → ℕ → List ℕ

@@ -7,9 +7,10 @@ ghost use Prim.Native.Nat.{_+_, _≤_, _<_};
 ghost use lib.ListN.{length};
 ghost use Rattle.block.specs.Words.{row};
 ghost use Rattle.block.specs.Text.{decimal, symbols, bits, rowLine, rowLines};
+ghost use Rattle.block.specs.Model.{symbolOf};
 ghost use Rattle.flat_rows.specs.Listing.{rowsFrom};
 ghost use Rattle.put_bytes.specs.Puts.{Put};
-ghost use Rattle.put_bytes.specs.Digits.{symbolOf, lastDigits};
+ghost use Rattle.put_bytes.specs.Digits.{lastDigits};
 
 // Puts one byte.
 pub fn put_byte(out: &mut [u8], at: usize, b: u8) -> usize

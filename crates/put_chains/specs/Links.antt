@@ -94,7 +94,8 @@ digit-more i a q f b r h = go (ℕ-discrete (r % 2) 0)
     us : List ℕ
     us = upwards f (suc b) (r / 2)
 
-    go : Dec (r % 2 ≡ 0) → remaining i a q (cond (eqb (r % 2) 0) us (b ∷ us)) ≡ digitCovers i a b q r ++ remaining i (lowest a b q) (q + r % 2) us
+    go : Dec (r % 2 ≡ 0)
+        → remaining i a q (cond (eqb (r % 2) 0) us (b ∷ us)) ≡ digitCovers i a b q r ++ remaining i (lowest a b q) (q + r % 2) us
     go (yes e) =
         let z : q + r % 2 ≡ q = omega arith in
         rw (eq-eqb (r % 2) 0 e) (sym (ap (λ (t : ℕ). remaining i (lowest a b q) t us) z ∙ remaining-lowest i a b q us))
@@ -102,7 +103,8 @@ digit-more i a q f b r h = go (ℕ-discrete (r % 2) 0)
         let z : suc q ≡ q + r % 2 = omega arith in
         rw (ne-eqb (r % 2) 0 e)
         (remaining-more i a q b us
-        ∙ ap₂ (λ (l : Bool) (t : ℕ). linkCovers i a b q l ++ remaining i (lowest a b q) t us) (ends-none f (suc b) (r / 2) (omega (arith, pow-suc 2 f))) z)
+        ∙ ap₂ (λ (l : Bool) (t : ℕ). linkCovers i a b q l ++ remaining i (lowest a b q) t us)
+        (ends-none f (suc b) (r / 2) (omega (arith, pow-suc 2 f))) z)
 
 pub nothing-left : (i a q f b : ℕ) → remaining i a q (upwards f b 0) ≡ []
 unfolding rowCovers chain

@@ -35,29 +35,36 @@ row-none l from i n v =
           ∙ ap (λ (us : List ℕ). coverText (rowCovers i us)) (inputs-upwards n v);
     }
 
-pub row-more : (l₀ : List ℕ) (from i n v a q b r : ℕ) (l : List ℕ) (to : ℕ) (l' : List ℕ) (to' : ℕ) → RowPut l₀ from i n v a q b r l to
-    → b < n → r < 2 ^ (n - b) → Fitted l to (coverText (digitCovers i a b q r)) l' to'
+pub row-more : (l₀ : List ℕ) (from i n v a q b r : ℕ) (l : List ℕ) (to : ℕ) (l' : List ℕ) (to' : ℕ)
+    → RowPut l₀ from i n v a q b r l to → b < n → r < 2 ^ (n - b) → Fitted l to (coverText (digitCovers i a b q r)) l' to'
     → RowPut l₀ from i n v (lowest a b q) (q + r % 2) (b + 1) (r / 2) l' to'
 row-more l₀ from i n v a q b r l to l' to' w h lt p =
     let e : n - b ≡ suc (n - (b + 1)) = omega arith in
     record {
-      done = w .done ++ coverText (digitCovers i a b q r);
+      done = w .done ++ coverText now;
       put = next (w .put) p;
       whole =
-          append-assoc (w .done) (coverText (digitCovers i a b q r)) (coverText (remaining i (lowest a b q) (q + r % 2) (upwards (n - (b + 1)) (b + 1) (r / 2))))
+          append-assoc (w .done) (coverText now) (coverText (then (b + 1)))
           ∙ ap (λ (t : List ℕ). w .done ++ t)
-          (sym (text-append (digitCovers i a b q r) (remaining i (lowest a b q) (q + r % 2) (upwards (n - (b + 1)) (b + 1) (r / 2))))
-          ∙ ap (λ (c : ℕ). coverText (digitCovers i a b q r ++ remaining i (lowest a b q) (q + r % 2) (upwards (n - (b + 1)) c (r / 2)))) (add-one b)
+          (sym (text-append now (then (b + 1)))
+          ∙ ap (λ (c : ℕ). coverText (now ++ then c)) (add-one b)
           ∙ ap coverText (sym (digit-more i a q (n - (b + 1)) b r (rw e at lt)))
           ∙ ap (λ (f : ℕ). coverText (remaining i a q (upwards f b r))) (sym e))
           ∙ w .whole;
     }
+  where
+    now : List Cover
+    now = digitCovers i a b q r
+
+    then : ℕ → List Cover
+    then c = remaining i (lowest a b q) (q + r % 2) (upwards (n - (b + 1)) c (r / 2))
 
 pub row-done : (l₀ : List ℕ) (from i n v a q b r : ℕ) (l : List ℕ) (to : ℕ) → RowPut l₀ from i n v a q b r l to → r ≡ 0
     → Fitted l₀ from (coverText (rowCovers i (inputsOf n v))) l to
 row-done l₀ from i n v a q b r l to w e =
-    rw (sym (w .whole) ∙ ap (λ (x : ℕ). w .done ++ coverText (remaining i a q (upwards (n - b) b x))) e ∙ ap (λ (cs : List Cover). w .done ++ coverText cs) (nothing-left i a q (n - b) b) ∙ ap (λ (t : List ℕ). w .done ++ t) no-text ∙ append-nil (w .done))
-    (w .put)
+    let nothing : coverText (remaining i a q (upwards (n - b) b r)) ≡ [] =
+    ap (λ (x : ℕ). coverText (remaining i a q (upwards (n - b) b x))) e ∙ ap coverText (nothing-left i a q (n - b) b) ∙ no-text in
+    rw (sym (w .whole) ∙ ap (λ (t : List ℕ). w .done ++ t) nothing ∙ append-nil (w .done)) (w .put)
 
 -- half of what is left is below half the bound
 pub half-lt : (n b r : ℕ) → b < n → r < 2 ^ (n - b) → r / 2 < 2 ^ (n - (b + 1))
@@ -77,10 +84,13 @@ left-lt n b r p l = go (decLt b n)
         let k : r < 2 ^ 0 = rw e at l in
         absurd (omega arith)
 
+-- ---- all rows
+
 pub front-none : (n : ℕ) (s : ℕ → ℕ) → coverText (frontCovers n s 0) ≡ []
 unfolding frontCovers coverLines joined
 front-none n s = refl
 
-pub front-more : (n : ℕ) (s : ℕ → ℕ) (i : ℕ) → coverText (frontCovers n s (i + 1)) ≡ coverText (frontCovers n s i) ++ coverText (rowCovers i (inputsOf n (s i)))
+pub front-more : (n : ℕ) (s : ℕ → ℕ) (i : ℕ)
+    → coverText (frontCovers n s (i + 1)) ≡ coverText (frontCovers n s i) ++ coverText (rowCovers i (inputsOf n (s i)))
 unfolding frontCovers
 front-more n s i = rw (add-one i) (text-append (frontCovers n s i) (rowCovers i (inputsOf n (s i))))

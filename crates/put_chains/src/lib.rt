@@ -1,6 +1,6 @@
-// The covers of sigma in BLIF (02, Ticket 4): for each row a copy of its input, or a chain of XOR covers from its lowest input up, put into a
-// lent slice where they fit (`Fitted` of put_names). A row's inputs are its binary digits, taken from the lowest up. All functions here are
-// inner.
+// The covers of sigma in BLIF (02, Ticket 4): for each row a copy of its input, or a chain of XOR covers from its lowest input up, put
+// into a lent slice where they fit (`Fitted` of put_names). A row's inputs are its binary digits, taken from the lowest up. All functions
+// here are inner.
 ghost use mathlib.Core.Path.{_≡_};
 ghost use mathlib.Core.List.{[], _∷_};
 ghost use Prim.Native.Nat.{_+_, _*_, _^_, _≤_, _<_};

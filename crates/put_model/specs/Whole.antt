@@ -7,7 +7,8 @@ use native.Mathlib.Omega.{arith}
 use lib.ListN.{length}
 use Rattle.slices.specs.Places.{at, tab, over}
 use Rattle.slices.specs.Filled.{length-tab}
-use Rattle.block.specs.Model.{xName, yName, backCovers, frontCovers, patternsOf, modelCovers, spaced, coverLines, titleLine, inputsLine, outputsLine, lastLine, modelLines, joined, modelOf, blockModel}
+use Rattle.block.specs.Model.{xName, yName, backCovers, frontCovers, patternsOf, modelCovers, spaced, coverLines, joined}
+use Rattle.block.specs.Model.{titleLine, inputsLine, outputsLine, lastLine, modelLines, modelOf, blockModel}
 use Rattle.block.specs.declared.Row.{Row}
 use Rattle.block.specs.declared.Pattern.{Pattern}
 use Rattle.put_bytes.specs.Puts.{put-over}

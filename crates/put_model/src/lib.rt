@@ -59,9 +59,11 @@ pub fn put_model(
 ) -> usize
     requires { ⌜ (n < 100) × (k ≤ 15) × (p ≤ 512) × (n ≤ length (now sigma)) × Below n (now sigma) ⌝ }
     requires { ⌜ (p ≤ length (now masks)) × (p ≤ length (now values)) × (p ≤ length (now words)) ⌝ }
-    ensures { λ r. ⌜ r ≡ length (blockModel n k (now (sigma .entry)) (rowsFrom p (now (masks .entry)) (now (values .entry)) (now (words .entry)))) ⌝ }
     ensures { λ r. ⌜ (let rs = rowsFrom p (now (masks .entry)) (now (values .entry)) (now (words .entry)) in
-        now (out .exit) ≡ cond (ltb (length (now (out .entry))) r) (now (out .entry)) (over (blockModel n k (now (sigma .entry)) rs) (now (out .entry)))) ⌝ }
+        r ≡ length (blockModel n k (now (sigma .entry)) rs)) ⌝ }
+    ensures { λ r. ⌜ (let rs = rowsFrom p (now (masks .entry)) (now (values .entry)) (now (words .entry)) in
+        let text = blockModel n k (now (sigma .entry)) rs in
+        now (out .exit) ≡ cond (ltb (length (now (out .entry))) r) (now (out .entry)) (over text (now (out .entry)))) ⌝ }
 {
     let mut none = [0u8; 1];
     let need = emit_model(&mut none, n, k, sigma, p, masks, values, words);

@@ -1,5 +1,5 @@
--- The contract of every function that puts a piece of a model, and its laws: two pieces, one after the other, are one; nothing; a piece that
--- is put; a piece that does not fit. Assumes nothing.
+-- The contract of every function that puts a piece of a model, and its laws: two pieces, one after the other, are one; nothing; a piece
+-- that is put; a piece that does not fit. Assumes nothing.
 use mathlib.Core.Path.{_≡_, ap, sym, _∙_}
 use mathlib.Core.List.{List, [], _++_}
 use Prim.Native.Nat.{ℕ, _+_, _≤_, _<_}

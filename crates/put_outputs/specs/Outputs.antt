@@ -43,7 +43,8 @@ back-more n f j =
     rw (add-one j, tab-suc j f)
     (ap coverText (back-append n (tab j f) (f j ∷ []) 0)
     ∙ text-append (backCovers n 0 (tab j f)) (backCovers n (0 + length (tab j f)) (f j ∷ []))
-    ∙ ap (λ (i : ℕ). coverText (backCovers n 0 (tab j f)) ++ coverText (outputCover n i (f j) ∷ [])) (zero-add (length (tab j f)) ∙ length-tab j f))
+    ∙ ap (λ (i : ℕ). coverText (backCovers n 0 (tab j f)) ++ coverText (outputCover n i (f j) ∷ []))
+    (zero-add (length (tab j f)) ∙ length-tab j f))
 
 -- ---- powers of two
 

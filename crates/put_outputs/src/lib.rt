@@ -1,5 +1,5 @@
-// The covers of the outputs in BLIF (02, Ticket 4): one for each, lowest first, over all of the z, with the smaller rows that have a 1 there,
-// put into a lent slice where they fit (`Fitted` of put_names). All functions here are inner.
+// The covers of the outputs in BLIF (02, Ticket 4): one for each, lowest first, over all of the z, with the smaller rows that have a 1
+// there, put into a lent slice where they fit (`Fitted` of put_names). All functions here are inner.
 ghost use mathlib.Core.Path.{_≡_};
 ghost use mathlib.Core.List.{[], _∷_};
 ghost use Prim.Native.Nat.{_+_, _*_, _^_, _≤_, _<_};
@@ -70,7 +70,8 @@ pub fn emit_patterns(
 ) -> usize
     requires { ⌜ (at + p * 103 ≤ reach) × (n < 100) × (power ≡ 2 ^ j) ⌝ }
     requires { ⌜ (p ≤ length (now masks)) × (p ≤ length (now values)) × (p ≤ length (now words)) ⌝ }
-    ensures { λ r. ⌜ Fitted (now (out .entry)) at (patternText n (patternsOf j (rowsFrom p (now (masks .entry)) (now (values .entry)) (now (words .entry))))) (now (out .exit)) r ⌝ }
+    ensures { λ r. ⌜ (let rs = rowsFrom p (now (masks .entry)) (now (values .entry)) (now (words .entry)) in
+        Fitted (now (out .entry)) at (patternText n (patternsOf j rs)) (now (out .exit)) r) ⌝ }
     ensures { λ r. ⌜ r ≤ at + p * 103 ⌝ }
 {
     let mut to = at;
@@ -96,8 +97,8 @@ pub fn emit_output(
 ) -> usize
     requires { ⌜ (at + 60000 ≤ reach) × (n < 100) × (j < 100) × (p ≤ 512) × (power ≡ 2 ^ j) ⌝ }
     requires { ⌜ (p ≤ length (now masks)) × (p ≤ length (now values)) × (p ≤ length (now words)) ⌝ }
-    ensures { λ r. ⌜ Fitted (now (out .entry)) at
-        (coverText (outputCover n j (patternsOf j (rowsFrom p (now (masks .entry)) (now (values .entry)) (now (words .entry)))) ∷ [])) (now (out .exit)) r ⌝ }
+    ensures { λ r. ⌜ (let rs = rowsFrom p (now (masks .entry)) (now (values .entry)) (now (words .entry)) in
+        Fitted (now (out .entry)) at (coverText (outputCover n j (patternsOf j rs) ∷ [])) (now (out .exit)) r) ⌝ }
     ensures { λ r. ⌜ r ≤ at + 60000 ⌝ }
 {
     let a = put_names::emit_bytes(out, at, b".names");

@@ -1,15 +1,14 @@
 -- The sheet by what the row method leaves in working storage: where it answers 0, the text put from that storage is 01's sheet; where it
 -- refuses, so does the sheet. Assumes nothing.
 use mathlib.Core.Path.{_≡_, sym, ap, _∙_}
-use mathlib.Core.List.{List, map}
+use mathlib.Core.List.{List}
 use Prim.Native.Nat.{ℕ, _*_, _^_, _≤_}
 use native.Mathlib.Nat.{mul-le-mul, zero-add}
 use native.Mathlib.Omega.{arith}
 use borrow.Author.Tests.{eq-eqb, ne-eqb, ltb-false}
 use lib.Dec.{ltb}
-use lib.ListN.{length, take, drop}
+use lib.ListN.{length, take}
 use lib.Pow.{pow-mono}
-use lib.Seq.{take-at}
 use Rattle.sums.specs.Laws.{sum-le}
 use Rattle.block.specs.Limits.{listInputs, smallerRows, sheetRoom}
 use Rattle.block.specs.Words.{missing, ofRows}
@@ -22,13 +21,13 @@ use Rattle.block.specs.declared.Row.{Row}
 use Rattle.block.specs.declared.Answer.{Answer}
 use Rattle.block.specs.declared.RowMethodAnswer.{RowMethodAnswer}
 use Rattle.refusal_laws.specs.Verdicts.{carried-yes, stored-yes, stored-no}
-use Rattle.answered_laws.specs.Passed.{MethodAnswered, method-answered}
+use Rattle.answered_laws.specs.Passed.{MethodAnswered}
 use Rattle.pair_laws.specs.Theorem.{shift-le}
 use Rattle.matrix_laws.specs.Inverse.{length-basis, length-sigma}
 use Rattle.flat_rows.specs.Listing.{rowsFrom}
 use Rattle.put_bytes.specs.Puts.{Put, put-over}
-use Rattle.moved_rows.specs.Put.{rows-put}
 use Rattle.row_work.specs.Method.{MethodDone}
+use Rattle.row_work.specs.Left.{left-number, left-zero, left-ready, left-count, left-basis, left-sigma, left-rows}
 use Rattle.put_sheet.specs.Length.{sheet-le}
 use Rattle.sheet_work.specs.Work.{sheetWork}
 
@@ -52,25 +51,22 @@ module _ (n k y w : ℕ) (rs : List Row) (l t s m v d t′ s′ m′ v′ d′ :
   abbrev u : Answer
   u = verdict (methodChecks n k y w rs (ltb (length l) sheetRoom))
 
-  number-same : r .number ≡ u .number
-  number-same = ap (λ (x : RowMethodAnswer). x .number) (g .answers)
-
   -- a refusal
   pub sheet-refused : (r .number ≡ 0 → ⊥)
       → (record { number = r .number; a = r .a; b = r .b; before = 0; after = 0; rows = 0; count = 0 } ≡ sheetWork n k y w rs (length l))
       × (l ≡ stored (sheetVerdict n k y w rs (length l)) (sheetText (missing y) n k w rs) l)
   unfolding sheetWork sheetVerdict
   sheet-refused h =
-      let z : u .number ≡ 0 → ⊥ = λ e. h (number-same ∙ e) in
+      let z : u .number ≡ 0 → ⊥ = λ e. h (left-number g ∙ e) in
       (rw (g .answers, ne-eqb (u .number) 0 z), sym (stored-no u (sheetText (missing y) n k w rs) l z))
 
   module _ (h : r .number ≡ 0) where
     zero : u .number ≡ 0
-    zero = sym number-same ∙ h
+    zero = left-zero g h
 
     -- what the answer of 0 says of the list
     pub sheet-ready : MethodAnswered n k y w rs (ltb (length l) sheetRoom)
-    sheet-ready = method-answered n k y w rs (ltb (length l) sheetRoom) zero
+    sheet-ready = left-ready g h
 
     inputs : n ≤ listInputs
     inputs = sheet-ready .passed .list .range .size .1
@@ -84,24 +80,9 @@ module _ (n k y w : ℕ) (rs : List Row) (l t s m v d t′ s′ m′ v′ d′ :
     later : r .after ≡ measure (smallerOf (ofRows (missing y) rs) n w) n
     later = ap (λ (x : RowMethodAnswer). x .after) (g .answers) ∙ carried-yes u (measure (smallerOf (ofRows (missing y) rs) n w) n) zero
 
-    counted : r .count ≡ length (smallerList (missing y) n w rs)
-    counted = ap (λ (x : RowMethodAnswer). x .count) (g .answers) ∙ carried-yes u (length (smallerList (missing y) n w rs)) zero
-
-    front : (x p p′ : List ℕ) → p′ ≡ stored u x p → length x ≡ n → take n p′ ≡ x
-    front x p p′ e f = ap (take n) (e ∙ stored-yes u x p zero) ∙ take-at x (drop (length x) p) n f
-
     text : sheetOf n k w (r .before) (r .after) (take n t′) (take n s′) (rowsFrom (r .count) m′ v′ d′) ≡ sheetText (missing y) n k w rs
     unfolding sheetText
-    text =
-        same-sheet n k w earlier later
-        (front (basisOf (ofRows (missing y) rs) n w) t t′ (g .basis) (length-basis (ofRows (missing y) rs) n w))
-        (front (sigmaOf (ofRows (missing y) rs) n w) s s′ (g .sigma) (length-sigma (ofRows (missing y) rs) n w))
-        (rows-put (r .count) counted
-        (record {
-          masks = g .masks ∙ stored-yes u (map (λ (r : Row). r .mask) (smallerList (missing y) n w rs)) m zero;
-          values = g .values ∙ stored-yes u (map (λ (r : Row). r .values) (smallerList (missing y) n w rs)) v zero;
-          words = g .words ∙ stored-yes u (map (λ (r : Row). r .word) (smallerList (missing y) n w rs)) d zero;
-        }))
+    text = same-sheet n k w earlier later (left-basis g h) (left-sigma g h) (left-rows g h)
 
     text-le : length (sheetText (missing y) n k w rs) ≤ length l
     unfolding sheetText
@@ -121,7 +102,7 @@ module _ (n k y w : ℕ) (rs : List Row) (l t s m v d t′ s′ m′ v′ d′ :
 
     -- the room is long enough for the sheet put from the storage, which has so many rows
     pub sheet-room : (length (sheetOf n k w (r .before) (r .after) (take n t′) (take n s′) (rowsFrom (r .count) m′ v′ d′)) ≤ length l) × (r .count ≤ 512)
-    sheet-room = (rw text text-le, rw counted (sheet-ready .few))
+    sheet-room = (rw text text-le, rw (left-count g h) (sheet-ready .few))
 
     -- the sheet put from the storage is 01's
     pub sheet-answered : (l′ : List ℕ) (c : ℕ)

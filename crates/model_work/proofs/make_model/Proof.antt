@@ -1,9 +1,8 @@
--- `model_work::make_model` meets its contract. A refusal of the row method is the writing's, and leaves the slice alone; on 0 the text is put
--- from working storage, or the room is below its length. Assumes nothing.
+-- `model_work::make_model` meets its contract. A refusal of the row method is the writing's, and leaves the slice alone; on 0 the text
+-- is put from working storage, or the room is below its length. Assumes nothing.
 use native.Mathlib.Omega.{arith}
 use denote.Ref.{now}
 use lib.ListN.{length-take}
-use Rattle.block.specs.Words.{rowsOf}
 use Rattle.model_work.specs.Made.{model-refused, model-inputs, model-ready, model-short, model-written}
 use borrow.Author.Needs.{needs}
 use Rattle.model_work.proofs.make_model.Statement.{statement}
@@ -29,24 +28,23 @@ method-rows-requires c κs = search needs
 
 returns : tie.Need-returns
 returns c =
-    let refused = c in
-    let made = refused .before .before .before .before .before .before .before in
+    let made = c .before .before .before .before .before .before .before in
     let a = made .before .before .before .before .before .before .before .before .before .before .args in
-    model-refused (a .n) (a .k) (a .block-type) (a .w) (rowsOf (now (a .masks)) (now (a .values)) (now (a .words))) (now (a .out)) _ _ _ _ _ _ _ _ _ _ _ (made .method-rows .ensures) (refused .if1 .taken)
+    model-refused (now (a .out)) (made .method-rows .ensures) (c .if1 .taken)
 
 array-share-prefix-sigma : tie.Need-array-share-prefix-sigma
 array-share-prefix-sigma c =
     let left = c .before in
     let made = left .before .before .before .before .before .before .before in
     let a = made .before .before .before .before .before .before .before .before .before .before .args in
-    omega (arith, model-inputs (a .n) (a .k) (a .block-type) (a .w) (rowsOf (now (a .masks)) (now (a .values)) (now (a .words))) (now (a .out)) _ _ _ _ _ _ _ _ _ _ _ (made .method-rows .ensures) (left .if1 .left))
+    omega (arith, model-inputs (now (a .out)) (made .method-rows .ensures) (left .if1 .left))
 
 slice-aggregate-put-model : tie.Need-slice-aggregate-put-model
 slice-aggregate-put-model c =
     let left = c .before .before in
     let made = left .before .before .before .before .before .before .before in
     let a = made .before .before .before .before .before .before .before .before .before .before .args in
-    simp length-take (omega (arith, model-inputs (a .n) (a .k) (a .block-type) (a .w) (rowsOf (now (a .masks)) (now (a .values)) (now (a .words))) (now (a .out)) _ _ _ _ _ _ _ _ _ _ _ (made .method-rows .ensures) (left .if1 .left)))
+    simp length-take (omega (arith, model-inputs (now (a .out)) (made .method-rows .ensures) (left .if1 .left)))
 
 slice-aggregate-put-model-2 : tie.Need-slice-aggregate-put-model-2
 slice-aggregate-put-model-2 c = search needs
@@ -64,7 +62,7 @@ put-model-requires c κs =
     let a = made .before .before .before .before .before .before .before .before .before .before .args in
     let g = made .method-rows .ensures in
     let h = left .if1 .left in
-    let ready = model-ready (a .n) (a .k) (a .block-type) (a .w) (rowsOf (now (a .masks)) (now (a .values)) (now (a .words))) (now (a .out)) _ _ _ _ _ _ _ _ _ _ _ g h (omega (arith, model-inputs (a .n) (a .k) (a .block-type) (a .w) (rowsOf (now (a .masks)) (now (a .values)) (now (a .words))) (now (a .out)) _ _ _ _ _ _ _ _ _ _ _ g h)) in
+    let ready = model-ready (now (a .out)) g h (omega (arith, model-inputs (now (a .out)) g h)) in
     (ready, (omega (arith, ready .2), omega (arith, ready .2), omega (arith, ready .2)))
 
 same-length : tie.Need-same-length
@@ -77,7 +75,7 @@ returns-2 c =
     let made = left .before .before .before .before .before .before .before in
     let a = made .before .before .before .before .before .before .before .before .before .before .args in
     let p = put .put-model .ensures in
-    model-short (a .n) (a .k) (a .block-type) (a .w) (rowsOf (now (a .masks)) (now (a .values)) (now (a .words))) (now (a .out)) _ _ _ _ _ _ _ _ _ _ _ (made .method-rows .ensures) (left .if1 .left) _ _ (p .0) (p .1) (omega arith)
+    model-short (now (a .out)) (made .method-rows .ensures) (left .if1 .left) _ _ (p .0) (p .1) (omega arith)
 
 same-length-2 : tie.Need-same-length-2
 same-length-2 c = search needs
@@ -89,7 +87,7 @@ returns-3 c =
     let made = left .before .before .before .before .before .before .before in
     let a = made .before .before .before .before .before .before .before .before .before .before .args in
     let p = put .put-model .ensures in
-    model-written (a .n) (a .k) (a .block-type) (a .w) (rowsOf (now (a .masks)) (now (a .values)) (now (a .words))) (now (a .out)) _ _ _ _ _ _ _ _ _ _ _ (made .method-rows .ensures) (left .if1 .left) _ _ (p .0) (p .1) (omega arith)
+    model-written (now (a .out)) (made .method-rows .ensures) (left .if1 .left) _ _ (p .0) (p .1) (omega arith)
 
 pub make-model-spec : {M : Type 1} → statement M
 make-model-spec =

@@ -12,7 +12,8 @@ use Rattle.put_chains.proofs.emit_row.Tie as tie
 
 abbrev Inv-loop : tie.InvT-loop
 Inv-loop out₀ at n i v to₀ a₀ b₀ q₀ rest₀ out to a b q rest =
-    (b ≤ n) × (a ≤ b) × (q ≤ b) × (to ≤ at + b * 40) × (length out ≡ length out₀) × (rest < 2 ^ (n - b)) × RowPut out₀ at i n v a q b rest out to
+    (b ≤ n) × (a ≤ b) × (q ≤ b) × (to ≤ at + b * 40) × (length out ≡ length out₀) × (rest < 2 ^ (n - b))
+    × RowPut out₀ at i n v a q b rest out to
 
 abbrev μ-loop : tie.MeasureT-loop
 μ-loop out₀ at n i v to₀ a₀ b₀ q₀ rest₀ out to a b q rest = rest
@@ -23,8 +24,7 @@ loop-holds c = (omega arith, omega arith, omega arith, omega arith, refl, rw sub
 emit-digit-requires : tie.Need-emit-digit-requires Inv-loop μ-loop
 emit-digit-requires c κs =
     let l = c .before .before .loop in
-    let a = c .before .before .before .before .args in
-    let h = left-lt (a .n) (l .b) (l .rest) (omega arith) (l .inv .5) in
+    let h = left-lt (c .before .before .before .before .args .n) (l .b) (l .rest) (omega arith) (l .inv .5) in
     (omega arith, omega arith, omega arith, omega arith, omega arith)
 
 lowest-of-requires : tie.Need-lowest-of-requires Inv-loop μ-loop

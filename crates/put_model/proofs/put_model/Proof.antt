@@ -1,5 +1,5 @@
--- `put_model::put_model` meets its contract: what is put into no room tells the length, and where the room is so long the model lies over it.
--- Assumes nothing.
+-- `put_model::put_model` meets its contract: what is put into no room tells the length, and where the room is so long the model lies
+-- over it. Assumes nothing.
 use Prim.Native.Nat.{_≤_}
 use native.Mathlib.Omega.{arith}
 use denote.Ref.{now}
@@ -33,7 +33,8 @@ returns-2 c =
     let r = second .emit-model2 .result in
     let e : r ≤ length (now o) =
     omega (arith, second .emit-model2 .ensures .place, first .emit-model .ensures .place, second .before .before .if1 .left) in
-    (whole-length _ _ _ _ (second .emit-model2 .ensures), rw (le-ltb (length (now o)) r e) (whole-over _ _ _ _ (second .emit-model2 .ensures) e))
+    let p = second .emit-model2 .ensures in
+    (whole-length _ _ _ _ p, rw (le-ltb (length (now o)) r e) (whole-over _ _ _ _ p e))
 
 pub put-model-spec : {M : Type 1} → statement M
 put-model-spec =

@@ -22,10 +22,13 @@ same-length c = search needs
 returns : tie.Need-returns
 returns c =
     let p = c .before .before .put-decimal .ensures in
-    (put-fitted p, omega (arith, p .place, decimal-le 2 (c .before .before .before .before .before .before .before .args .v) (omega arith) (omega arith)))
+    let short = decimal-le 2 (c .before .before .before .before .before .before .before .args .v) (omega arith) (omega arith) in
+    (put-fitted p, omega (arith, p .place, short))
 
 returns-2 : tie.Need-returns-2
-returns-2 c = (past-end (omega arith) (omega arith), omega (arith, decimal-le 2 (c .before .before .before .args .v) (omega arith) (omega arith)))
+returns-2 c =
+    let short = decimal-le 2 (c .before .before .before .args .v) (omega arith) (omega arith) in
+    (past-end (omega arith) (omega arith), omega (arith, short))
 
 pub emit-number-spec : {M : Type 1} → statement M
 emit-number-spec =

@@ -16,7 +16,8 @@ use Rattle.put_outputs.proofs.emit_patterns.Tie as tie
 
 abbrev Inv-loop : tie.InvT-loop
 Inv-loop out₀ at n j power p masks values words to₀ i₀ out to i =
-    (i ≤ p) × (to ≤ at + i * 103) × (length out ≡ length out₀) × Fitted out₀ at (patternText n (patternsOf j (rowsFrom i masks values words))) out to
+    (i ≤ p) × (to ≤ at + i * 103) × (length out ≡ length out₀)
+    × Fitted out₀ at (patternText n (patternsOf j (rowsFrom i masks values words))) out to
 
 abbrev μ-loop : tie.MeasureT-loop
 μ-loop out₀ at n j power p masks values words to₀ i₀ out to i = p - i
