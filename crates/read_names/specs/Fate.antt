@@ -212,6 +212,13 @@ pub due-lost : (text : List ℕ) → length text < 2 ^ 63 → (at : ℕ) (s : Li
     → r ≡ metAt text at s → r ≡ lost → Stopped text (fate text (Due s to) at) at
 due-lost text h at s to r e p d = due-missed text at s to e (line-missed text h at s e (sym p ∙ d))
 
+-- a line that was met, of several that may stand there
+pub fate-met : (text : List ℕ) → length text < 2 ^ 63 → (st : State) (at : ℕ) (to : State) (s : List ℕ) → isLine s ≡ true
+    → begins s (drop at text) ≡ true → step st (front (drop at text)) ≡ More to → fate text st at ≡ fate text to (metAt text at s)
+fate-met text h st at to s e f g =
+    let l : front (drop at text) ≡ s = equal-true (front (drop at text)) s (front-begins s (drop at text) e ∙ f) in
+    fate-next text st at to s e f (ap (step st) (sym l) ∙ g) ∙ ap (fate text to) (sym (met-yes text h at s f))
+
 -- what stops after one way stops before it
 pub stop-after : {text : List ℕ} {f g : Fate} {p : ℕ} → f ≡ g → Stopped text g p → Stopped text f p
 stop-after {text} {f} {g} {p} e h = rw e h

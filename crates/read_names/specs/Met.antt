@@ -1,7 +1,7 @@
 -- Bytes that are compared by place: `metAt` is the place after them where they stand, and else a place that no text reaches; met one after
 -- the other they are met together (`met-then`). What a number of one or two digits is, and names with one letter. Assumes nothing.
 use mathlib.Core.Path.{_≡_, refl, sym, ap, ap₂, _∙_}
-use mathlib.Core.Bool.{Bool, true, false, cond, _&&_}
+use mathlib.Core.Bool.{Bool, true, false, not, cond, _&&_}
 use mathlib.Core.List.{List, [], _∷_, _++_, append-assoc, append-nil}
 use Prim.Native.Nat.{ℕ, zero, suc, _+_, _*_, _/_, _%_, _^_, _≤_, _<_}
 use native.Mathlib.Nat.{add-zero}
@@ -121,6 +121,17 @@ module _ (t : List ℕ) (h : length t < 2 ^ 63) where
       go : (q : Bool) → begins (x ∷ s) (drop at t) ≡ q → q ≡ false
       go true e = absurd (omega (arith, lost-is, met-yes at (x ∷ s) e, begins-length (x ∷ s) (drop at t) e, length-drop at t))
       go false e = refl
+
+  -- the same as a test of the place that was answered
+  pub met-test : (at : ℕ) (x : ℕ) (s : List ℕ) (r : ℕ) → r ≡ metAt t at (x ∷ s)
+      → not (eqb r 18446744073709551615) ≡ begins (x ∷ s) (drop at t)
+  met-test at x s r p = go (begins (x ∷ s) (drop at t)) refl
+    where
+      go : (q : Bool) → begins (x ∷ s) (drop at t) ≡ q → not (eqb r 18446744073709551615) ≡ q
+      go true e =
+          rw (ne-eqb r 18446744073709551615
+          (λ d. omega (arith, met-yes at (x ∷ s) e, begins-length (x ∷ s) (drop at t) e, length-drop at t)))
+      go false e = rw (eq-eqb r 18446744073709551615 (p ∙ met-no at (x ∷ s) e ∙ lost-is))
 
 -- one byte that stands there, another one, and none
 pub byte-met : (t : List ℕ) (at b : ℕ) → at < length t → getD t at 0 ≡ b → metAt t at (b ∷ []) ≡ at + 1
