@@ -1,12 +1,12 @@
--- The covers of a row of sigma by place: the first input whose line stands there (`linkedAt`), what the line then says (`linkOf`), and that
--- this is what the meaning says of the line: for a chain's next cover (`linked`) and for a row's first (`copied`, `begun-chain`, `row-none`).
--- Assumes nothing.
+-- The covers of a chain by place: the first input whose line stands there (`linkedAt`), what the line then says (`linkOf`), that this is
+-- what the meaning says of the line (`linked`), and how a chain goes on cover by cover (`Going`). Assumes nothing.
 use mathlib.Core.Path.{_≡_, refl, sym, ap, ap₂, _∙_}
 use mathlib.Core.Bool.{Bool, true, false, not, cond, _&&_, _||_}
 use mathlib.Core.List.{List, [], _∷_, _++_, append-assoc, append-nil}
 use Prim.Native.Nat.{ℕ, zero, suc, _+_, _*_, _^_, _≤_, _<_}
 use native.Mathlib.Decide.{decLt}
 use native.Mathlib.Nat.{pow-le-pow-right}
+use native.Mathlib.Numerals.{add-one}
 use native.Mathlib.Omega.{arith, pow-step}
 use borrow.Author.Tests.{lt-ltb, le-ltb, ltb-true, eq-eqb}
 use lib.Dec.{eqb, ltb}
@@ -22,8 +22,10 @@ use Rattle.block.specs.ModelRead.{State, Outcome, Due, RowDue, LinkDue, OutputD
 use Rattle.read_laws.specs.Front.{front, noLF}
 use Rattle.read_laws.specs.Tests.{every-append, equal-same, equal-true}
 use Rattle.read_names.specs.Met.{begins, metAt, lost, met-yes, met-then, met-found, met-missed, met-test, begins-then}
-use Rattle.read_names.specs.Fate.{isLine, front-begins, Stopped, fate, fate-met, fate-stop, decimal-noLF, Clear, word-line}
+use Rattle.read_names.specs.Fate.{isLine, front-begins, Came, Stopped, fate, fate-met, fate-stop, stop-after, decimal-noLF, Clear, word-line}
 use Rattle.read_names.specs.Attempts.{attempt-first}
+use Rattle.read_names.specs.declared.Place.{Place}
+use Rattle.read_names.specs.declared.Place.the-variants.{After, Stop}
 use Rattle.read_chains.specs.declared.Link.{Link}
 use Rattle.read_chains.specs.declared.Link.the-variants.{None, Last, Part}
 use Rattle.read_chains.specs.declared.Chain.{Chain}
@@ -103,6 +105,40 @@ linkBy t at n m i p b =
 unfoldable pub linkOf : List ℕ → ℕ → ℕ → ℕ → ℕ → ℕ → Link
 linkOf t at n m i p = linkBy t at n m i p (first n (linkedAt t at n m i p))
 
+pub power-small : (b : ℕ) → b ≤ listInputs → 2 ^ b ≤ 65536
+power-small b h = pow-le-pow-right {n = 2} (omega arith) {i = b} {j = listInputs} h
+
+grown : (n m b : ℕ) → b < n → m < 2 ^ b → (m + 2 ^ b < 2 ^ n) × (m + m < m + 2 ^ b)
+grown n m b h l =
+    let e : 2 ^ suc b ≤ 2 ^ n = pow-le-pow-right {n = 2} (omega arith) {i = suc b} {j = n} (omega arith) in
+    (omega (arith, pow-step 2 b), omega arith)
+
+-- the inputs of a row stay below 2^n, and those of a part have more than doubled
+unfoldable pub Grown : ℕ → ℕ → Link → Type 0
+Grown n m None = Unit
+Grown n m (Last v to) = v < 2 ^ n
+Grown n m (Part v to) = (v < 2 ^ n) × (m + m < v)
+
+link-grown : (t : List ℕ) (at n m i p : ℕ) → Grown n m (linkOf t at n m i p)
+unfolding linkOf linkBy linkedAt Grown
+link-grown t at n m i p = go (decLt b n)
+  where
+    b : ℕ
+    b = first n (linkedAt t at n m i p)
+
+    some : (q : Bool) (x y : ℕ) → b < n → m < 2 ^ b → Grown n m (cond q (Last (m + 2 ^ b) x) (Part (m + 2 ^ b) y))
+    some true x y l d = grown n m b l d .0
+    some false x y l d = grown n m b l d
+
+    go : Dec (b < n) → Grown n m (linkBy t at n m i p b)
+    go (yes l) =
+        let v : linkedAt t at n m i p b ≡ true = first-passes n (linkedAt t at n m i p) l in
+        rw (lt-ltb b n l) (some (begins (tail b (zName i)) (drop at t)) _ _ l (ltb-true m (2 ^ b) (and-both (ltb m (2 ^ b)) _ v .0)))
+    go (no l) = rw (le-ltb b n (omega arith)) tt
+
+pub link-told : (t : List ℕ) (at n m i p : ℕ) {r : Link} → r ≡ linkOf t at n m i p → (r ≡ linkOf t at n m i p) × Grown n m r
+link-told t at n m i p e = (e, rw e (link-grown t at n m i p))
+
 -- the test by the places that were answered
 module _ (t : List ℕ) (h : length t < 2 ^ 63) (at n m i p b : ℕ) where
   pub linked-low : 2 ^ b ≤ m → false ≡ linkedAt t at n m i p b
@@ -162,22 +198,13 @@ stateBy text n k rs m p begun b =
     cond (begins (tail b (zName (length rs))) (drop begun text)) (xorDue (nextRow n k (rs ++ ((m + 2 ^ b) ∷ []))))
     (xorDue (LinkDue n k rs (m + 2 ^ b) p))
 
--- what comes of a chain's next line: nothing; its inputs, below 2^n, and what is due at the place after the line
-unfoldable pub Linked : List ℕ → ℕ → ℕ → ℕ → ℕ → (ℕ → List ℕ → State) → ℕ → Link → Type 0
-Linked text n i m p st at None = (k : ℕ) (rs : List ℕ) → length rs ≡ i → Stopped text (fate text (st k rs) at) at
-Linked text n i m p st at (Last v to) =
-    (v < 2 ^ n) × ((k : ℕ) (rs : List ℕ) → length rs ≡ i → fate text (st k rs) at ≡ fate text (xorDue (nextRow n k (rs ++ (v ∷ [])))) to)
-Linked text n i m p st at (Part v to) =
-    (v < 2 ^ n) × (m + m < v)
-    × ((k : ℕ) (rs : List ℕ) → length rs ≡ i → fate text (st k rs) at ≡ fate text (xorDue (LinkDue n k rs v p)) to)
-
-pub power-small : (b : ℕ) → b ≤ listInputs → 2 ^ b ≤ 65536
-power-small b h = pow-le-pow-right {n = 2} (omega arith) {i = b} {j = listInputs} h
-
-grown : (n m b : ℕ) → b < n → m < 2 ^ b → (m + 2 ^ b < 2 ^ n) × (m + m < m + 2 ^ b)
-grown n m b h l =
-    let e : 2 ^ suc b ≤ 2 ^ n = pow-le-pow-right {n = 2} (omega arith) {i = suc b} {j = n} (omega arith) in
-    (omega (arith, pow-step 2 b), omega arith)
+-- what comes of a chain's next line: nothing, or what is due at the place after it
+unfoldable pub Linked : List ℕ → ℕ → ℕ → ℕ → (ℕ → List ℕ → State) → ℕ → Link → Type 0
+Linked text n i p st at None = (k : ℕ) (rs : List ℕ) → length rs ≡ i → Stopped text (fate text (st k rs) at) at
+Linked text n i p st at (Last v to) =
+    (k : ℕ) (rs : List ℕ) → length rs ≡ i → fate text (st k rs) at ≡ fate text (xorDue (nextRow n k (rs ++ (v ∷ [])))) to
+Linked text n i p st at (Part v to) =
+    (k : ℕ) (rs : List ℕ) → length rs ≡ i → fate text (st k rs) at ≡ fate text (xorDue (LinkDue n k rs v p)) to
 
 module _ (text : List ℕ) (h : length text < 2 ^ 63) where
   -- a cover's line stands at a place exactly where its end stands after its beginning
@@ -231,140 +258,113 @@ module _ (text : List ℕ) (h : length text < 2 ^ 63) where
     said b f k rs e = c .links k rs e ∙ rw f at (rw e at (link-there n k rs (c .from) m p at (c .clear) begun (c .opened)))
 
     linked-last : (b : ℕ) → first n (linkedAt text begun n m i p) ≡ b → b < n → begins (tail b (zName i)) (drop begun text) ≡ true
-        → Linked text n i m p st at (Last (m + 2 ^ b) (metAt text begun (tail b (zName i))))
-    unfolding Linked linkedAt
+        → Linked text n i p st at (Last (m + 2 ^ b) (metAt text begun (tail b (zName i))))
+    unfolding Linked
     linked-last b f l q =
-        let v : linkedAt text begun n m i p b ≡ true = rw f at (first-passes n (linkedAt text begun n m i p) (omega arith)) in
-        let d : m < 2 ^ b = ltb-true m (2 ^ b) (and-both (ltb m (2 ^ b)) _ v .0) in
-        (
-          grown n m b l d .0,
-          λ k rs e.
-            link-went at begun (c .from) b (zName i) (st k rs) (xorDue (nextRow n k (rs ++ ((m + 2 ^ b) ∷ [])))) (c .clear) (name-clear 122 i refl)
-            (c .opened) q (said b f k rs e ∙ rw (lt-ltb b n l, q)),
-        )
+        λ k rs e.
+          link-went at begun (c .from) b (zName i) (st k rs) (xorDue (nextRow n k (rs ++ ((m + 2 ^ b) ∷ [])))) (c .clear) (name-clear 122 i refl)
+          (c .opened) q (said b f k rs e ∙ rw (lt-ltb b n l, q))
 
     linked-part : (b : ℕ) → first n (linkedAt text begun n m i p) ≡ b → b < n → begins (tail b (zName i)) (drop begun text) ≡ false
-        → Linked text n i m p st at (Part (m + 2 ^ b) (metAt text begun (tail b (partName i p))))
+        → Linked text n i p st at (Part (m + 2 ^ b) (metAt text begun (tail b (partName i p))))
     unfolding Linked linkedAt
     linked-part b f l q =
         let v : linkedAt text begun n m i p b ≡ true = rw f at (first-passes n (linkedAt text begun n m i p) (omega arith)) in
         let w = and-both (ltb m (2 ^ b)) _ v in
         let x : ltb (suc b) n && begins (tail b (partName i p)) (drop begun text) ≡ true = rw q at (w .1) in
-        let g = grown n m b l (ltb-true m (2 ^ b) (w .0)) in
-        (
-          g .0,
-          g .1,
-          λ k rs e.
-            link-went at begun (c .from) b (partName i p) (st k rs) (xorDue (LinkDue n k rs (m + 2 ^ b) p)) (c .clear) (part-clear i p)
-            (c .opened) (and-both (ltb (suc b) n) _ x .1) (said b f k rs e ∙ rw (lt-ltb b n l, q)),
-        )
+        λ k rs e.
+          link-went at begun (c .from) b (partName i p) (st k rs) (xorDue (LinkDue n k rs (m + 2 ^ b) p)) (c .clear) (part-clear i p)
+          (c .opened) (and-both (ltb (suc b) n) _ x .1) (said b f k rs e ∙ rw (lt-ltb b n l, q))
 
-    linked-by : (b : ℕ) → first n (linkedAt text begun n m i p) ≡ b → Linked text n i m p st at (linkBy text begun n m i p b)
+    linked-by : (b : ℕ) → first n (linkedAt text begun n m i p) ≡ b → Linked text n i p st at (linkBy text begun n m i p b)
     unfolding linkBy Linked
     linked-by b f = go (decLt b n)
       where
         some : b < n → (q : Bool) → begins (tail b (zName i)) (drop begun text) ≡ q
-            → Linked text n i m p st at
+            → Linked text n i p st at
             (cond q (Last (m + 2 ^ b) (metAt text begun (tail b (zName i)))) (Part (m + 2 ^ b) (metAt text begun (tail b (partName i p)))))
         some l true q = linked-last b f l q
         some l false q = linked-part b f l q
 
-        go : Dec (b < n) → Linked text n i m p st at (linkBy text begun n m i p b)
+        go : Dec (b < n) → Linked text n i p st at (linkBy text begun n m i p b)
         go (yes l) = rw (lt-ltb b n l) (some l (begins (tail b (zName i)) (drop begun text)) refl)
         go (no l) =
             rw (le-ltb b n (omega arith))
             (λ k rs e. fate-stop text (st k rs) at (said b f k rs e ∙ rw (le-ltb b n (omega arith))))
 
     -- what comes of the chain's next line
-    pub linked : Linked text n i m p st at (linkOf text begun n m i p)
+    pub linked : Linked text n i p st at (linkOf text begun n m i p)
     unfolding linkOf
     linked = linked-by (first n (linkedAt text begun n m i p)) refl
 
--- ---- a row's first line
+-- ---- a chain, cover by cover
 
--- the line copies input a
-abbrev pub copyAt : List ℕ → ℕ → ℕ → ℕ → Bool
-copyAt t at i a = begins (tail a (zName i)) (drop at t)
+-- what comes of a row: its number, below 2^n, and what is due after it; or the place where reading stops
+unfoldable pub Chained : List ℕ → ℕ → ℕ → (ℕ → List ℕ → State) → ℕ → Chain → Type 0
+Chained text n i st at (Row m to) =
+    (m < 2 ^ n) × ((k : ℕ) (rs : List ℕ) → length rs ≡ i → fate text (st k rs) at ≡ fate text (nextRow n k (rs ++ (m ∷ []))) to)
+Chained text n i st at (Broken to) = (k : ℕ) (rs : List ℕ) → length rs ≡ i → Stopped text (fate text (st k rs) at) to
 
--- the line begins a chain with input a
-abbrev pub chainAt : List ℕ → ℕ → ℕ → ℕ → ℕ → Bool
-chainAt t at n i a = ltb (first n (linkedAt t (metAt t at (32 ∷ xName a)) n (2 ^ a) i 1)) n
+-- what comes of the lines that end a row with this number
+unfoldable pub Ended : List ℕ → State → ℕ → State → ℕ → Chain → Type 0
+Ended text st at next v (Row m to) = (m ≡ v) × (fate text st at ≡ fate text next to)
+Ended text st at next v (Broken to) = Stopped text (fate text st at) to
 
-module _ (text : List ℕ) (h : length text < 2 ^ 63) (n i at begun : ℕ) (g : begun ≡ metAt text at namesWord) where
-  copy-met : (a i : ℕ) → begins (namesLine (copyCover a i)) (drop at text) ≡ begins (tail a (zName i)) (drop begun text)
-  copy-met a i =
-      ap (λ (s : List ℕ). begins s (drop at text)) (sym (copy-line a i))
-      ∙ begins-then text h at namesWord 32 (xName a ++ (32 ∷ zName i ++ (10 ∷ [])))
-      ∙ ap (λ (r : ℕ). begins (tail a (zName i)) (drop r text)) (sym g)
+-- a chain has come from one place to another
+pub record Going (text : List ℕ) (n i : ℕ) (st₀ : ℕ → List ℕ → State) (at₀ m p at begun : ℕ) : Type 0 where
+  pub st : ℕ → List ℕ → State
+  pub chain : Chaining text n i m p at begun st
+  pub goes : (k : ℕ) (rs : List ℕ) → length rs ≡ i → fate text (st₀ k rs) at₀ ≡ fate text (st k rs) at
 
-  opened-at : (a : ℕ) → metAt text begun (32 ∷ xName a) ≡ metAt text at (opening (xName a))
-  opened-at a = ap (λ (r : ℕ). metAt text r (32 ∷ xName a)) g ∙ met-then text h at namesWord (32 ∷ xName a)
+pub going-first : {text : List ℕ} {n i m p at begun : ℕ} {st : ℕ → List ℕ → State} → Chaining text n i m p at begun st → Going text n i st at m p at begun
+going-first {text} {n} {i} {m} {p} {at} {begun} {st} c = record { st = st; chain = c; goes = λ k rs e. refl }
 
-  abbrev copyDue : ℕ → List ℕ → ℕ → State
-  copyDue k rs a = Due (cubeLine (49 ∷ [])) (nextRow n k (rs ++ (2 ^ a ∷ [])))
+module _ (text : List ℕ) (h : length text < 2 ^ 63) (n i : ℕ) (st₀ : ℕ → List ℕ → State) (at₀ m p at begun : ℕ)
+    (g : Going text n i st₀ at₀ m p at begun) where
+  came : Linked text n i p (g .st) at (linkOf text begun n m i p)
+  came = linked text h n i m p at begun (g .st) (g .chain)
 
-  row-said : (k : ℕ) (rs : List ℕ) → length rs ≡ i
-      → step (RowDue n k rs) (front (drop at text))
-      ≡ orElse (on (ltb (first n (copyAt text begun i)) n) (More (copyDue k rs (first n (copyAt text begun i)))))
-      (attempt n (λ a. link n k rs (xName a) (2 ^ a) 1 (front (drop at text))))
-  unfolding step
-  row-said k rs e =
-      ap (λ (o : Outcome). orElse o (attempt n (λ a. link n k rs (xName a) (2 ^ a) 1 (front (drop at text)))))
-      (attempt-first n
-      (λ a. on (equal (front (drop at text)) (namesLine (copyCover a (length rs)))) (More (copyDue k rs a)))
-      (copyAt text begun i) (copyDue k rs)
-      (λ a l.
-        ap (λ (q : Bool). on q (More (copyDue k rs a)))
-        (front-begins (namesLine (copyCover a (length rs))) (drop at text) (copy-is-line a (length rs)) ∙ copy-met a (length rs)
-        ∙ ap (λ (j : ℕ). begins (tail a (zName j)) (drop begun text)) e)))
+  pub going-none : None ≡ linkOf text begun n m i p → Chained text n i st₀ at₀ (Broken at)
+  unfolding Linked Chained
+  going-none e = λ k rs f. stop-after (g .goes k rs f) (rw (← e) at came k rs f)
 
-  pub copied : (a : ℕ) → first n (copyAt text begun i) ≡ a → a < n → (k : ℕ) (rs : List ℕ) → length rs ≡ i
-      → fate text (RowDue n k rs) at ≡ fate text (copyDue k rs a) (metAt text begun (tail a (zName i)))
-  copied a f l k rs e =
-      let q : begins (tail a (zName i)) (drop begun text) ≡ true = rw f at (first-passes n (copyAt text begun i) (omega arith)) in
-      fate-met text h (RowDue n k rs) at (copyDue k rs a) (namesLine (copyCover a i)) (copy-is-line a i) (copy-met a i ∙ q)
-      (row-said k rs e ∙ rw (f, lt-ltb a n l))
-      ∙ ap (fate text (copyDue k rs a))
-      (sym (ap (λ (r : ℕ). metAt text r (tail a (zName i))) g ∙ met-then text h at namesWord (tail a (zName i)) ∙ ap (metAt text at) (copy-line a i)))
+  pub going-last : (v to : ℕ) → Last v to ≡ linkOf text begun n m i p → v < 2 ^ n
+      → (r : Chain) → ((s : State) → Ended text (xorDue s) to s v r) → Chained text n i st₀ at₀ r
+  unfolding Linked Chained Ended
+  going-last v to e l (Row u p) d =
+      (rw (d (OutputDue 0 0 []) .0) l,
+       λ k rs f. g .goes k rs f ∙ (rw (← e) at came) k rs f ∙ rw (d (OutputDue 0 0 []) .0) (d (nextRow n k (rs ++ (v ∷ []))) .1))
+  going-last v to e l (Broken p) d =
+      λ k rs f. stop-after (g .goes k rs f ∙ (rw (← e) at came) k rs f) (d (nextRow n k (rs ++ (v ∷ []))))
 
-  module _ (u : n ≤ first n (copyAt text begun i)) where
-    -- no copy stands there
-    no-copy : (k : ℕ) (rs : List ℕ) → length rs ≡ i
-        → step (RowDue n k rs) (front (drop at text)) ≡ attempt n (λ a. link n k rs (xName a) (2 ^ a) 1 (front (drop at text)))
-    no-copy k rs e = row-said k rs e ∙ rw (le-ltb (first n (copyAt text begun i)) n u)
+  pub going-broken : (v to : ℕ) → Part v to ≡ linkOf text begun n m i p → (bad : ℕ) → ((s : State) → Came text (xorDue s) to s (Stop bad))
+      → Chained text n i st₀ at₀ (Broken bad)
+  unfolding Linked Chained Came
+  going-broken v to e bad d = λ k rs f. stop-after (g .goes k rs f ∙ (rw (← e) at came) k rs f) (d (LinkDue n k rs v p))
 
-    abbrev after-first : ℕ → List ℕ → ℕ → State
-    after-first k rs a =
-        stateBy text n k rs (2 ^ a) 1 (metAt text begun (32 ∷ xName a)) (first n (linkedAt text (metAt text begun (32 ∷ xName a)) n (2 ^ a) i 1))
+  pub going-part : (v to : ℕ) → Part v to ≡ linkOf text begun n m i p → (next : ℕ) → ((s : State) → Came text (xorDue s) to s (After next))
+      → (r : ℕ) → r ≡ metAt text next (opening (partName i p)) → Going text n i st₀ at₀ v (p + 1) next r
+  unfolding Linked Came step
+  going-part v to e next d r q =
+      record {
+        st = λ k rs. LinkDue n k rs v p;
+        chain =
+            record {
+              from = partName i p;
+              clear = part-clear i p;
+              opened = q;
+              links = λ k rs f. rw (f, add-one p);
+            };
+        goes = λ k rs f. g .goes k rs f ∙ (rw (← e) at came) k rs f ∙ d (LinkDue n k rs v p);
+      }
 
-    link-first : (a k : ℕ) (rs : List ℕ) → length rs ≡ i
-        → link n k rs (xName a) (2 ^ a) 1 (front (drop at text)) ≡ on (chainAt text begun n i a) (More (after-first k rs a))
-    link-first a k rs e =
-        link-there text h n k rs (xName a) (2 ^ a) 1 at (name-clear 120 a refl) (metAt text begun (32 ∷ xName a)) (opened-at a)
-        ∙ ap (λ (j : ℕ). on (ltb (first n (linkedAt text (metAt text begun (32 ∷ xName a)) n (2 ^ a) j 1)) n)
-        (More (stateBy text n k rs (2 ^ a) 1 (metAt text begun (32 ∷ xName a)) (first n (linkedAt text (metAt text begun (32 ∷ xName a)) n (2 ^ a) j 1))))) e
+-- a part's number is small, as each part has more than doubled the row's inputs
+pub few-parts : (m p : ℕ) → m < 65536 → 2 ^ p ≤ m + m → p < 17
+few-parts m p l h = go (decLt p 17)
+  where
+    go : Dec (p < 17) → p < 17
+    go (yes q) = q
+    go (no q) = let e : 2 ^ 17 ≤ 2 ^ p = pow-le-pow-right {n = 2} (omega arith) {i = 17} {j = p} (omega arith) in absurd (omega arith)
 
-    chains-said : (k : ℕ) (rs : List ℕ) → length rs ≡ i
-        → attempt n (λ a. link n k rs (xName a) (2 ^ a) 1 (front (drop at text)))
-        ≡ on (ltb (first n (chainAt text begun n i)) n) (More (after-first k rs (first n (chainAt text begun n i))))
-    chains-said k rs e =
-        attempt-first n (λ a. link n k rs (xName a) (2 ^ a) 1 (front (drop at text))) (chainAt text begun n i) (after-first k rs)
-        (λ a l. link-first a k rs e)
-
-    pub begun-chain : (a : ℕ) → first n (chainAt text begun n i) ≡ a → a < n
-        → Chaining text n i (2 ^ a) 1 at (metAt text begun (32 ∷ xName a)) (λ k rs. RowDue n k rs)
-    begun-chain a f l =
-        let q : chainAt text begun n i a ≡ true = rw f at (first-passes n (chainAt text begun n i) (omega arith)) in
-        record {
-          from = xName a;
-          clear = name-clear 120 a refl;
-          opened = opened-at a;
-          links =
-              λ k rs e.
-                no-copy k rs e ∙ chains-said k rs e ∙ rw (f, lt-ltb a n l)
-                (sym (link-first a k rs e ∙ ap (λ (b : Bool). on b (More (after-first k rs a))) q));
-        }
-
-    pub row-none : n ≤ first n (chainAt text begun n i) → (k : ℕ) (rs : List ℕ) → length rs ≡ i → Stopped text (fate text (RowDue n k rs) at) at
-    row-none l k rs e =
-        fate-stop text (RowDue n k rs) at (no-copy k rs e ∙ chains-said k rs e ∙ rw (le-ltb (first n (chainAt text begun n i)) n l))
+pub parts-more : (m v p : ℕ) → 2 ^ p ≤ m + m → m + m < v → 2 ^ (p + 1) ≤ v + v
+parts-more m v p h l = rw (add-one p) (omega (arith, pow-step 2 p))

@@ -1,15 +1,17 @@
-// The rows of sigma, read by place from a model: a row's copy, or its chain of XOR covers from the lowest input up. Every line that may
+// A row of sigma that is a chain of XOR covers from its lowest input up, read by place from a model. Every line that may
 // stand at a place is tried, in the order of the inputs, and left at its first wrong byte. All functions here are inner.
 use read_names::LOST;
 use read_names::Place;
 ghost use mathlib.Core.Path.{_≡_};
 ghost use mathlib.Core.List.{List, [], _∷_};
-ghost use Prim.Native.Nat.{ℕ, _≤_, _<_, _^_};
+ghost use Prim.Native.Nat.{ℕ, _≤_, _<_, _^_, _+_};
 ghost use Rattle.slices.specs.Places.{first};
 ghost use Rattle.block.specs.Limits.{listInputs};
 ghost use Rattle.block.specs.Model.{xName, zName, partName};
+ghost use Rattle.block.specs.ModelRead.{State, xorDue};
 ghost use Rattle.read_names.specs.Met.{metAt};
-ghost use Rattle.read_chains.specs.Chains.{tail, linkedAt, linkOf};
+ghost use Rattle.read_names.specs.Fate.{Came};
+ghost use Rattle.read_chains.specs.Chains.{tail, opening, linkedAt, linkOf, Grown, Chaining, Chained, Ended};
 
 // A chain's next cover: none stands there; it ends the row; or it has a part. With the row's inputs so far as a number, and the place after
 // its line.
@@ -92,6 +94,7 @@ pub fn link_input(text: &[u8], at: usize, n: usize, m: u32, i: usize, p: usize) 
 pub fn read_link(text: &[u8], at: usize, n: usize, m: u32, i: usize, p: usize) -> Link
     requires { ⌜ (n ≤ listInputs) × (m < 2 ^ n) × (i < 100) × (p < 100) ⌝ }
     ensures { λ r. ⌜ r ≡ linkOf (now (text .entry)) at n m i p ⌝ }
+    ensures { λ r. ⌜ Grown n m r ⌝ }
 {
     let b = link_input(text, at, n, m, i, p);
     if n <= b {
@@ -103,4 +106,59 @@ pub fn read_link(text: &[u8], at: usize, n: usize, m: u32, i: usize, p: usize) -
         return Link::Last(inputs, last);
     }
     Link::Part(inputs, meet_more(text, at, b, i, p))
+}
+
+// The two lines of an XOR.
+pub fn read_xor(text: &[u8], at: usize) -> Place
+    ensures { λ r. ⌜ ((s : State) → Came (now (text .entry)) (xorDue s) at s r) ⌝ }
+{
+    match read_names::read_line(text, at, b"01 1\n") {
+        Place::Stop(bad) => Place::Stop(bad),
+        Place::After(next) => read_names::read_line(text, next, b"10 1\n"),
+    }
+}
+
+// The lines that end a row with these inputs.
+pub fn end_row(text: &[u8], at: usize, inputs: u32) -> Chain
+    ensures { λ r. ⌜ ((s : State) → Ended (now (text .entry)) (xorDue s) at s inputs r) ⌝ }
+{
+    match read_xor(text, at) {
+        Place::Stop(bad) => Chain::Broken(bad),
+        Place::After(next) => Chain::Row(inputs, next),
+    }
+}
+
+// The beginning of the cover after part p of row i.
+pub fn meet_so_far(text: &[u8], at: usize, i: usize, p: usize) -> usize
+    requires { ⌜ (i < 100) × (p < 100) ⌝ }
+    ensures { λ r. ⌜ r ≡ metAt (now (text .entry)) at (opening (partName i p)) ⌝ }
+{
+    let word = read_names::meet_bytes(text, at, b".names ");
+    read_names::meet_part(text, word, i, p)
+}
+
+// The chain of row i, from the place of a line whose first name was met: `met` is the place after it, and `inputs` its input as a number.
+pub fn read_chain(text: &[u8], at: usize, met: usize, n: usize, i: usize, inputs: u32) -> Chain
+    requires { ⌜ (n ≤ listInputs) × (inputs < 2 ^ n) × (1 ≤ inputs) × (i < 100) ⌝ }
+    ensures { λ r. ⌜ ((st : ℕ → List ℕ → State) → Chaining (now (text .entry)) n i inputs 1 at met st → Chained (now (text .entry)) n i st at r) ⌝ }
+{
+    let mut from = at;
+    let mut begun = met;
+    let mut m = inputs;
+    let mut part = 1;
+    loop {
+        match read_link(text, begun, n, m, i, part) {
+            Link::None => return Chain::Broken(from),
+            Link::Last(all, to) => return end_row(text, to, all),
+            Link::Part(more, to) => match read_xor(text, to) {
+                Place::Stop(bad) => return Chain::Broken(bad),
+                Place::After(next) => {
+                    from = next;
+                    begun = meet_so_far(text, next, i, part);
+                    m = more;
+                    part += 1;
+                }
+            },
+        }
+    }
 }

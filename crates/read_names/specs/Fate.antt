@@ -223,6 +223,12 @@ fate-met text h st at to s e f g =
 pub stop-after : {text : List ℕ} {f g : Fate} {p : ℕ} → f ≡ g → Stopped text g p → Stopped text f p
 stop-after {text} {f} {g} {p} e h = rw e h
 
+pub came-after : (text : List ℕ) (st : State) (at : ℕ) (mid : State) (p : ℕ) (to : State) (r : Place)
+    → fate text st at ≡ fate text mid p → Came text mid p to r → Came text st at to r
+unfolding Came
+came-after text st at mid p to (After q) e h = e ∙ h
+came-after text st at mid p to (Stop q) e h = stop-after e h
+
 -- ---- names hold no LF
 
 digits-noLF : (most v : ℕ) → noLF (digits most v) ≡ true
