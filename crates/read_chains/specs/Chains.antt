@@ -75,7 +75,7 @@ pub part-clear : (i p : ℕ) → noLF (partName i p) ≡ true
 unfolding every
 part-clear i p = every-append (λ b. not (eqb b 10)) (decimal i) (95 ∷ decimal p) (decimal-noLF i) (decimal-noLF p)
 
-copy-is-line : (a i : ℕ) → isLine (namesLine (copyCover a i)) ≡ true
+pub copy-is-line : (a i : ℕ) → isLine (namesLine (copyCover a i)) ≡ true
 unfolding Clear
 copy-is-line a i =
     word-line namesWord (xName a ∷ zName i ∷ []) word-clear (name-clear 120 a refl, (name-clear 122 i refl, tt))
@@ -107,6 +107,14 @@ linkOf t at n m i p = linkBy t at n m i p (first n (linkedAt t at n m i p))
 
 pub power-small : (b : ℕ) → b ≤ listInputs → 2 ^ b ≤ 65536
 power-small b h = pow-le-pow-right {n = 2} (omega arith) {i = b} {j = listInputs} h
+
+pub power-pos : (a : ℕ) → 1 ≤ 2 ^ a
+power-pos a = pow-le-pow-right {n = 2} (omega arith) {i = 0} {j = a} (omega arith)
+
+pub power-lt : (a n : ℕ) → a < n → 2 ^ a < 2 ^ n
+power-lt a n h =
+    let e : 2 ^ suc a ≤ 2 ^ n = pow-le-pow-right {n = 2} (omega arith) {i = suc a} {j = n} (omega arith) in
+    omega (arith, pow-step 2 a, power-pos a)
 
 grown : (n m b : ℕ) → b < n → m < 2 ^ b → (m + 2 ^ b < 2 ^ n) × (m + m < m + 2 ^ b)
 grown n m b h l =
@@ -310,6 +318,16 @@ unfoldable pub Ended : List ℕ → State → ℕ → State → ℕ → Chain �
 Ended text st at next v (Row m to) = (m ≡ v) × (fate text st at ≡ fate text next to)
 Ended text st at next v (Broken to) = Stopped text (fate text st at) to
 
+-- the lines that end a row end its chain, or its copy
+pub ended-chain : (text : List ℕ) (n i : ℕ) (st : ℕ → List ℕ → State) (at v to : ℕ) (due : State → State) → v < 2 ^ n
+    → ((k : ℕ) (rs : List ℕ) → length rs ≡ i → fate text (st k rs) at ≡ fate text (due (nextRow n k (rs ++ (v ∷ [])))) to)
+    → (r : Chain) → ((s : State) → Ended text (due s) to s v r) → Chained text n i st at r
+unfolding Chained Ended
+ended-chain text n i st at v to due l g (Row u p) d =
+    let e = d (OutputDue 0 0 []) .0 in
+    (rw e l, λ k rs f. g k rs f ∙ rw e (d (nextRow n k (rs ++ (v ∷ []))) .1))
+ended-chain text n i st at v to due l g (Broken p) d = λ k rs f. stop-after (g k rs f) (d (nextRow n k (rs ++ (v ∷ []))))
+
 -- a chain has come from one place to another
 pub record Going (text : List ℕ) (n i : ℕ) (st₀ : ℕ → List ℕ → State) (at₀ m p at begun : ℕ) : Type 0 where
   pub st : ℕ → List ℕ → State
@@ -330,12 +348,9 @@ module _ (text : List ℕ) (h : length text < 2 ^ 63) (n i : ℕ) (st₀ : ℕ �
 
   pub going-last : (v to : ℕ) → Last v to ≡ linkOf text begun n m i p → v < 2 ^ n
       → (r : Chain) → ((s : State) → Ended text (xorDue s) to s v r) → Chained text n i st₀ at₀ r
-  unfolding Linked Chained Ended
-  going-last v to e l (Row u p) d =
-      (rw (d (OutputDue 0 0 []) .0) l,
-       λ k rs f. g .goes k rs f ∙ (rw (← e) at came) k rs f ∙ rw (d (OutputDue 0 0 []) .0) (d (nextRow n k (rs ++ (v ∷ []))) .1))
-  going-last v to e l (Broken p) d =
-      λ k rs f. stop-after (g .goes k rs f ∙ (rw (← e) at came) k rs f) (d (nextRow n k (rs ++ (v ∷ []))))
+  unfolding Linked
+  going-last v to e l r d =
+      ended-chain text n i st₀ at₀ v to xorDue l (λ k rs f. g .goes k rs f ∙ (rw (← e) at came) k rs f) r d
 
   pub going-broken : (v to : ℕ) → Part v to ≡ linkOf text begun n m i p → (bad : ℕ) → ((s : State) → Came text (xorDue s) to s (Stop bad))
       → Chained text n i st₀ at₀ (Broken bad)
