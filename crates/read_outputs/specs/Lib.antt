@@ -1,0 +1,2 @@
+-- The outputs of a model, read by place: `Cubes` has a pattern's line.
+pub mod Cubes
