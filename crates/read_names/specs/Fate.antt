@@ -9,14 +9,15 @@ use native.Mathlib.Nat.{add-zero, zero-add}
 use native.Mathlib.Omega.{arith}
 use borrow.Author.Tests.{eq-eqb, ne-eqb, eqb-true, eqb-false, not-true}
 use lib.Dec.{eqb, ltb}
-use lib.ListN.{length, take, drop}
-use lib.Seq.{drop-drop, take-add}
+use lib.ListN.{length, getD, take, drop, drop-of-length-le}
+use lib.Seq.{drop-cons, drop-drop, take-add}
 use Rattle.slices.specs.Places.{at, tab}
 use Rattle.slices.specs.Tests.{and-both}
 use Rattle.sums.specs.Sums.{one}
 use Rattle.block.specs.Text.{lines, onto, lineIn, equal, every, decimal, digits}
 use Rattle.block.specs.Model.{spaced, wordLine}
 use Rattle.block.specs.ModelRead.{State, Outcome, Due, More, Whole, Bad, on, step, onward, after, isBad, isWhole, goodLines}
+use Rattle.block.specs.declared.Pattern.{Pattern}
 use Rattle.read_laws.specs.Front.{front, line-first, noLF}
 use Rattle.read_laws.specs.Tests.{every-append, equal-true, equal-same}
 use Rattle.read_names.specs.declared.Place.{Place}
@@ -86,7 +87,7 @@ unfoldable pub ends : List ℕ → ℕ
 ends [] = 0
 ends (b ∷ l) = one (eqb b 10) + ends l
 
-ends-append : (a b : List ℕ) → ends (a ++ b) ≡ ends a + ends b
+pub ends-append : (a b : List ℕ) → ends (a ++ b) ≡ ends a + ends b
 unfolding ends
 ends-append [] b = omega arith
 ends-append (x ∷ a) b = let ih = ends-append a b in omega arith
@@ -143,16 +144,23 @@ after-good : (st to : State) (l : List ℕ) (ls : List (List ℕ)) → step st l
 unfolding after goodLines
 after-good st to l ls e = (ap (λ (o : Outcome). after o ls) e, rw e)
 
+ends-next : (text : List ℕ) (at : ℕ) (s : List ℕ) → isLine s ≡ true → begins s (drop at text) ≡ true
+    → ends (take (at + length s) text) ≡ ends (take at text) + 1
+ends-next text at s e f =
+    ap ends (take-add at (length s) text) ∙ ends-append (take at text) (take (length s) (drop at text))
+    ∙ ap (λ (i : ℕ). ends (take at text) + i) (ends-line s (drop at text) e f)
+
+lines-next : (text : List ℕ) (at : ℕ) (s : List ℕ) → isLine s ≡ true → begins s (drop at text) ≡ true
+    → lines (drop at text) ≡ s ∷ lines (drop (at + length s) text)
+lines-next text at s e f = lines-begins s (drop at text) e f ∙ ap (λ (u : List ℕ). s ∷ lines u) (drop-drop (length s) at text)
+
 -- a line that is due: the same fate from the place after it on
 pub fate-next : (text : List ℕ) (st : State) (at : ℕ) (to : State) (s : List ℕ) → isLine s ≡ true → begins s (drop at text) ≡ true
     → step st s ≡ More to → fate text st at ≡ fate text to (at + length s)
 fate-next text st at to s e f g =
-    let r : lines (drop at text) ≡ s ∷ lines (drop (at + length s) text) =
-        lines-begins s (drop at text) e f ∙ ap (λ (u : List ℕ). s ∷ lines u) (drop-drop (length s) at text) in
+    let r = lines-next text at s e f in
     let a = after-good st to s (lines (drop (at + length s) text)) g in
-    let n : ends (take (at + length s) text) ≡ ends (take at text) + 1 =
-        ap ends (take-add at (length s) text) ∙ ends-append (take at text) (take (length s) (drop at text))
-        ∙ ap (λ (i : ℕ). ends (take at text) + i) (ends-line s (drop at text) e f) in
+    let n = ends-next text at s e f in
     let b : goodLines (More st) (lines (drop at text)) ≡ suc (goodLines (More to) (lines (drop (at + length s) text))) =
         ap (goodLines (More st)) r ∙ a .1 in
     fate-is text st at (after (More to) (lines (drop (at + length s) text)))
@@ -178,7 +186,61 @@ fate-stop text st at e =
     let h = stops-here st (lines (drop at text)) (ap (step st) (line-first (drop at text)) ∙ e) in
     record { broken = h .0; line = ap (λ (i : ℕ). ends (take at text) + i) (h .1) ∙ add-zero (ends (take at text)) }
 
--- the line that is due, or another
+-- ---- the end of a model
+
+after-whole : (st : State) (n k : ℕ) (sigma : List ℕ) (qs : List (List Pattern)) (l : List ℕ) (ls : List (List ℕ)) → step st l ≡ Whole n k sigma qs
+    → (after (More st) (l ∷ ls) ≡ after (Whole n k sigma qs) ls) × (goodLines (More st) (l ∷ ls) ≡ suc (goodLines (Whole n k sigma qs) ls))
+unfolding after goodLines
+after-whole st n k sigma qs l ls e = (ap (λ (o : Outcome). after o ls) e, rw e)
+
+-- nothing follows a whole model
+more-bad : (n k : ℕ) (sigma : List ℕ) (qs : List (List Pattern)) (l : List ℕ) (ls : List (List ℕ))
+    → (isWhole (after (Whole n k sigma qs) (l ∷ ls)) ≡ false) × (goodLines (Whole n k sigma qs) (l ∷ ls) ≡ 0)
+unfolding after goodLines
+more-bad n k sigma qs l ls = (ap isWhole (after-bad ls), refl)
+
+over-bad : (n k : ℕ) (sigma : List ℕ) (qs : List (List Pattern)) (b : ℕ) (bs : List ℕ)
+    → (isWhole (after (Whole n k sigma qs) (lines (b ∷ bs))) ≡ false) × (goodLines (Whole n k sigma qs) (lines (b ∷ bs)) ≡ 0)
+unfolding lines
+over-bad n k sigma qs b bs = go (eqb b 10) (lines bs)
+  where
+    go : (q : Bool) (ls : List (List ℕ))
+        → (isWhole (after (Whole n k sigma qs) (cond q ((10 ∷ []) ∷ ls) (onto b ls))) ≡ false)
+        × (goodLines (Whole n k sigma qs) (cond q ((10 ∷ []) ∷ ls) (onto b ls)) ≡ 0)
+    go true ls = more-bad n k sigma qs (10 ∷ []) ls
+    go false [] = more-bad n k sigma qs (b ∷ []) []
+    go false (l ∷ ls) = more-bad n k sigma qs (b ∷ l) ls
+
+module _ (text : List ℕ) (st : State) (at : ℕ) (s : List ℕ) (e : isLine s ≡ true) (f : begins s (drop at text) ≡ true)
+    (n k : ℕ) (sigma : List ℕ) (qs : List (List Pattern)) (g : step st s ≡ Whole n k sigma qs) where
+  -- the line that ends a model ends the text
+  pub fate-whole : length text ≤ at + length s → fate text st at .outcome ≡ Whole n k sigma qs
+  unfolding fate after lines
+  fate-whole l =
+      ap (after (More st)) (lines-next text at s e f)
+      ∙ after-whole st n k sigma qs s (lines (drop (at + length s) text)) g .0
+      ∙ ap (λ (u : List ℕ). after (Whole n k sigma qs) (lines u)) (drop-of-length-le text {i = at + length s} l)
+
+  -- or something follows, and the reading stops there
+  pub fate-over : at + length s < length text → Stopped text (fate text st at) (at + length s)
+  unfolding fate
+  fate-over l =
+      let p = at + length s in
+      let a = after-whole st n k sigma qs s (lines (drop p text)) g in
+      let u : drop p text ≡ getD text p 0 ∷ drop (suc p) text = drop-cons text p 0 l in
+      let b = over-bad n k sigma qs (getD text p 0) (drop (suc p) text) in
+      let i : goodLines (More st) (lines (drop at text)) ≡ 1 =
+          ap (goodLines (More st)) (lines-next text at s e f) ∙ a .1
+          ∙ ap suc (ap (λ (x : List ℕ). goodLines (Whole n k sigma qs) (lines x)) u ∙ b .1) in
+      record {
+        broken =
+            ap (λ (o : Outcome). isWhole o) (ap (after (More st)) (lines-next text at s e f) ∙ a .0)
+            ∙ ap (λ (x : List ℕ). isWhole (after (Whole n k sigma qs) (lines x))) u ∙ b .0;
+        line = ap (λ (x : ℕ). ends (take at text) + x) i ∙ sym (ends-next text at s e f);
+      }
+
+-- ---- a line that is due, or another
+
 pub due-met : (text : List ℕ) (at : ℕ) (s : List ℕ) (to : State) → isLine s ≡ true → begins s (drop at text) ≡ true
     → fate text (Due s to) at ≡ fate text to (at + length s)
 unfolding step
