@@ -1,0 +1,2 @@
+-- The rows of sigma, read by place: `Chains` has the covers of one row.
+pub mod Chains
