@@ -136,21 +136,27 @@ struct Point {
     x: usize,
 }
 
-// The point that digits name: at most nine, and so above every point long before they would not fit.
+// A number with one digit more. It stays above every point once it is.
+fn grown(x: usize, digit: usize) -> usize {
+    if 65536 < x {
+        return x;
+    }
+    std::num::wrapping_add_usize(x * 10, digit)
+}
+
+// The point that digits name.
 fn point_of(digits: &[u8]) -> Point {
-    if digits.len() == 0 || 9 < digits.len() {
+    if digits.len() == 0 {
         return Point { kind: 2, x: 0 };
     }
     let mut x: usize = 0;
     let mut i = 0;
     while i < digits.len() {
-        if digits[i] < b'0' || b'9' < digits[i] {
+        let b = read_bytes::byte(digits, i);
+        if !read_bytes::is_digit(b) {
             return Point { kind: 2, x: 0 };
         }
-        x = std::num::wrapping_add_usize(
-            std::num::wrapping_mul_usize(x, 10),
-            (digits[i] - b'0') as usize,
-        );
+        x = grown(x, b % 48);
         i += 1;
     }
     Point { kind: 1, x }
@@ -201,7 +207,7 @@ fn answer_text(text: &[u8], point: Point) {
 fn answer_model() {
     let point = asked_point();
     if point.kind == 2 {
-        io::write_all(STDERR_FILENO, b"irwystl: the point is no decimal number of at most nine digits\n");
+        io::write_all(STDERR_FILENO, b"irwystl: the point is no decimal number\n");
         return;
     }
     let mut text = [0u8; MODEL_BYTES];
@@ -212,7 +218,10 @@ fn answer_model() {
     }
     let length = input.length;
     if length == MODEL_BYTES {
-        io::write_all(STDERR_FILENO, b"irwystl: the model has 262,144 bytes or more, and is not read\n");
+        io::write_all(
+            STDERR_FILENO,
+            b"irwystl: the model has 262,144 bytes or more, and is not read\n",
+        );
         return;
     }
     answer_text(&text[..length], point);

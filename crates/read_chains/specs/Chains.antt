@@ -240,13 +240,13 @@ module _ (text : List ℕ) (h : length text < 2 ^ 63) where
   link-there n k rs from m p at e begun g =
       attempt-first n (linkAt n k rs from m p (front (drop at text))) (linkedAt text begun n m (length rs) p) (stateBy text n k rs m p begun)
       (λ b l.
-        let u : equal (front (drop at text)) (namesLine (xorCover from b (zName (length rs)))) ≡ begins (tail b (zName (length rs))) (drop begun text) =
-            rw g (line-there at from b (zName (length rs)) e (name-clear 122 (length rs) refl)) in
-        let v : equal (front (drop at text)) (namesLine (xorCover from b (partName (length rs) p))) ≡ begins (tail b (partName (length rs) p)) (drop begun text) =
-            rw g (line-there at from b (partName (length rs) p) e (part-clear (length rs) p)) in
-        rw (u, v)
-        (link-bools (ltb m (2 ^ b)) (begins (tail b (zName (length rs))) (drop begun text)) (ltb (suc b) n)
-        (begins (tail b (partName (length rs) p)) (drop begun text)) _ _))
+      let u : equal (front (drop at text)) (namesLine (xorCover from b (zName (length rs)))) ≡ begins (tail b (zName (length rs))) (drop begun text) =
+      rw g (line-there at from b (zName (length rs)) e (name-clear 122 (length rs) refl)) in
+      let v : equal (front (drop at text)) (namesLine (xorCover from b (partName (length rs) p))) ≡ begins (tail b (partName (length rs) p)) (drop begun text) =
+      rw g (line-there at from b (partName (length rs) p) e (part-clear (length rs) p)) in
+      rw (u, v)
+      (link-bools (ltb m (2 ^ b)) (begins (tail b (zName (length rs))) (drop begun text)) (ltb (suc b) n)
+      (begins (tail b (partName (length rs) p)) (drop begun text)) _ _))
 
   -- a line of a chain that was met
   link-went : (at begun : ℕ) (from : List ℕ) (b : ℕ) (to : List ℕ) (st next : State) → noLF from ≡ true → noLF to ≡ true
@@ -270,8 +270,8 @@ module _ (text : List ℕ) (h : length text < 2 ^ 63) where
     unfolding Linked
     linked-last b f l q =
         λ k rs e.
-          link-went at begun (c .from) b (zName i) (st k rs) (xorDue (nextRow n k (rs ++ ((m + 2 ^ b) ∷ [])))) (c .clear) (name-clear 122 i refl)
-          (c .opened) q (said b f k rs e ∙ rw (lt-ltb b n l, q))
+        link-went at begun (c .from) b (zName i) (st k rs) (xorDue (nextRow n k (rs ++ ((m + 2 ^ b) ∷ [])))) (c .clear) (name-clear 122 i refl)
+        (c .opened) q (said b f k rs e ∙ rw (lt-ltb b n l, q))
 
     linked-part : (b : ℕ) → first n (linkedAt text begun n m i p) ≡ b → b < n → begins (tail b (zName i)) (drop begun text) ≡ false
         → Linked text n i p st at (Part (m + 2 ^ b) (metAt text begun (tail b (partName i p))))
@@ -281,8 +281,8 @@ module _ (text : List ℕ) (h : length text < 2 ^ 63) where
         let w = and-both (ltb m (2 ^ b)) _ v in
         let x : ltb (suc b) n && begins (tail b (partName i p)) (drop begun text) ≡ true = rw q at (w .1) in
         λ k rs e.
-          link-went at begun (c .from) b (partName i p) (st k rs) (xorDue (LinkDue n k rs (m + 2 ^ b) p)) (c .clear) (part-clear i p)
-          (c .opened) (and-both (ltb (suc b) n) _ x .1) (said b f k rs e ∙ rw (lt-ltb b n l, q))
+        link-went at begun (c .from) b (partName i p) (st k rs) (xorDue (LinkDue n k rs (m + 2 ^ b) p)) (c .clear) (part-clear i p)
+        (c .opened) (and-both (ltb (suc b) n) _ x .1) (said b f k rs e ∙ rw (lt-ltb b n l, q))
 
     linked-by : (b : ℕ) → first n (linkedAt text begun n m i p) ≡ b → Linked text n i p st at (linkBy text begun n m i p b)
     unfolding linkBy Linked

@@ -158,14 +158,13 @@ module _ (text : List ℕ) (h : length text < 2 ^ 63) (n from : ℕ) where
       let b = and-both (eqb (length l) (n + 3)) _ (a .1) in
       let s : length l ≡ n + 3 = eqb-true (length l) (n + 3) (b .0) in
       let t : length (take n l) ≡ n = length-take-le n l (omega arith) in
-      let d : drop n l ≡ cubeLine [] = equal-true (drop n l) (cubeLine []) (b .1) in
-      (
+      let d : drop n l ≡ cubeLine [] = equal-true (drop n l) (cubeLine []) (b .1) in (
         λ j k.
-          ap isSymbol
-          (sym (getD-drop from text j 0) ∙ ap (λ (x : List ℕ). at x j) (sym u) ∙ List·getD-append l r 0 j (omega arith) ∙ sym (getD-take n l j 0 k))
-          ∙ every-at isSymbol (take n l) (a .0) j (omega arith),
+            ap isSymbol
+            (sym (getD-drop from text j 0) ∙ ap (λ (x : List ℕ). at x j) (sym u) ∙ List·getD-append l r 0 j (omega arith) ∙ sym (getD-take n l j 0 k))
+            ∙ every-at isSymbol (take n l) (a .0) j (omega arith),
         ap (begins (cubeLine []))
-        (sym (drop-drop n from text) ∙ ap (drop n) (sym u) ∙ drop-append-le n l r (omega arith) ∙ ap (λ (x : List ℕ). x ++ r) d),
+            (sym (drop-drop n from text) ∙ ap (drop n) (sym u) ∙ drop-append-le n l r (omega arith) ∙ ap (λ (x : List ℕ). x ++ r) d),
       )
 
   none : (patternForm n (front (drop from text)) ≡ true → ⊥) → Cubed text n from None

@@ -87,10 +87,10 @@ patterns-more {text} {n} {from} {count} {m₀} {v₀} {to} {total} {m} {v} r a b
           ∙ ap (sets v₀ count) (sym (map-append (λ (p : Pattern). p .values) (r .patterns) (pattern a b ∷ [])));
       goes =
           λ k sigma qs.
-            r .goes k sigma qs
-            ∙ fate-next text (PatternDue n k sigma qs (r .patterns)) to (PatternDue n k sigma qs (r .patterns ++ (pattern a b ∷ []))) (c .line)
-            (c .ended) (c .stands) (rw (c .form, c .says))
-            ∙ ap (fate text (PatternDue n k sigma qs (r .patterns ++ (pattern a b ∷ [])))) (sym (c .place));
+          r .goes k sigma qs
+          ∙ fate-next text (PatternDue n k sigma qs (r .patterns)) to (PatternDue n k sigma qs (r .patterns ++ (pattern a b ∷ []))) (c .line)
+          (c .ended) (c .stands) (rw (c .form, c .says))
+          ∙ ap (fate text (PatternDue n k sigma qs (r .patterns ++ (pattern a b ∷ [])))) (sym (c .place));
       fits = omega (arith, r .fits, c .longer);
       within = c .within;
     }
@@ -228,8 +228,8 @@ module _ (text : List ℕ) (h : length text < 2 ^ 63) (n k : ℕ) where
         held = holds-none c m v;
         goes =
             λ sigma.
-              fate-next text (OutputDue n k sigma) from (PatternDue n k sigma [] []) s (head-is-line n 0) f (rw (equal-same s))
-              ∙ ap (fate text (PatternDue n k sigma [] [])) (sym (e ∙ met-yes text h from s f));
+            fate-next text (OutputDue n k sigma) from (PatternDue n k sigma [] []) s (head-is-line n 0) f (rw (equal-same s))
+            ∙ ap (fate text (PatternDue n k sigma [] [])) (sym (e ∙ met-yes text h from s f));
         fits = omega arith;
         within = rw (e ∙ met-yes text h from s f) (met-within text from s (omega arith) f);
       }
@@ -289,10 +289,10 @@ module _ (text : List ℕ) (h : length text < 2 ^ 63) (n k : ℕ) where
             held = holds-next c' e;
             goes =
                 λ sigma.
-                  came sigma
-                  ∙ fate-met text h (PatternDue n k sigma (o .outputs) (p .patterns)) past (PatternDue n k sigma next []) s (head-is-line n (j + 1)) f
-                  (said sigma ∙ rw f)
-                  ∙ ap (fate text (PatternDue n k sigma next [])) (sym g);
+                came sigma
+                ∙ fate-met text h (PatternDue n k sigma (o .outputs) (p .patterns)) past (PatternDue n k sigma next []) s (head-is-line n (j + 1)) f
+                (said sigma ∙ rw f)
+                ∙ ap (fate text (PatternDue n k sigma next [])) (sym g);
             fits = omega (arith, p .fits, g, met-yes text h past s f);
             within = rw (g ∙ met-yes text h past s f) w;
           }
@@ -339,15 +339,15 @@ module _ (text : List ℕ) (h : length text < 2 ^ 63) (n k : ℕ) where
                 held = holds-next c' e;
                 whole =
                     λ sigma.
-                      ap (λ (x : Fate). x .outcome) (came sigma)
-                      ∙ fate-whole text (PatternDue n k sigma (o .outputs) (p .patterns)) past lastLine last-is-line f n k sigma next (is-whole f sigma)
-                      (omega (arith, eqb-true (past + 5) (length text) g));
+                    ap (λ (x : Fate). x .outcome) (came sigma)
+                    ∙ fate-whole text (PatternDue n k sigma (o .outputs) (p .patterns)) past lastLine last-is-line f n k sigma next (is-whole f sigma)
+                    (omega (arith, eqb-true (past + 5) (length text) g));
               }
           over f false g =
               λ sigma.
-                stop-after (came sigma)
-                (fate-over text (PatternDue n k sigma (o .outputs) (p .patterns)) past lastLine last-is-line f n k sigma next (is-whole f sigma)
-                (less f (eqb-false (past + 5) (length text) g)))
+              stop-after (came sigma)
+              (fate-over text (PatternDue n k sigma (o .outputs) (p .patterns)) past lastLine last-is-line f n k sigma next (is-whole f sigma)
+              (less f (eqb-false (past + 5) (length text) g)))
 
           go : (q : Bool) → begins lastLine (drop past text) ≡ q
               → Ending text n k from c₀ m₀ v₀ c' m' v' (cond q (cond (eqb (past + 5) (length text)) (All total') (Broken (past + 5))) (Broken past))
