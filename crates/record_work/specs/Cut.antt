@@ -166,10 +166,10 @@ module _ (n k y w room : ℕ) where
 
   pub model-cut : (rs : List Row) → writeModel n k y w (take cutRows rs) room ≡ writeModel n k y w rs room
   unfolding writeModel modelVerdict
-  model-cut = method-alike n k y w false (λ v l. withBytes (roomThen v l) (modelText (missing y) n k w l)) (λ v l m h. rw h)
+  model-cut = method-alike n k y w false (λ v l. withBytes (roomThen v l) (modelText (missing y) n k w l)) (λ v l m h. rw h (rw h))
 
   pub model-stored-cut : (out : List ℕ) (rs : List Row)
       → stored (modelVerdict n k y w (take cutRows rs) room) (modelText (missing y) n k w (take cutRows rs)) out
       ≡ stored (modelVerdict n k y w rs room) (modelText (missing y) n k w rs) out
   unfolding modelVerdict
-  model-stored-cut out = method-alike n k y w false (λ v l. stored (roomThen v l) (modelText (missing y) n k w l) out) (λ v l m h. rw h)
+  model-stored-cut out = method-alike n k y w false (λ v l. stored (roomThen v l) (modelText (missing y) n k w l) out) (λ v l m h. rw h (rw h))
