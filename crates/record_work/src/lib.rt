@@ -112,18 +112,18 @@ pub fn sheet_of(
     )
 }
 
-// Writing a model.
+// Writing the model with this weight limit.
 pub fn model_of(
     n: usize,
     k: usize,
     block_type: usize,
-    w: usize,
+    limit: usize,
     flat: FlatRows,
     m: usize,
     out: &mut [u8],
 ) -> TextAnswer
     requires { ⌜ Sized flat × (m ≤ heldRows) ⌝ }
-    ensures { λ r. ⌜ WriteModelPromise n k «block_type» w (listed flat m) (now (out .entry)) r (now (out .exit)) ⌝ }
+    ensures { λ r. ⌜ WriteModelPromise n k «block_type» limit (listed flat m) (now (out .entry)) r (now (out .exit)) ⌝ }
 {
     let masks = flat.masks;
     let values = flat.values;
@@ -132,7 +132,7 @@ pub fn model_of(
         n,
         k,
         block_type,
-        w,
+        limit,
         &masks[..m],
         &values[..m],
         &words[..m],
