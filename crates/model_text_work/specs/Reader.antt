@@ -8,7 +8,7 @@ use lib.ListN.{length, take}
 use Rattle.block.specs.Limits.{modelRoom, givenRows, readBytes}
 use Rattle.block.specs.Words.{missing, maskPart, valuesPart, wordPart}
 use Rattle.block.specs.Refusals.{answer, stored}
-use Rattle.block.specs.Text.{typeIn, inputsIn, outputsIn, rowsIn, readVerdict, readText, kindNumber, numbers}
+use Rattle.block.specs.Text.{rowsIn, readVerdict, readText, kindNumber, numbers}
 use Rattle.block.specs.Model.{modelText, modelVerdict, writeModel}
 use Rattle.block.specs.declared.Answer.{Answer}
 use Rattle.block.specs.declared.TextAnswer.{TextAnswer}

@@ -12,7 +12,7 @@ use lib.Dec.{eqb}
 use Rattle.bits.specs.Digits.{bit}
 use Rattle.bits.specs.Bit.{bit-zero, bit-suc}
 use Rattle.block.specs.Covers.{Cover}
-use Rattle.block.specs.Model.{xName, zName, partName, copyCover, xorCover, linkName, chain, rowCovers, inputsOf}
+use Rattle.block.specs.Model.{xName, zName, partName, copyCover, xorCover, chain, rowCovers, inputsOf}
 
 -- what a chain with q inputs so far goes on from: its only input a, or its last part
 abbrev pub fromName : ℕ → ℕ → ℕ → List ℕ

@@ -1,6 +1,5 @@
 -- `put_outputs::emit_cube` meets its contract: the symbols and " 1" are put where the line fits, and else it passes the end.
 -- Assumes nothing.
-use mathlib.Core.Path.{refl}
 use native.Mathlib.Omega.{arith}
 use Rattle.block.specs.Model.{pattern}
 use Rattle.put_bytes.specs.Puts.{then}
