@@ -1,12 +1,11 @@
 // What the system knows of a file by its name: whether there is one, which one, of what kind, and its permissions. The system fills a
 // struct behind a reference, which a proof by hand follows, so that is done in `look` alone. All functions here are inner.
 use import_paths::PATH_ROOM;
-use import_paths::put_path;
 use libc::types;
 ghost use Prim.Native.Nat.{_≤_};
 ghost use lib.ListN.{length};
 ghost use Rattle.libc.specs.Io.{Ended};
-ghost use Rattle.import_paths.specs.Room.{nameMost, endingMost};
+ghost use Rattle.import_paths.specs.Room.{nameMost};
 
 // What is known of a file: 0 or else why nothing is, the numbers by which the system tells files apart, its kind and permissions.
 pub struct Facts {
@@ -60,13 +59,12 @@ pub fn look(path: &[u8; PATH_ROOM]) -> Facts
     taken(status, said)
 }
 
-// What the system knows of the file beside a list under this ending; with none, of the list's own.
-pub fn facts_of(name: &[u8], ending: &[u8]) -> Facts
+// What the system knows of the file of this name.
+pub fn facts_of(name: &[u8]) -> Facts
     requires { ⌜ length (now name) ≤ nameMost ⌝ }
-    requires { ⌜ length (now ending) ≤ endingMost ⌝ }
 {
     let mut path = [0u8; PATH_ROOM];
-    put_path(&mut path, name, ending, 1);
+    import_paths::put_name(&mut path, name);
     look(&path)
 }
 

@@ -1,6 +1,7 @@
-// Files of a bulk import: a list is read, its sheet is written whole or not at all, what stands beside it is renamed or removed. What the
-// system does no contract says, so these functions promise no more than that they are safe and end; the gate runs them (crate
-// run_imports). All functions here are inner. An error is the system's number for it, 0 for none.
+// Files of a bulk import: a list is read, its sheet and its model are written whole or not at all, what stands beside it is renamed or
+// removed. A list's name, and whether its model is meant or its sheet, say which file an ending is of. What the system does no contract
+// says, so these functions promise no more than that they are safe and end; the gate runs them (crates run_imports, run_blif_imports). All
+// functions here are inner. An error is the system's number for it, 0 for none.
 use import_paths::PATH_ROOM;
 use import_paths::put_path;
 ghost use Prim.Native.Nat.{_≤_};
@@ -84,13 +85,13 @@ pub struct Made {
 }
 
 // Makes a file under the first name of FILE.sheet.new, .new2 and so on that is not taken.
-pub fn make_file(name: &[u8]) -> Made
+pub fn make_file(name: &[u8], model: bool) -> Made
     requires { ⌜ length (now name) ≤ nameMost ⌝ }
 {
     let mut path = [0u8; PATH_ROOM];
     let mut k = 1;
     while k < NAMES_TRIED {
-        let length = put_path(&mut path, name, b".sheet.new", k);
+        let length = put_path(&mut path, name, model, b".new", k);
         let fd = os::create(&path[..length]);
         if fd >= 0 {
             return Made { error: 0, fd, k };
@@ -108,14 +109,14 @@ pub fn make_file(name: &[u8]) -> Made
     }
 }
 
-// Renames a file that was filled to FILE.sheet. Where it was not filled or that fails, it is removed.
-pub fn settle_file(name: &[u8], k: usize, filled: i32) -> i32
+// Renames a file that was filled to FILE.sheet or FILE.blif. Where it was not filled or that fails, it is removed.
+pub fn settle_file(name: &[u8], model: bool, k: usize, filled: i32) -> i32
     requires { ⌜ length (now name) ≤ nameMost ⌝ }
 {
     let mut new = [0u8; PATH_ROOM];
     let mut path = [0u8; PATH_ROOM];
-    let from = put_path(&mut new, name, b".sheet.new", k);
-    let to = put_path(&mut path, name, b".sheet", 1);
+    let from = put_path(&mut new, name, model, b".new", k);
+    let to = put_path(&mut path, name, model, b"", 1);
     let mut error = filled;
     if error == 0 {
         if os::rename(&new[..from], &path[..to]) < 0 {
@@ -128,18 +129,18 @@ pub fn settle_file(name: &[u8], k: usize, filled: i32) -> i32
     error
 }
 
-// Writes the sheet beside its list as FILE.sheet, with the list's permissions: to a new name first, then renamed.
-pub fn write_sheet(name: &[u8], sheet: &[u8], mode: u32) -> i32
+// Writes a sheet beside its list as FILE.sheet, or a model as FILE.blif, with the list's permissions: to a new name first, then renamed.
+pub fn write_beside(name: &[u8], model: bool, bytes: &[u8], mode: u32) -> i32
     requires { ⌜ length (now name) ≤ nameMost ⌝ }
 {
-    let made = make_file(name);
+    let made = make_file(name, model);
     if made.error != 0 {
         return made.error;
     }
     // before there is anything in it to read; a file system that has no permissions keeps its own
     libc::fchmod(made.fd, mode & 0o777);
-    let filled = fill_file(made.fd, sheet);
-    settle_file(name, made.k, filled)
+    let filled = fill_file(made.fd, bytes);
+    settle_file(name, model, made.k, filled)
 }
 
 // Whether no file has this name, not even a link that leads nowhere. A name that is too long for the folder is no file's.
@@ -155,25 +156,25 @@ pub fn is_free(path: &[u8; PATH_ROOM]) -> bool
 }
 
 // Whether something stands beside the list under this ending.
-pub fn is_there(name: &[u8], ending: &[u8]) -> bool
+pub fn is_there(name: &[u8], model: bool, ending: &[u8]) -> bool
     requires { ⌜ length (now name) ≤ nameMost ⌝ }
     requires { ⌜ length (now ending) ≤ endingMost ⌝ }
 {
     let mut path = [0u8; PATH_ROOM];
-    put_path(&mut path, name, ending, 1);
+    put_path(&mut path, name, model, ending, 1);
     !is_free(&path)
 }
 
 // Gives what stands beside the list under one ending another. What stood there is replaced.
-pub fn rename_beside(name: &[u8], from: &[u8], to: &[u8]) -> i32
+pub fn rename_beside(name: &[u8], model: bool, from: &[u8], to: &[u8]) -> i32
     requires { ⌜ length (now name) ≤ nameMost ⌝ }
     requires { ⌜ length (now from) ≤ endingMost ⌝ }
     requires { ⌜ length (now to) ≤ endingMost ⌝ }
 {
     let mut old = [0u8; PATH_ROOM];
     let mut new = [0u8; PATH_ROOM];
-    let m = put_path(&mut old, name, from, 1);
-    let n = put_path(&mut new, name, to, 1);
+    let m = put_path(&mut old, name, model, from, 1);
+    let n = put_path(&mut new, name, model, to, 1);
     if os::rename(&old[..m], &new[..n]) < 0 {
         return reason();
     }
@@ -181,29 +182,29 @@ pub fn rename_beside(name: &[u8], from: &[u8], to: &[u8]) -> i32
 }
 
 // Removes what stands beside the list under this ending, as far as the system lets it.
-pub fn remove_beside(name: &[u8], ending: &[u8])
+pub fn remove_beside(name: &[u8], model: bool, ending: &[u8])
     requires { ⌜ length (now name) ≤ nameMost ⌝ }
     requires { ⌜ length (now ending) ≤ endingMost ⌝ }
 {
     let mut path = [0u8; PATH_ROOM];
-    let length = put_path(&mut path, name, ending, 1);
+    let length = put_path(&mut path, name, model, ending, 1);
     os::unlink(&path[..length]);
 }
 
-// An older sheet set aside: the number of its name now, 0 where there was none, or why it stands where it stood.
+// An older sheet or model set aside: the number of its name now, 0 where there was none, or why it stands where it stood.
 pub struct Aside {
     pub error: i32,
     pub k: usize,
 }
 
-// Gives an older sheet the first name of FILE.sheet.old, .old2 and so on that is not taken.
-pub fn rename_older(name: &[u8], path: &[u8]) -> Aside
+// Gives an older sheet or model the first name of FILE.sheet.old, .old2 and so on that is not taken.
+pub fn rename_older(name: &[u8], model: bool, path: &[u8]) -> Aside
     requires { ⌜ length (now name) ≤ nameMost ⌝ }
 {
     let mut older = [0u8; PATH_ROOM];
     let mut k = 1;
     while k < NAMES_TRIED {
-        let length = put_path(&mut older, name, b".sheet.old", k);
+        let length = put_path(&mut older, name, model, b".old", k);
         if is_free(&older) {
             let mut error = 0;
             if os::rename(path, &older[..length]) < 0 {

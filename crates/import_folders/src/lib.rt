@@ -32,9 +32,9 @@ pub fn folder_facts(folder: &[u8]) -> file_facts::Facts
     requires { ⌜ length (now folder) ≤ nameMost ⌝ }
 {
     if folder.len() == 0 {
-        return facts_of(b".", b"");
+        return facts_of(b".");
     }
-    facts_of(folder, b"")
+    facts_of(folder)
 }
 
 // Whether two names are of one folder. The system is asked only where they differ.
@@ -58,10 +58,10 @@ pub fn is_one_name(a: &[u8], b: &[u8]) -> bool {
     is_one_folder(&a[..x], &b[..y])
 }
 
-// Whether an earlier argument is the same name.
+// Whether an earlier list is the same name.
 pub fn is_repeated(i: usize, name: &[u8]) -> bool {
     let mut earlier = io::buffer();
-    let mut j = 1;
+    let mut j = import_names::first_list();
     while j < i {
         let length = os::arg(j, &mut earlier);
         if os::errno() == 0 && is_one_name(&earlier[..length], name) {

@@ -7,7 +7,7 @@ use lib.Dec.{ltb}
 use lib.ListN.{length}
 use Rattle.block.specs.Text.{decimal}
 use Rattle.put_bytes.specs.Digits.{decimal-most}
-use Rattle.import_paths.specs.Path.{counted}
+use Rattle.import_paths.specs.Path.{kindOf, counted}
 
 -- a path, with the 0 after it
 abbrev pub pathRoom : ℕ
@@ -17,13 +17,22 @@ pathRoom = 4096
 abbrev pub nameMost : ℕ
 nameMost = 4060
 
--- the longest ending, with which such a name and its number are still a path
+-- what tells a sheet's name or a model's from its list's
+abbrev pub kindMost : ℕ
+kindMost = 6
+
+-- the longest ending of such a name, with which it and its number are still a path
 abbrev pub endingMost : ℕ
-endingMost = 15
+endingMost = 7
 
 -- the number of a name, whichever it is
 abbrev pub countRoom : ℕ
 countRoom = 20
+
+pub kind-le : (model : Bool) → length (kindOf model) ≤ kindMost
+unfolding kindOf
+kind-le true = omega arith
+kind-le false = omega arith
 
 pub counted-le : (k : ℕ) → length (counted k) ≤ countRoom
 unfolding counted

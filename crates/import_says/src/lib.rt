@@ -1,5 +1,5 @@
-// What a bulk import says beside the line of a list: why a file can't be read or written, what became of an older sheet, and what an
-// import that was cut short left. All functions here are inner.
+// What a bulk import says beside the line of a list: why a file can't be read or written, what became of an older sheet or model, and what
+// an import that was cut short left. All functions here are inner.
 use file_facts::Facts;
 use import_paths::PATH_ROOM;
 use import_sheets::Standing;
@@ -56,28 +56,51 @@ pub fn say_why(error: i32) {
     say(b")");
 }
 
-// Says the name beside a list with this ending and number.
-pub fn say_beside(name: &[u8], ending: &[u8], k: usize)
+// Says which is meant.
+pub fn say_kind(model: bool) {
+    if model {
+        say(b"model");
+    } else {
+        say(b"sheet");
+    }
+}
+
+// Says the name of a list's sheet or model with this ending and number.
+pub fn say_beside(name: &[u8], model: bool, ending: &[u8], k: usize)
     requires { ⌜ length (now name) ≤ nameMost ⌝ }
     requires { ⌜ length (now ending) ≤ endingMost ⌝ }
 {
     let mut path = [0u8; PATH_ROOM];
-    let length = import_paths::put_path(&mut path, name, ending, k);
+    let length = import_paths::put_path(&mut path, name, model, ending, k);
     say_name(&path[..length]);
 }
 
-// Says what became of an older sheet: nothing where there was none.
-pub fn say_aside(name: &[u8], error: i32, k: usize)
+// Says what became of an older sheet or model: nothing where there was none.
+pub fn say_aside(name: &[u8], model: bool, error: i32, k: usize)
     requires { ⌜ length (now name) ≤ nameMost ⌝ }
 {
+    if error == 0 && k == 0 {
+        return;
+    }
+    say(b"; the older ");
+    say_kind(model);
     if error != 0 {
-        say(b"; the older sheet could not be renamed");
+        say(b" could not be renamed");
         say_why(error);
         return;
     }
-    if k != 0 {
-        say(b"; the older sheet is now ");
-        say_beside(name, b".sheet.old", k);
+    say(b" is now ");
+    say_beside(name, model, b".old", k);
+}
+
+// Says that an older sheet or model has its name, where it has.
+pub fn say_older(name: &[u8], model: bool, list: Facts)
+    requires { ⌜ length (now name) ≤ nameMost ⌝ }
+{
+    if import_sheets::is_older(name, model, list) {
+        say(b"; its ");
+        say_kind(model);
+        say(b" is an older one");
     }
 }
 
@@ -94,15 +117,24 @@ pub fn say_waited_for(name: &[u8]) {
     say(b" can't be read: it is a pipe, a device or a socket, and no file");
 }
 
-// Says that a sheet can't be written.
-pub fn say_unwritten(name: &[u8], error: i32) {
-    say_name(name);
+// Says that a sheet or model can't be written. A sheet's words begin the line of its list, a model's come after what became of its sheet.
+pub fn say_cannot(name: &[u8], model: bool) {
+    if model {
+        say(b"; its model");
+    } else {
+        say_name(name);
+    }
     say(b" can't be written");
+}
+
+// Says so, and what the system says of it.
+pub fn say_unwritten(name: &[u8], model: bool, error: i32) {
+    say_cannot(name, model);
     say_why(error);
 }
 
-// Says what stands in a sheet's place.
-pub fn say_standing(what: Standing) {
+// Says what stands in the place of a sheet or model.
+pub fn say_standing(model: bool, what: Standing) {
     if what.kind == import_sheets::ITSELF {
         say(b" is the list itself");
         return;
@@ -112,40 +144,40 @@ pub fn say_standing(what: Standing) {
         say_why(what.error);
         return;
     }
-    say(b" is no sheet");
+    say(b" is no ");
+    say_kind(model);
 }
 
-// Says that a sheet can't be written for what stands in its place, which is left there.
-pub fn say_kept(name: &[u8], ending: &[u8], what: Standing)
+// Says that a sheet or model can't be written for what stands in its place, which is left there.
+pub fn say_kept(name: &[u8], model: bool, ending: &[u8], what: Standing)
     requires { ⌜ length (now name) ≤ nameMost ⌝ }
     requires { ⌜ length (now ending) ≤ endingMost ⌝ }
 {
-    say_name(name);
-    say(b" can't be written: ");
-    say_beside(name, ending, 1);
-    say_standing(what);
-    say(b"\n");
+    say_cannot(name, model);
+    say(b": ");
+    say_beside(name, model, ending, 1);
+    say_standing(model, what);
 }
 
-// Says what keeps a list's sheet from being written, where something does.
-pub fn say_block(name: &[u8], list: Facts) -> bool
+// Says what keeps a list's sheet or model from being written, where something does.
+pub fn say_block(name: &[u8], model: bool, list: Facts) -> bool
     requires { ⌜ length (now name) ≤ nameMost ⌝ }
 {
-    let sheet = standing_at(name, list, b".sheet");
-    if import_sheets::is_kept(sheet.kind) {
-        say_kept(name, b".sheet", sheet);
+    let own = standing_at(name, model, list, b"");
+    if import_sheets::is_kept(own.kind) {
+        say_kept(name, model, b"", own);
         return true;
     }
-    let before = standing_at(name, list, b".sheet.before");
+    let before = standing_at(name, model, list, b".before");
     if import_sheets::is_kept(before.kind) {
-        say_kept(name, b".sheet.before", before);
+        say_kept(name, model, b".before", before);
         return true;
     }
     false
 }
 
-// Says that an import before this one was cut short, and whether that was before or after it wrote this list's sheet.
-pub fn say_cut_short(name: &[u8], written: bool) {
+// Says that an import before this one was cut short, and whether that was before or after it wrote this list's sheet or model.
+pub fn say_cut_short(name: &[u8], model: bool, written: bool) {
     say_name(name);
     say(b": an earlier import was cut short ");
     if written {
@@ -153,5 +185,7 @@ pub fn say_cut_short(name: &[u8], written: bool) {
     } else {
         say(b"before");
     }
-    say(b" it wrote this list's sheet\n");
+    say(b" it wrote this list's ");
+    say_kind(model);
+    say(b"\n");
 }

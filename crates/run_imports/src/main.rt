@@ -1,40 +1,7 @@
 // The bulk import, run: the arguments are imported, and the files are read back. Of each name that follows it is said whether its file
 // has the bytes that are due, which lie in data/ beside it, or whether it is gone.
-use block::SHEET_ROOM;
-use saying::say;
-
-// Whether both files can be read and hold the same bytes.
-fn is_as_due(path: &[u8], due: &[u8]) -> bool {
-    let mut text = [0u8; SHEET_ROOM + 1];
-    let written = import_files::read_file(path, &mut text);
-    let mut other = [0u8; SHEET_ROOM + 1];
-    let expected = import_files::read_file(due, &mut other);
-    if written.error != 0 || expected.error != 0 {
-        return false;
-    }
-    saying::is_same(&text[..written.length], &other[..expected.length])
-}
-
-// Says whether the file has the bytes of the other.
-fn say_as_due(path: &[u8], due: &[u8]) {
-    say(path);
-    if is_as_due(path, due) {
-        say(b" holds what is due\n");
-    } else {
-        say(b" does not hold what is due\n");
-    }
-}
-
-// Says whether there is no such file.
-fn say_gone(path: &[u8]) {
-    let mut text = [0u8; 1];
-    say(path);
-    if import_files::read_file(path, &mut text).error == libc::ENOENT {
-        say(b" is not there\n");
-    } else {
-        say(b" is there\n");
-    }
-}
+use due_files::say_as_due;
+use due_files::say_gone;
 
 // A sheet where there was none, one in the place of an older one, and one that stays; nothing waits any more.
 fn say_sheets() {
@@ -76,10 +43,21 @@ fn say_kept() {
     say_as_due(b"itself.pla.sheet", b"itself.kept");
 }
 
+// Models, which were not asked for, are as they were, beside a sheet that is changed, refused or not written, or not.
+fn say_models() {
+    say_as_due(b"again.pla.blif", b"model.was");
+    say_as_due(b"same.pla.blif", b"model.was");
+    say_as_due(b"torn.pla.blif", b"model.was");
+    say_as_due(b"note.pla.blif", b"model.was");
+    say_as_due(b"gone.pla.blif", b"model.was");
+    say_as_due(b"valve.pla.blif", b"note.kept");
+}
+
 fn main() {
     bulk_import::import_all();
     say_sheets();
     say_cut_short();
     say_older();
     say_kept();
+    say_models();
 }

@@ -25,8 +25,11 @@ slice-aggregate-say c =
 say-requires : tie.Need-say-requires
 say-requires c κs = search needs
 
-end-line-requires : tie.Need-end-line-requires
-end-line-requires c κs = search needs
+end-older-requires : tie.Need-end-older-requires
+end-older-requires c κs = search needs
+
+only-requires : tie.Need-only-requires
+only-requires c κs = search needs
 
 returns : tie.Need-returns
 returns c = search needs
@@ -37,20 +40,23 @@ array-share-prefix-sheet c =
     let a = done .before .before .before .before .before .args in
     sheet-fits (now (a .name)) (now (a .text)) _ _ _ (done .import-text .ensures .answer) (done .import-text .ensures .sheet) (c .if1 .left)
 
-slice-aggregate-put-sheet : tie.Need-slice-aggregate-put-sheet
-slice-aggregate-put-sheet c =
+slice-aggregate-put-beside : tie.Need-slice-aggregate-put-beside
+slice-aggregate-put-beside c =
     let done = c .before .before .before in
     let a = done .before .before .before .before .before .args in
     simp length-take (omega (arith, sheet-fits (now (a .name)) (now (a .text)) _ _ _ (done .import-text .ensures .answer) (done .import-text .ensures .sheet) (c .before .if1 .left)))
 
-put-sheet-requires : tie.Need-put-sheet-requires
-put-sheet-requires c κs = search needs
+put-beside-requires : tie.Need-put-beside-requires
+put-beside-requires c κs = search needs
 
 say-unwritten-requires : tie.Need-say-unwritten-requires
 say-unwritten-requires c κs = search needs
 
-end-line-requires-2 : tie.Need-end-line-requires-2
-end-line-requires-2 c κs = search needs
+end-older-requires-2 : tie.Need-end-older-requires-2
+end-older-requires-2 c κs = search needs
+
+only-requires-2 : tie.Need-only-requires-2
+only-requires-2 c κs = search needs
 
 returns-2 : tie.Need-returns-2
 returns-2 c = search needs
@@ -73,6 +79,9 @@ say-requires-2 c κs = search needs
 say-became-requires : tie.Need-say-became-requires
 say-became-requires c κs = search needs
 
+end-written-requires : tie.Need-end-written-requires
+end-written-requires c κs = search needs
+
 returns-3 : tie.Need-returns-3
 returns-3 c = search needs
 
@@ -84,16 +93,19 @@ import-list-spec =
     array-share-prefix-line
     slice-aggregate-say
     say-requires
-    end-line-requires
+    end-older-requires
+    only-requires
     returns
     array-share-prefix-sheet
-    slice-aggregate-put-sheet
-    put-sheet-requires
+    slice-aggregate-put-beside
+    put-beside-requires
     say-unwritten-requires
-    end-line-requires-2
+    end-older-requires-2
+    only-requires-2
     returns-2
     array-share-prefix-line-2
     slice-aggregate-say-2
     say-requires-2
     say-became-requires
+    end-written-requires
     returns-3)

@@ -6,10 +6,10 @@ use Rattle.import_counts.proofs.say_left.Statement.{statement}
 use Rattle.import_counts.proofs.say_left.Tie as tie
 
 abbrev Inv-loop : tie.InvT-loop
-Inv-loop left count kept j₀ t5 t6 j = (kept ≤ 1000) × (kept ≤ count)
+Inv-loop model left count kept j₀ t5 t6 j = (kept ≤ 1000) × (kept ≤ count)
 
 abbrev μ-loop : tie.MeasureT-loop
-μ-loop left count kept j₀ t5 t6 j = kept - j
+μ-loop model left count kept j₀ t5 t6 j = kept - j
 
 kept-of-requires : tie.Need-kept-of-requires Inv-loop μ-loop
 kept-of-requires c κs = search needs
@@ -34,6 +34,9 @@ loop-less c = omega arith
 
 loop-again : tie.Need-loop-again Inv-loop μ-loop
 loop-again c = search needs
+
+say-none-requires : tie.Need-say-none-requires Inv-loop μ-loop
+say-none-requires c κs = search needs
 
 slice-aggregate-say : tie.Need-slice-aggregate-say Inv-loop μ-loop
 slice-aggregate-say c = search needs
@@ -73,6 +76,7 @@ say-left-spec =
     add-j
     loop-less
     loop-again
+    say-none-requires
     slice-aggregate-say
     say-requires
     sub-say-number

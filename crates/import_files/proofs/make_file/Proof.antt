@@ -7,10 +7,10 @@ use Rattle.import_files.proofs.make_file.Statement.{statement}
 use Rattle.import_files.proofs.make_file.Tie as tie
 
 abbrev Inv-loop : tie.InvT-loop
-Inv-loop name path₀ k₀ t7 path k = k ≤ 1000
+Inv-loop name model path₀ k₀ t7 path k = k ≤ 1000
 
 abbrev μ-loop : tie.MeasureT-loop
-μ-loop name path₀ k₀ t7 path k = 1000 - k
+μ-loop name model path₀ k₀ t7 path k = 1000 - k
 
 loop-holds : tie.Need-loop-holds Inv-loop μ-loop
 loop-holds c = omega arith

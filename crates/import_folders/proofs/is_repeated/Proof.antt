@@ -16,6 +16,9 @@ abbrev μ-loop : tie.MeasureT-loop
 buffer-requires : tie.Need-buffer-requires Inv-loop μ-loop
 buffer-requires c κs = search needs
 
+first-list-requires : tie.Need-first-list-requires Inv-loop μ-loop
+first-list-requires c κs = search needs
+
 loop-holds : tie.Need-loop-holds Inv-loop μ-loop
 loop-holds c = search needs
 
@@ -59,6 +62,7 @@ is-repeated-spec =
     Inv-loop
     μ-loop
     buffer-requires
+    first-list-requires
     loop-holds
     slice-aggregate-arg
     arg-requires

@@ -6,10 +6,10 @@ use Rattle.import_start.proofs.remove_unfinished.Statement.{statement}
 use Rattle.import_start.proofs.remove_unfinished.Tie as tie
 
 abbrev Inv-loop : tie.InvT-loop
-Inv-loop name list path₀ k₀ t6 path k = k ≤ 1000
+Inv-loop name model list path₀ k₀ t6 path k = k ≤ 1000
 
 abbrev μ-loop : tie.MeasureT-loop
-μ-loop name list path₀ k₀ t6 path k = 1000 - k
+μ-loop name model list path₀ k₀ t6 path k = 1000 - k
 
 loop-holds : tie.Need-loop-holds Inv-loop μ-loop
 loop-holds c = omega arith

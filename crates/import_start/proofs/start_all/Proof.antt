@@ -6,16 +6,19 @@ use Rattle.import_start.proofs.start_all.Statement.{statement}
 use Rattle.import_start.proofs.start_all.Tie as tie
 
 abbrev Inv-loop : tie.InvT-loop
-Inv-loop count i₀ i = 1 ≤ i
+Inv-loop models count i₀ i = 1 ≤ i
 
 abbrev μ-loop : tie.MeasureT-loop
-μ-loop count i₀ i = count - i
+μ-loop models count i₀ i = count - i
 
 arg-count-requires : tie.Need-arg-count-requires Inv-loop μ-loop
 arg-count-requires c κs = search needs
 
+first-list-requires : tie.Need-first-list-requires Inv-loop μ-loop
+first-list-requires c κs = search needs
+
 loop-holds : tie.Need-loop-holds Inv-loop μ-loop
-loop-holds c = omega arith
+loop-holds c = search needs
 
 start-argument-requires : tie.Need-start-argument-requires Inv-loop μ-loop
 start-argument-requires c κs = search needs
@@ -42,6 +45,7 @@ start-all-spec =
     Inv-loop
     μ-loop
     arg-count-requires
+    first-list-requires
     loop-holds
     start-argument-requires
     sync-after-requires
