@@ -39,7 +39,7 @@ run-more : (l₀ l : List ℕ) (i : ℕ) (s : List ℕ) (x : ℕ) (l' : List ℕ
     → l' ≡ sets l₀ i (s ++ (x ∷ []))
 run-more l₀ l i s x l' j e f g = g ∙ ap (λ (y : List ℕ). set y j x) e ∙ sets-append s (x ∷ []) l₀ i j f
 
-map-length : {A B : Type 0} (f : A → B) (l : List A) → length (map f l) ≡ length l
+pub map-length : {A B : Type 0} (f : A → B) (l : List A) → length (map f l) ≡ length l
 map-length f [] = refl
 map-length f (x ∷ l) = ap suc (map-length f l)
 
