@@ -3,11 +3,12 @@
 // output and the patterns themselves; `model_value` evaluates a model that was read at a point. Each refuses with a number, and then
 // everything lent holds what it held. This crate holds nothing else: what the operations are made of stands in the crates below it.
 use block::LIST_INPUTS;
+use block::ModelAnswer;
 use block::TextAnswer;
 use block::ValueAnswer;
 ghost use Rattle.block.specs.Words.{rowsOf};
 ghost use Rattle.block.specs.ModelRead.{patternsFlat};
-ghost use Rattle.promises.specs.Models.{WriteModelPromise, ModelValuePromise};
+ghost use Rattle.promises.specs.Models.{WriteModelPromise, ReadModelPromise, ModelValuePromise};
 
 // Writes the model of the rows with weight limit w to the front of out. Refuses with 1, 2, 3 (the type, w), 4, 6, 7 and 9, as the row
 // method does, and then with 5 where out is shorter than the model.
@@ -25,6 +26,21 @@ pub fn write_model(
         (now (out .entry)) r (now (out .exit)) ⌝ }
 {
     model_work::make_model(n, k, block_type, w, masks, values, words, out)
+}
+
+// Reads a model: its matrix by rows, how many patterns each output has, and the patterns of all outputs, one after the other. The room for
+// patterns is the shorter of two slices. Refuses with 10 at the first line outside the subset, then with 5, then with 8.
+pub fn read_model(
+    text: &[u8],
+    matrix: &mut [u32],
+    counts: &mut [usize],
+    masks: &mut [u32],
+    values: &mut [u32],
+) -> ModelAnswer
+    ensures { λ r. ⌜ ReadModelPromise (now (text .entry)) (now (matrix .entry)) (now (counts .entry)) (now (masks .entry)) (now (values .entry))
+        r (now (matrix .exit)) (now (counts .exit)) (now (masks .exit)) (now (values .exit)) ⌝ }
+{
+    model_reading::read_lines(text, matrix, counts, masks, values)
 }
 
 // The word of a model that was read at the point x. Refuses with 1, 2, 3 (x), 4, 6 (the matrix first) and 8.
