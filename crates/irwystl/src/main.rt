@@ -13,6 +13,7 @@ use block::SHEET_ROOM;
 use libc::STDERR_FILENO;
 use libc::STDIN_FILENO;
 use libc::STDOUT_FILENO;
+use saying::part32;
 use saying::say;
 use saying::say_number;
 ghost use Rattle.io.specs.Counts.{Counts};
@@ -172,6 +173,15 @@ fn asked_point() -> Point {
     point_of(&name[..length])
 }
 
+// The first k counts, or all of them.
+fn first_counts(counts: &[usize], k: usize) -> &[usize] {
+    if k < counts.len() {
+        &counts[..k]
+    } else {
+        counts
+    }
+}
+
 // Reads a model, and says what it is, or its word at a point.
 fn answer_text(text: &[u8], point: Point) {
     let mut matrix = [0u32; LIST_INPUTS];
@@ -191,10 +201,10 @@ fn answer_text(text: &[u8], point: Point) {
         r.n,
         r.k,
         point.x,
-        &matrix[..r.n],
-        &counts[..r.k],
-        &masks[..r.patterns],
-        &values[..r.patterns],
+        part32(&matrix, r.n),
+        first_counts(&counts, r.k),
+        part32(&masks, r.patterns),
+        part32(&values, r.patterns),
     );
     if v.number != 0 {
         say_refused(v.number, v.a, v.b);

@@ -156,6 +156,6 @@ all-stored text s₀ c₀ m₀ v₀ s c m v (Read n k total) h e =
     let p = passes (check (not (isWhole (outcomeOf text))) 10 (firstLine + goodLines start (lines text)) 0) _ refl e in
     let q = passes _ _ refl (p .1) in
     let f : short (length s₀) (length c₀) (min (length m₀) (length v₀)) n k total ≡ false =
-        rw (← (h .held .counted)) at (rw (h .said) at (q .0)) in
+    rw (← (h .held .counted)) at (rw (h .said) at (q .0)) in
     let l = enough (length s₀) (length c₀) (min (length m₀) (length v₀)) n k total f in
     held-stored h (l .0) (l .1) (omega (arith, l .2, min-le-left (length m₀) (length v₀))) (omega (arith, l .2, min-le-right (length m₀) (length v₀)))

@@ -1,3 +1,2 @@
--- `Value`: the answer of evaluating a model that was read, by its three ways. `Read`: what was read lies within the rooms.
+-- `Value`: the answer of evaluating a model that was read, by its three ways.
 pub mod Value
-pub mod Read
