@@ -108,7 +108,12 @@ pub fn rest_answer(
 }
 
 // The answer to a text, and to room for a matrix, for counts and for patterns.
-pub fn model_answer(text: &[u8], matrix_room: usize, counts_room: usize, patterns_room: usize) -> ModelAnswer
+pub fn model_answer(
+    text: &[u8],
+    matrix_room: usize,
+    counts_room: usize,
+    patterns_room: usize,
+) -> ModelAnswer
     ensures { λ r. ⌜ r ≡ readModel (now (text .entry)) «matrix_room» «counts_room» «patterns_room» ⌝ }
 {
     let mut rows = [0u32; LIST_INPUTS];
@@ -124,7 +129,15 @@ pub fn model_answer(text: &[u8], matrix_room: usize, counts_room: usize, pattern
             k: 0,
             patterns: 0,
         },
-        Model::Read(n, k, patterns) => rest_answer(matrix_room, counts_room, patterns_room, n, k, patterns, &rows[..n]),
+        Model::Read(n, k, patterns) => rest_answer(
+            matrix_room,
+            counts_room,
+            patterns_room,
+            n,
+            k,
+            patterns,
+            &rows[..n],
+        ),
     }
 }
 

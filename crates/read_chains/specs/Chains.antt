@@ -1,14 +1,14 @@
 -- The covers of a chain by place: the first input whose line stands there (`linkedAt`), what the line then says (`linkOf`), that this is
 -- what the meaning says of the line (`linked`), and how a chain goes on cover by cover (`Going`). Assumes nothing.
-use mathlib.Core.Path.{_≡_, refl, sym, ap, ap₂, _∙_}
+use mathlib.Core.Path.{_≡_, refl, sym, ap, _∙_}
 use mathlib.Core.Bool.{Bool, true, false, not, cond, _&&_, _||_}
 use mathlib.Core.List.{List, [], _∷_, _++_, append-assoc, append-nil}
-use Prim.Native.Nat.{ℕ, zero, suc, _+_, _*_, _^_, _≤_, _<_}
+use Prim.Native.Nat.{ℕ, suc, _+_, _^_, _≤_, _<_}
 use native.Mathlib.Decide.{decLt}
 use native.Mathlib.Nat.{pow-le-pow-right}
 use native.Mathlib.Numerals.{add-one}
 use native.Mathlib.Omega.{arith, pow-step}
-use borrow.Author.Tests.{lt-ltb, le-ltb, ltb-true, eq-eqb}
+use borrow.Author.Tests.{lt-ltb, le-ltb, ltb-true}
 use lib.Dec.{eqb, ltb}
 use lib.ListN.{length, drop}
 use Rattle.slices.specs.Places.{at, first}
@@ -17,14 +17,13 @@ use Rattle.slices.specs.Least.{first-passes}
 use Rattle.block.specs.Limits.{listInputs}
 use Rattle.block.specs.Text.{equal, every, decimal}
 use Rattle.block.specs.Covers.{namesWord}
-use Rattle.block.specs.Model.{xName, zName, partName, copyCover, xorCover, spaced, namesLine, cubeLine}
-use Rattle.block.specs.ModelRead.{State, Outcome, Due, RowDue, LinkDue, OutputDue, More, Bad, on, orElse, attempt, nextRow, xorDue, linkAt, link, step}
+use Rattle.block.specs.Model.{xName, zName, partName, copyCover, xorCover, spaced, namesLine}
+use Rattle.block.specs.ModelRead.{State, LinkDue, OutputDue, More, on, orElse, nextRow, xorDue, linkAt, link, step}
 use Rattle.read_laws.specs.Front.{front, noLF}
-use Rattle.read_laws.specs.Tests.{every-append, equal-same, equal-true}
-use Rattle.read_names.specs.Met.{begins, metAt, lost, met-yes, met-then, met-found, met-missed, met-test, begins-then}
+use Rattle.read_laws.specs.Tests.{every-append}
+use Rattle.read_names.specs.Met.{begins, metAt, lost, met-then, met-found, met-missed, met-test, begins-then}
 use Rattle.read_names.specs.Fate.{isLine, front-begins, Came, Stopped, fate, fate-met, fate-stop, stop-after, decimal-noLF, Clear, word-line}
 use Rattle.read_names.specs.Attempts.{attempt-first}
-use Rattle.read_names.specs.declared.Place.{Place}
 use Rattle.read_names.specs.declared.Place.the-variants.{After, Stop}
 use Rattle.read_chains.specs.declared.Link.{Link}
 use Rattle.read_chains.specs.declared.Link.the-variants.{None, Last, Part}
@@ -240,13 +239,13 @@ module _ (text : List ℕ) (h : length text < 2 ^ 63) where
   link-there n k rs from m p at e begun g =
       attempt-first n (linkAt n k rs from m p (front (drop at text))) (linkedAt text begun n m (length rs) p) (stateBy text n k rs m p begun)
       (λ b l.
-        let u : equal (front (drop at text)) (namesLine (xorCover from b (zName (length rs)))) ≡ begins (tail b (zName (length rs))) (drop begun text) =
-            rw g (line-there at from b (zName (length rs)) e (name-clear 122 (length rs) refl)) in
-        let v : equal (front (drop at text)) (namesLine (xorCover from b (partName (length rs) p))) ≡ begins (tail b (partName (length rs) p)) (drop begun text) =
-            rw g (line-there at from b (partName (length rs) p) e (part-clear (length rs) p)) in
-        rw (u, v)
-        (link-bools (ltb m (2 ^ b)) (begins (tail b (zName (length rs))) (drop begun text)) (ltb (suc b) n)
-        (begins (tail b (partName (length rs) p)) (drop begun text)) _ _))
+      let u : equal (front (drop at text)) (namesLine (xorCover from b (zName (length rs)))) ≡ begins (tail b (zName (length rs))) (drop begun text) =
+      rw g (line-there at from b (zName (length rs)) e (name-clear 122 (length rs) refl)) in
+      let v : equal (front (drop at text)) (namesLine (xorCover from b (partName (length rs) p))) ≡ begins (tail b (partName (length rs) p)) (drop begun text) =
+      rw g (line-there at from b (partName (length rs) p) e (part-clear (length rs) p)) in
+      rw (u, v)
+      (link-bools (ltb m (2 ^ b)) (begins (tail b (zName (length rs))) (drop begun text)) (ltb (suc b) n)
+      (begins (tail b (partName (length rs) p)) (drop begun text)) _ _))
 
   -- a line of a chain that was met
   link-went : (at begun : ℕ) (from : List ℕ) (b : ℕ) (to : List ℕ) (st next : State) → noLF from ≡ true → noLF to ≡ true
@@ -270,8 +269,8 @@ module _ (text : List ℕ) (h : length text < 2 ^ 63) where
     unfolding Linked
     linked-last b f l q =
         λ k rs e.
-          link-went at begun (c .from) b (zName i) (st k rs) (xorDue (nextRow n k (rs ++ ((m + 2 ^ b) ∷ [])))) (c .clear) (name-clear 122 i refl)
-          (c .opened) q (said b f k rs e ∙ rw (lt-ltb b n l, q))
+        link-went at begun (c .from) b (zName i) (st k rs) (xorDue (nextRow n k (rs ++ ((m + 2 ^ b) ∷ [])))) (c .clear) (name-clear 122 i refl)
+        (c .opened) q (said b f k rs e ∙ rw (lt-ltb b n l, q))
 
     linked-part : (b : ℕ) → first n (linkedAt text begun n m i p) ≡ b → b < n → begins (tail b (zName i)) (drop begun text) ≡ false
         → Linked text n i p st at (Part (m + 2 ^ b) (metAt text begun (tail b (partName i p))))
@@ -281,8 +280,8 @@ module _ (text : List ℕ) (h : length text < 2 ^ 63) where
         let w = and-both (ltb m (2 ^ b)) _ v in
         let x : ltb (suc b) n && begins (tail b (partName i p)) (drop begun text) ≡ true = rw q at (w .1) in
         λ k rs e.
-          link-went at begun (c .from) b (partName i p) (st k rs) (xorDue (LinkDue n k rs (m + 2 ^ b) p)) (c .clear) (part-clear i p)
-          (c .opened) (and-both (ltb (suc b) n) _ x .1) (said b f k rs e ∙ rw (lt-ltb b n l, q))
+        link-went at begun (c .from) b (partName i p) (st k rs) (xorDue (LinkDue n k rs (m + 2 ^ b) p)) (c .clear) (part-clear i p)
+        (c .opened) (and-both (ltb (suc b) n) _ x .1) (said b f k rs e ∙ rw (lt-ltb b n l, q))
 
     linked-by : (b : ℕ) → first n (linkedAt text begun n m i p) ≡ b → Linked text n i p st at (linkBy text begun n m i p b)
     unfolding linkBy Linked

@@ -3,7 +3,7 @@
 use read_names::LOST;
 use read_names::Place;
 ghost use mathlib.Core.Path.{_≡_};
-ghost use mathlib.Core.List.{List, [], _∷_};
+ghost use mathlib.Core.List.{List, _∷_};
 ghost use Prim.Native.Nat.{ℕ, _≤_, _<_, _^_, _+_};
 ghost use Rattle.slices.specs.Places.{first};
 ghost use Rattle.block.specs.Limits.{listInputs};

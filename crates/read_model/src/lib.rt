@@ -101,7 +101,15 @@ pub fn read_rest(
 {
     match read_sigma::read_rows(text, at, n, matrix) {
         Place::Stop(bad) => Model::Broken(bad),
-        Place::After(next) => match read_outputs::read_outputs(text, next, n, k, counts, masks, values) {
+        Place::After(next) => match read_outputs::read_outputs(
+            text,
+            next,
+            n,
+            k,
+            counts,
+            masks,
+            values,
+        ) {
             Outputs::Broken(bad) => Model::Broken(bad),
             Outputs::All(patterns) => Model::Read(n, k, patterns),
         },

@@ -16,7 +16,7 @@ use Rattle.slices.specs.Tests.{and-both}
 use Rattle.sums.specs.Sums.{one}
 use Rattle.block.specs.Text.{lines, onto, lineIn, equal, every, decimal, digits}
 use Rattle.block.specs.Model.{spaced, wordLine}
-use Rattle.block.specs.ModelRead.{State, Outcome, Due, More, Whole, Bad, on, step, onward, after, isBad, isWhole, goodLines}
+use Rattle.block.specs.ModelRead.{State, Outcome, Due, More, Whole, Bad, step, after, isWhole, goodLines}
 use Rattle.block.specs.declared.Pattern.{Pattern}
 use Rattle.read_laws.specs.Front.{front, line-first, noLF}
 use Rattle.read_laws.specs.Tests.{every-append, equal-true, equal-same}
@@ -162,7 +162,7 @@ fate-next text st at to s e f g =
     let a = after-good st to s (lines (drop (at + length s) text)) g in
     let n = ends-next text at s e f in
     let b : goodLines (More st) (lines (drop at text)) ≡ suc (goodLines (More to) (lines (drop (at + length s) text))) =
-        ap (goodLines (More st)) r ∙ a .1 in
+    ap (goodLines (More st)) r ∙ a .1 in
     fate-is text st at (after (More to) (lines (drop (at + length s) text)))
     (ends (take (at + length s) text) + goodLines (More to) (lines (drop (at + length s) text)))
     (ap (after (More st)) r ∙ a .0) (omega arith)
@@ -230,8 +230,8 @@ module _ (text : List ℕ) (st : State) (at : ℕ) (s : List ℕ) (e : isLine s 
       let u : drop p text ≡ getD text p 0 ∷ drop (suc p) text = drop-cons text p 0 l in
       let b = over-bad n k sigma qs (getD text p 0) (drop (suc p) text) in
       let i : goodLines (More st) (lines (drop at text)) ≡ 1 =
-          ap (goodLines (More st)) (lines-next text at s e f) ∙ a .1
-          ∙ ap suc (ap (λ (x : List ℕ). goodLines (Whole n k sigma qs) (lines x)) u ∙ b .1) in
+      ap (goodLines (More st)) (lines-next text at s e f) ∙ a .1
+      ∙ ap suc (ap (λ (x : List ℕ). goodLines (Whole n k sigma qs) (lines x)) u ∙ b .1) in
       record {
         broken =
             ap (λ (o : Outcome). isWhole o) (ap (after (More st)) (lines-next text at s e f) ∙ a .0)

@@ -1,23 +1,22 @@
 -- A pattern's line by place: n symbols and " 1" stand there (`cube-there`) exactly where the first line is of a pattern's form (`no-cube`).
 -- Assumes nothing.
 use mathlib.Core.Path.{_≡_, refl, sym, ap, ap₂, _∙_}
-use mathlib.Core.Bool.{Bool, true, false, not, cond, _&&_, _||_}
+use mathlib.Core.Bool.{Bool, true, false, not, _&&_, _||_}
 use mathlib.Core.List.{List, [], _∷_, _++_, append-assoc}
 use Prim.Native.Nat.{ℕ, zero, suc, _+_, _*_, _^_, _≤_, _<_}
 use native.Mathlib.Numerals.{add-one}
 use native.Mathlib.Omega.{arith, pow-step}
-use borrow.Author.Tests.{eq-eqb, ne-eqb, eqb-true}
+use borrow.Author.Tests.{eq-eqb, eqb-true}
 use lib.Dec.{eqb}
 use lib.ListN.{length, take, drop, length-append, length-drop, List·getD-append}
 use lib.Seq.{take-at, drop-at, drop-drop, drop-append-le, length-take-le, getD-drop, getD-take}
 use Rattle.slices.specs.Places.{at}
 use Rattle.slices.specs.Tests.{and-both}
 use Rattle.sums.specs.Sums.{sum, one}
-use Rattle.sums.specs.Laws.{sum-zero, sum-more, sum-cong}
+use Rattle.sums.specs.Laws.{sum-cong}
 use Rattle.block.specs.Text.{every, equal}
 use Rattle.block.specs.Model.{pattern, cubeLine}
 use Rattle.block.specs.ModelRead.{patternForm, patternOn}
-use Rattle.block.specs.declared.Pattern.{Pattern}
 use Rattle.read_laws.specs.Front.{front, front-rest, noLF}
 use Rattle.read_laws.specs.Tests.{every-at, every-all, every-append, equal-true, equal-same, not-both}
 use Rattle.read_names.specs.Met.{begins, metAt, lost, begins-append, begins-length, met-yes, met-found, met-missed}
@@ -158,14 +157,13 @@ module _ (text : List ℕ) (h : length text < 2 ^ 63) (n from : ℕ) where
       let b = and-both (eqb (length l) (n + 3)) _ (a .1) in
       let s : length l ≡ n + 3 = eqb-true (length l) (n + 3) (b .0) in
       let t : length (take n l) ≡ n = length-take-le n l (omega arith) in
-      let d : drop n l ≡ cubeLine [] = equal-true (drop n l) (cubeLine []) (b .1) in
-      (
+      let d : drop n l ≡ cubeLine [] = equal-true (drop n l) (cubeLine []) (b .1) in (
         λ j k.
-          ap isSymbol
-          (sym (getD-drop from text j 0) ∙ ap (λ (x : List ℕ). at x j) (sym u) ∙ List·getD-append l r 0 j (omega arith) ∙ sym (getD-take n l j 0 k))
-          ∙ every-at isSymbol (take n l) (a .0) j (omega arith),
+            ap isSymbol
+            (sym (getD-drop from text j 0) ∙ ap (λ (x : List ℕ). at x j) (sym u) ∙ List·getD-append l r 0 j (omega arith) ∙ sym (getD-take n l j 0 k))
+            ∙ every-at isSymbol (take n l) (a .0) j (omega arith),
         ap (begins (cubeLine []))
-        (sym (drop-drop n from text) ∙ ap (drop n) (sym u) ∙ drop-append-le n l r (omega arith) ∙ ap (λ (x : List ℕ). x ++ r) d),
+            (sym (drop-drop n from text) ∙ ap (drop n) (sym u) ∙ drop-append-le n l r (omega arith) ∙ ap (λ (x : List ℕ). x ++ r) d),
       )
 
   none : (patternForm n (front (drop from text)) ≡ true → ⊥) → Cubed text n from None

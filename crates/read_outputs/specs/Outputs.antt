@@ -1,27 +1,26 @@
 -- The covers of the outputs by place: the patterns of one output (`PatternsRead`), the outputs one after the other (`OutputsRead`), the last
 -- line, and the whole (`AllRead`). The lists that were lent hold what fits. Assumes nothing.
-use mathlib.Core.Path.{_≡_, refl, sym, ap, ap₂, _∙_}
+use mathlib.Core.Path.{_≡_, refl, sym, ap, _∙_}
 use mathlib.Core.Bool.{Bool, true, false, cond}
 use mathlib.Core.List.{List, [], _∷_, _++_, map, map-append, append-assoc, append-nil}
-use Prim.Native.Nat.{ℕ, zero, suc, _+_, _-_, _^_, _≤_, _<_}
+use Prim.Native.Nat.{ℕ, suc, _+_, _-_, _^_, _≤_, _<_}
 use native.Mathlib.Nat.{add-zero}
-use native.Mathlib.Numerals.{add-one}
 use native.Mathlib.Omega.{arith}
 use borrow.Author.Tests.{eq-eqb, ne-eqb, eqb-true, eqb-false}
 use lib.Dec.{eqb}
-use lib.ListN.{length, set, take, drop, length-append, length-drop, drop-of-length-le}
-use lib.Seq.{sets, drop-drop}
+use lib.ListN.{length, set, drop, length-append, length-drop}
+use lib.Seq.{sets}
 use Rattle.slices.specs.Places.{tab}
-use Rattle.block.specs.Text.{lines, equal, every}
+use Rattle.block.specs.Text.{every}
 use Rattle.block.specs.Covers.{namesWord}
 use Rattle.block.specs.Model.{yName, zName, pattern, outputCover, spaced, namesLine, lastLine}
-use Rattle.block.specs.ModelRead.{State, Outcome, OutputDue, PatternDue, More, Whole, Bad, on, step, after, onward, isBad, isWhole, goodLines, patternForm, patternOn, countsOf, allOf}
+use Rattle.block.specs.ModelRead.{OutputDue, PatternDue, More, Whole, Bad, on, step, patternForm, countsOf, allOf}
 use Rattle.block.specs.declared.Pattern.{Pattern}
-use Rattle.read_laws.specs.Front.{front, noLF}
+use Rattle.read_laws.specs.Front.{front}
 use Rattle.read_laws.specs.Tests.{equal-same, equal-true}
 use Rattle.put_bytes.specs.Puts.{sets-append}
 use Rattle.read_names.specs.Met.{begins, metAt, lost, begins-length, met-yes, spaced-append, spaced-one}
-use Rattle.read_names.specs.Fate.{isLine, front-begins, lines-begins, line-found, line-missed, Fate, Stopped, fate, fate-met, fate-next, fate-stop, fate-whole, fate-over, stop-after, clear-more, clear-tab, word-line}
+use Rattle.read_names.specs.Fate.{isLine, front-begins, line-found, line-missed, Fate, Stopped, fate, fate-met, fate-next, fate-stop, fate-whole, fate-over, stop-after, clear-more, clear-tab, word-line}
 use Rattle.read_chains.specs.Chains.{name-clear}
 use Rattle.read_outputs.specs.declared.Outputs.{Outputs}
 use Rattle.read_outputs.specs.declared.Outputs.the-variants.{All, Broken}
@@ -87,10 +86,10 @@ patterns-more {text} {n} {from} {count} {m₀} {v₀} {to} {total} {m} {v} r a b
           ∙ ap (sets v₀ count) (sym (map-append (λ (p : Pattern). p .values) (r .patterns) (pattern a b ∷ [])));
       goes =
           λ k sigma qs.
-            r .goes k sigma qs
-            ∙ fate-next text (PatternDue n k sigma qs (r .patterns)) to (PatternDue n k sigma qs (r .patterns ++ (pattern a b ∷ []))) (c .line)
-            (c .ended) (c .stands) (rw (c .form, c .says))
-            ∙ ap (fate text (PatternDue n k sigma qs (r .patterns ++ (pattern a b ∷ [])))) (sym (c .place));
+          r .goes k sigma qs
+          ∙ fate-next text (PatternDue n k sigma qs (r .patterns)) to (PatternDue n k sigma qs (r .patterns ++ (pattern a b ∷ []))) (c .line)
+          (c .ended) (c .stands) (rw (c .form, c .says))
+          ∙ ap (fate text (PatternDue n k sigma qs (r .patterns ++ (pattern a b ∷ [])))) (sym (c .place));
       fits = omega (arith, r .fits, c .longer);
       within = c .within;
     }
@@ -228,8 +227,8 @@ module _ (text : List ℕ) (h : length text < 2 ^ 63) (n k : ℕ) where
         held = holds-none c m v;
         goes =
             λ sigma.
-              fate-next text (OutputDue n k sigma) from (PatternDue n k sigma [] []) s (head-is-line n 0) f (rw (equal-same s))
-              ∙ ap (fate text (PatternDue n k sigma [] [])) (sym (e ∙ met-yes text h from s f));
+            fate-next text (OutputDue n k sigma) from (PatternDue n k sigma [] []) s (head-is-line n 0) f (rw (equal-same s))
+            ∙ ap (fate text (PatternDue n k sigma [] [])) (sym (e ∙ met-yes text h from s f));
         fits = omega arith;
         within = rw (e ∙ met-yes text h from s f) (met-within text from s (omega arith) f);
       }
@@ -289,10 +288,10 @@ module _ (text : List ℕ) (h : length text < 2 ^ 63) (n k : ℕ) where
             held = holds-next c' e;
             goes =
                 λ sigma.
-                  came sigma
-                  ∙ fate-met text h (PatternDue n k sigma (o .outputs) (p .patterns)) past (PatternDue n k sigma next []) s (head-is-line n (j + 1)) f
-                  (said sigma ∙ rw f)
-                  ∙ ap (fate text (PatternDue n k sigma next [])) (sym g);
+                came sigma
+                ∙ fate-met text h (PatternDue n k sigma (o .outputs) (p .patterns)) past (PatternDue n k sigma next []) s (head-is-line n (j + 1)) f
+                (said sigma ∙ rw f)
+                ∙ ap (fate text (PatternDue n k sigma next [])) (sym g);
             fits = omega (arith, p .fits, g, met-yes text h past s f);
             within = rw (g ∙ met-yes text h past s f) w;
           }
@@ -339,15 +338,15 @@ module _ (text : List ℕ) (h : length text < 2 ^ 63) (n k : ℕ) where
                 held = holds-next c' e;
                 whole =
                     λ sigma.
-                      ap (λ (x : Fate). x .outcome) (came sigma)
-                      ∙ fate-whole text (PatternDue n k sigma (o .outputs) (p .patterns)) past lastLine last-is-line f n k sigma next (is-whole f sigma)
-                      (omega (arith, eqb-true (past + 5) (length text) g));
+                    ap (λ (x : Fate). x .outcome) (came sigma)
+                    ∙ fate-whole text (PatternDue n k sigma (o .outputs) (p .patterns)) past lastLine last-is-line f n k sigma next (is-whole f sigma)
+                    (omega (arith, eqb-true (past + 5) (length text) g));
               }
           over f false g =
               λ sigma.
-                stop-after (came sigma)
-                (fate-over text (PatternDue n k sigma (o .outputs) (p .patterns)) past lastLine last-is-line f n k sigma next (is-whole f sigma)
-                (less f (eqb-false (past + 5) (length text) g)))
+              stop-after (came sigma)
+              (fate-over text (PatternDue n k sigma (o .outputs) (p .patterns)) past lastLine last-is-line f n k sigma next (is-whole f sigma)
+              (less f (eqb-false (past + 5) (length text) g)))
 
           go : (q : Bool) → begins lastLine (drop past text) ≡ q
               → Ending text n k from c₀ m₀ v₀ c' m' v' (cond q (cond (eqb (past + 5) (length text)) (All total') (Broken (past + 5))) (Broken past))

@@ -3,7 +3,7 @@
 // are inner.
 use read_names::LOST;
 ghost use mathlib.Core.Path.{_≡_};
-ghost use Prim.Native.Nat.{ℕ, _≤_, _<_, _^_, _+_};
+ghost use Prim.Native.Nat.{_≤_, _<_, _+_};
 ghost use Prim.Native.Nat.{_-_};
 ghost use mathlib.Core.Bool.{false};
 ghost use mathlib.Core.List.{[]};
@@ -89,7 +89,14 @@ pub fn read_cube(text: &[u8], at: usize, n: usize) -> Cube
 }
 
 // The patterns from a place on, up to the first line that is none; `count` is the number of those before them.
-pub fn read_patterns(text: &[u8], at: usize, n: usize, count: usize, masks: &mut [u32], values: &mut [u32]) -> Patterns
+pub fn read_patterns(
+    text: &[u8],
+    at: usize,
+    n: usize,
+    count: usize,
+    masks: &mut [u32],
+    values: &mut [u32],
+) -> Patterns
     requires { ⌜ (at ≤ length (now text)) × (n ≤ listInputs) × (count ≤ at) ⌝ }
     ensures { λ r. ⌜ PatternsRead (now (text .entry)) n at count (now (masks .entry)) (now (values .entry)) (r .at) (r .count) (now (masks .exit)) (now (values .exit)) ⌝ }
     ensures { λ r. ⌜ patternForm n (front (drop (r .at) (now (text .entry)))) ≡ false ⌝ }
@@ -98,7 +105,10 @@ pub fn read_patterns(text: &[u8], at: usize, n: usize, count: usize, masks: &mut
     let mut total = count;
     loop {
         match read_cube(text, to, n) {
-            Cube::None => return Patterns { at: to, count: total },
+            Cube::None => return Patterns {
+                at: to,
+                count: total,
+            },
             Cube::Is(m, v, next) => {
                 read_sigma::store(masks, total, m);
                 read_sigma::store(values, total, v);

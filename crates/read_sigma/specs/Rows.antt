@@ -1,15 +1,13 @@
 -- The rows of sigma by place: a row's first line copies an input (`copied`), begins a chain (`begun-chain`), or is neither (`row-none`);
 -- and all rows, one after the other (`Rows`). Assumes nothing.
 use mathlib.Core.Path.{_≡_, refl, sym, ap, _∙_}
-use mathlib.Core.Bool.{Bool, true, false, cond}
+use mathlib.Core.Bool.{Bool, true, cond}
 use mathlib.Core.List.{List, [], _∷_, _++_}
-use Prim.Native.Nat.{ℕ, zero, suc, _+_, _^_, _≤_, _<_}
+use Prim.Native.Nat.{ℕ, _+_, _^_, _≤_, _<_}
 use native.Mathlib.Decide.{decLt}
-use native.Mathlib.Nat.{zero-add}
-use native.Mathlib.Numerals.{add-one}
 use native.Mathlib.Omega.{arith}
 use borrow.Author.Tests.{lt-ltb, le-ltb, eq-eqb, ne-eqb}
-use lib.Dec.{eqb, ltb}
+use lib.Dec.{ltb}
 use lib.ListN.{length, set, drop, length-append, List·getD-append}
 use lib.Seq.{sets, getD-append-seam}
 use Rattle.slices.specs.Places.{first}
@@ -18,7 +16,7 @@ use Rattle.slices.specs.Least.{first-passes}
 use Rattle.block.specs.Text.{equal}
 use Rattle.block.specs.Covers.{namesWord}
 use Rattle.block.specs.Model.{xName, zName, copyCover, namesLine, cubeLine}
-use Rattle.block.specs.ModelRead.{State, Outcome, Due, RowDue, OutputDue, More, Bad, on, orElse, attempt, nextRow, link, step}
+use Rattle.block.specs.ModelRead.{State, Outcome, Due, RowDue, OutputDue, More, on, orElse, attempt, nextRow, link, step}
 use Rattle.read_laws.specs.Front.{front}
 use Rattle.put_bytes.specs.Puts.{sets-append}
 use Rattle.read_names.specs.declared.Place.{Place}
@@ -64,9 +62,9 @@ module _ (text : List ℕ) (h : length text < 2 ^ 63) (n i at begun : ℕ) (g : 
       (λ a. on (equal (front (drop at text)) (namesLine (copyCover a (length rs)))) (More (copyDue k rs a)))
       (copyAt text begun i) (copyDue k rs)
       (λ a l.
-        ap (λ (q : Bool). on q (More (copyDue k rs a)))
-        (front-begins (namesLine (copyCover a (length rs))) (drop at text) (copy-is-line a (length rs)) ∙ copy-met a (length rs)
-        ∙ ap (λ (j : ℕ). begins (tail a (zName j)) (drop begun text)) e)))
+      ap (λ (q : Bool). on q (More (copyDue k rs a)))
+      (front-begins (namesLine (copyCover a (length rs))) (drop at text) (copy-is-line a (length rs)) ∙ copy-met a (length rs)
+      ∙ ap (λ (j : ℕ). begins (tail a (zName j)) (drop begun text)) e)))
 
   pub copied : (a : ℕ) → first n (copyAt text begun i) ≡ a → a < n → (k : ℕ) (rs : List ℕ) → length rs ≡ i
       → fate text (RowDue n k rs) at ≡ fate text (copyDue k rs a) (metAt text begun (tail a (zName i)))
@@ -118,8 +116,8 @@ module _ (text : List ℕ) (h : length text < 2 ^ 63) (n i at begun : ℕ) (g : 
           opened = opened-at a;
           links =
               λ k rs e.
-                no-copy k rs e ∙ chains-said k rs e ∙ rw (f, lt-ltb a n l)
-                (sym (link-first a k rs e ∙ ap (λ (b : Bool). on b (More (after-first k rs a))) q));
+              no-copy k rs e ∙ chains-said k rs e ∙ rw (f, lt-ltb a n l)
+              (sym (link-first a k rs e ∙ ap (λ (b : Bool). on b (More (after-first k rs a))) q));
         }
 
     pub row-chained : (a : ℕ) → a ≡ first n (chainAt text begun n i) → a < n → (v met : ℕ) → v ≡ 2 ^ a → met ≡ metAt text begun (32 ∷ xName a)
@@ -205,7 +203,7 @@ module _ {text : List ℕ} {n from : ℕ} {l₀ : List ℕ} {i at : ℕ} {l : Li
         held = s .held;
         goes =
             λ k.
-              s .goes k
-              ∙ ap (λ (q : Bool). fate text (cond q (OutputDue n k (s .rows)) (RowDue n k (s .rows))) at)
-              (eq-eqb (length (s .rows)) n (s .size ∙ e));
+            s .goes k
+            ∙ ap (λ (q : Bool). fate text (cond q (OutputDue n k (s .rows)) (RowDue n k (s .rows))) at)
+            (eq-eqb (length (s .rows)) n (s .size ∙ e));
       }

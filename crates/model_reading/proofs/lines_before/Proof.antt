@@ -45,8 +45,7 @@ loop-less c = search needs
 loop-again : tie.Need-loop-again Inv-loop μ-loop
 loop-again c =
     let l = c .before .before .before .before .loop in
-    let a = c .before .before .before .before .before .before .args in
-    (
+    let a = c .before .before .before .before .before .before .args in (
       omega arith,
       omega arith,
       ap₂ (λ (x y : ℕ). x + y) (l .inv .2) (c .line-end .ensures .0) ∙ sym (ends-more (now (a .text)) (l .i) (omega arith)),

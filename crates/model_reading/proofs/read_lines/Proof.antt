@@ -30,7 +30,7 @@ returns c =
     let m = now (a .masks) in
     let v = now (a .values) in
     let e : c .before .before .model-answer .result ≡ readModel t (length s) (length n) (min (length m) (length v)) =
-        c .before .before .model-answer .ensures ∙ ap (readModel t (length s) (length n)) (c .before .before .before .lesser .ensures) in
+    c .before .before .model-answer .ensures ∙ ap (readModel t (length s) (length n)) (c .before .before .before .lesser .ensures) in
     let u = readModelVerdict t (length s) (length n) (min (length m) (length v)) in
     let d : u .number ≡ 0 → ⊥ = λ z. c .if1 .taken (ap (λ (x : ModelAnswer). x .number) e ∙ z) in
     record {
@@ -66,7 +66,7 @@ returns-2 c =
     let m = now (a .masks) in
     let v = now (a .values) in
     let e : c .before .before .before .before .before .before .before .before .before .before .before .before .before .before .before .model-answer .result ≡ readModel t (length s) (length n) (min (length m) (length v)) =
-        c .before .before .before .before .before .before .before .before .before .before .before .before .before .before .before .model-answer .ensures ∙ ap (readModel t (length s) (length n)) (c .before .before .before .before .before .before .before .before .before .before .before .before .before .before .before .before .lesser .ensures) in
+    c .before .before .before .before .before .before .before .before .before .before .before .before .before .before .before .model-answer .ensures ∙ ap (readModel t (length s) (length n)) (c .before .before .before .before .before .before .before .before .before .before .before .before .before .before .before .before .lesser .ensures) in
     let u = readModelVerdict t (length s) (length n) (min (length m) (length v)) in
     let d : u .number ≡ 0 = sym (ap (λ (x : ModelAnswer). x .number) e) ∙ c .before .before .before .before .before .before .before .before .before .before .before .before .before .if1 .left in
     let h = all-stored t s n m v _ _ _ _ (c .before .before .before .before .before .before .before .before .read-model .result) (c .before .before .before .before .before .before .before .before .read-model .ensures) d in

@@ -35,8 +35,8 @@ returns c =
     let a = c .before .before .before .before .before .args in
     let l = c .before .before .before .loop in
     λ st h.
-      going-none (now (a .text)) (omega arith) (a .n) (a .i) st (a .at) (l .m) (l .part) (l .from) (l .begun) (l .inv .3 st h)
-      (sym (c .enum-told .given .1) ∙ c .before .before .read-link .ensures .0)
+    going-none (now (a .text)) (omega arith) (a .n) (a .i) st (a .at) (l .m) (l .part) (l .from) (l .begun) (l .inv .3 st h)
+    (sym (c .enum-told .given .1) ∙ c .before .before .read-link .ensures .0)
 
 enum-known-all : tie.Need-enum-known-all Inv-loop μ-loop
 enum-known-all c = search needs
@@ -51,9 +51,9 @@ returns-2 c =
     let l = c .before .before .before .before .before .loop in
     let e = c .before .before .all .given in
     λ st h.
-      going-last (now (a .text)) (omega arith) (a .n) (a .i) st (a .at) (l .m) (l .part) (l .from) (l .begun) (l .inv .3 st h) (e .0 .0) (e .0 .1 .0)
-      (sym (e .1) ∙ c .before .before .before .before .read-link .ensures .0) (rw (e .1) at (c .before .before .before .before .read-link .ensures .1))
-      (c .end-row .result) (c .end-row .ensures)
+    going-last (now (a .text)) (omega arith) (a .n) (a .i) st (a .at) (l .m) (l .part) (l .from) (l .begun) (l .inv .3 st h) (e .0 .0) (e .0 .1 .0)
+    (sym (e .1) ∙ c .before .before .before .before .read-link .ensures .0) (rw (e .1) at (c .before .before .before .before .read-link .ensures .1))
+    (c .end-row .result) (c .end-row .ensures)
 
 enum-known-more : tie.Need-enum-known-more Inv-loop μ-loop
 enum-known-more c = search needs
@@ -70,9 +70,9 @@ returns-3 c =
     let l = c .before .before .before .before .before .before .before .before .loop in
     let e = c .before .before .before .before .before .more .given in
     λ st h.
-      going-broken (now (a .text)) (omega arith) (a .n) (a .i) st (a .at) (l .m) (l .part) (l .from) (l .begun) (l .inv .3 st h) (e .0 .0) (e .0 .1 .0)
-      (sym (e .1) ∙ c .before .before .before .before .before .before .before .read-link .ensures .0) (c .before .bad .given .0 .0)
-      (rw (c .before .bad .given .1) at (c .before .before .before .read-xor .ensures))
+    going-broken (now (a .text)) (omega arith) (a .n) (a .i) st (a .at) (l .m) (l .part) (l .from) (l .begun) (l .inv .3 st h) (e .0 .0) (e .0 .1 .0)
+    (sym (e .1) ∙ c .before .before .before .before .before .before .before .read-link .ensures .0) (c .before .bad .given .0 .0)
+    (rw (c .before .bad .given .1) at (c .before .before .before .read-xor .ensures))
 
 enum-known-next : tie.Need-enum-known-next Inv-loop μ-loop
 enum-known-next c = search needs
@@ -98,15 +98,14 @@ loop-again c =
     let e = c .before .before .before .before .before .before .more .given in
     let k = c .before .before .before .before .before .before .before .before .read-link .ensures in
     let g = rw (e .1) at (k .1) in
-    let d = parts-more (l .m) (e .0 .0) (l .part) (l .inv .1) (g .1) in
-    (
+    let d = parts-more (l .m) (e .0 .0) (l .part) (l .inv .1) (g .1) in (
       g .0,
       d,
       few-parts (e .0 .0) (l .part + 1) (omega (arith, g .0, power-small (a .n) (omega arith))) d,
       λ st h.
-        going-part (now (a .text)) (omega arith) (a .n) (a .i) st (a .at) (l .m) (l .part) (l .from) (l .begun) (l .inv .3 st h) (e .0 .0) (e .0 .1 .0)
-        (sym (e .1) ∙ k .0) (c .before .before .next .given .0 .0)
-        (rw (c .before .before .next .given .1) at (c .before .before .before .before .read-xor .ensures)) (c .meet-so-far .result) (c .meet-so-far .ensures),
+          going-part (now (a .text)) (omega arith) (a .n) (a .i) st (a .at) (l .m) (l .part) (l .from) (l .begun) (l .inv .3 st h) (e .0 .0) (e .0 .1 .0)
+          (sym (e .1) ∙ k .0) (c .before .before .next .given .0 .0)
+          (rw (c .before .before .next .given .1) at (c .before .before .before .before .read-xor .ensures)) (c .meet-so-far .result) (c .meet-so-far .ensures),
     )
 
 pub read-chain-spec : {M : Type 1} → statement M

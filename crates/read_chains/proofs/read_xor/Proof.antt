@@ -41,9 +41,9 @@ returns-2 c =
     let a = c .before .before .before .before .before .before .before .before .args in
     let e = c .before .before .before .next .given .1 in
     λ s.
-      came-after (now (a .text)) (xorDue s) (a .at) (Due (cubeLine (49 ∷ 48 ∷ [])) s) (c .before .before .before .next .given .0 .0) s (c .read-line2 .result)
-      ((rw e at (c .before .before .before .before .before .read-line .ensures)) (Due (cubeLine (49 ∷ 48 ∷ [])) s))
-      (c .read-line2 .ensures s)
+    came-after (now (a .text)) (xorDue s) (a .at) (Due (cubeLine (49 ∷ 48 ∷ [])) s) (c .before .before .before .next .given .0 .0) s (c .read-line2 .result)
+    ((rw e at (c .before .before .before .before .before .read-line .ensures)) (Due (cubeLine (49 ∷ 48 ∷ [])) s))
+    (c .read-line2 .ensures s)
 
 pub read-xor-spec : {M : Type 1} → statement M
 read-xor-spec =

@@ -32,8 +32,8 @@ returns c =
     sym
     (first-is (a .most + 1) (namedAt (now (a .text)) (a .at) (now (a .word)) (a .letter)) (l .n) (l .inv .1) (l .inv .2)
     (λ q.
-      named-yes (now (a .text)) (omega arith) (a .at) (now (a .word)) (a .letter) (l .n) (l .inv .0) (c .before .meet-named .result) (c .before .meet-named .ensures)
-      (λ w. c .if1 .taken (w ∙ lost-is))))
+    named-yes (now (a .text)) (omega arith) (a .at) (now (a .word)) (a .letter) (l .n) (l .inv .0) (c .before .meet-named .result) (c .before .meet-named .ensures)
+    (λ w. c .if1 .taken (w ∙ lost-is))))
 
 add-n : tie.Need-add-n Inv-loop μ-loop
 add-n c = search needs
@@ -44,13 +44,12 @@ loop-less c = search needs
 loop-again : tie.Need-loop-again Inv-loop μ-loop
 loop-again c =
     let l = c .before .before .before .loop in
-    let a = c .before .before .before .before .before .before .args in
-    (
+    let a = c .before .before .before .before .before .before .args in (
       omega arith,
       omega arith,
       below-more (λ j. namedAt (now (a .text)) (a .at) (now (a .word)) (a .letter) j ≡ false) (l .n) (l .inv .2)
-      (named-no (now (a .text)) (omega arith) (a .at) (now (a .word)) (a .letter) (l .n) (l .inv .0) (c .before .meet-named .result) (c .before .meet-named .ensures)
-      (c .if1 .left ∙ sym lost-is)),
+          (named-no (now (a .text)) (omega arith) (a .at) (now (a .word)) (a .letter) (l .n) (l .inv .0) (c .before .meet-named .result) (c .before .meet-named .ensures)
+          (c .if1 .left ∙ sym lost-is)),
     )
 
 returns-2 : tie.Need-returns-2 Inv-loop μ-loop

@@ -36,13 +36,12 @@ unfolding Outlined every
 returns-2 c =
     let a = c .before .before .before .before .before .before .args in
     let k = c .before .before .before .named in
-    let l : k .result ≤ 15 = omega arith in
-    (
+    let l : k .result ≤ 15 = omega arith in (
       refl,
       named-some (now (a .text)) (omega arith) (a .at) outputsWord 121 refl refl 15 (OutputsDue (a .n)) (λ k. RowDue (a .n) k []) (outputs-due (a .n)) (k .result) (k .ensures) l,
       l,
       named-next (now (a .text)) (omega arith) (a .at) outputsWord 121 refl refl 15 (OutputsDue (a .n)) (λ k. RowDue (a .n) k []) (outputs-due (a .n)) (k .result) (k .ensures) l
-      (c .meet-named .result) (c .meet-named .ensures),
+          (c .meet-named .result) (c .meet-named .ensures),
     )
 
 pub read-outputs-line-spec : {M : Type 1} → statement M

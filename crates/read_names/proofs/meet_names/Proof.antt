@@ -37,12 +37,11 @@ loop-again : tie.Need-loop-again Inv-loop μ-loop
 loop-again c =
     let l = c .before .before .before .loop in
     let a = c .before .before .before .before .before .args in
-    let t = now (a .text) in
-    (
+    let t = now (a .text) in (
       omega arith,
       rw (names-more (a .letter) (l .i))
-      (met-and t (omega arith) (a .at) (spaced (tab (l .i) (lettered (a .letter)))) (32 ∷ lettered (a .letter) (l .i)) (l .inv .1)
-      (met-and t (omega arith) (l .to) (32 ∷ []) (lettered (a .letter) (l .i)) (c .before .meet-byte .ensures) (c .meet-name .ensures))),
+          (met-and t (omega arith) (a .at) (spaced (tab (l .i) (lettered (a .letter)))) (32 ∷ lettered (a .letter) (l .i)) (l .inv .1)
+          (met-and t (omega arith) (l .to) (32 ∷ []) (lettered (a .letter) (l .i)) (c .before .meet-byte .ensures) (c .meet-name .ensures))),
     )
 
 returns : tie.Need-returns Inv-loop μ-loop

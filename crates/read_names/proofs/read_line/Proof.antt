@@ -23,8 +23,8 @@ unfolding Came
 returns-2 c =
     let a = c .before .before .before .before .args in
     λ s.
-      due-came (now (a .text)) (omega arith) (a .at) (now (a .line)) s _ (c .before .before .before .before .pre) (c .before .meet-bytes .ensures)
-      (λ w. c .if1 .left (w ∙ lost-is))
+    due-came (now (a .text)) (omega arith) (a .at) (now (a .line)) s _ (c .before .before .before .before .pre) (c .before .meet-bytes .ensures)
+    (λ w. c .if1 .left (w ∙ lost-is))
 
 pub read-line-spec : {M : Type 1} → statement M
 read-line-spec = tie.close (tie.spec meet-bytes-requires returns returns-2)

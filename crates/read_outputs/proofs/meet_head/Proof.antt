@@ -38,8 +38,8 @@ returns c =
     let name : List ℕ = (32 ∷ yName (a .j)) ++ (10 ∷ []) in
     let names = c .before .before .before .meet-names in
     let met =
-        met-and t (omega arith) (names .result) (32 ∷ []) (yName (a .j) ++ (10 ∷ [])) (c .before .before .meet-byte .ensures)
-        (met-and t (omega arith) (c .before .before .meet-byte .result) (yName (a .j)) (10 ∷ []) (c .before .meet-name .ensures) (c .meet-byte2 .ensures)) in
+    met-and t (omega arith) (names .result) (32 ∷ []) (yName (a .j) ++ (10 ∷ [])) (c .before .before .meet-byte .ensures)
+    (met-and t (omega arith) (c .before .before .meet-byte .result) (yName (a .j)) (10 ∷ []) (c .before .meet-name .ensures) (c .meet-byte2 .ensures)) in
     met-and t (omega arith) (a .at) namesWord (spaced (tab (a .n) zName) ++ name) (c .before .before .before .before .meet-bytes .ensures)
     (met-and t (omega arith) (c .before .before .before .before .meet-bytes .result) (spaced (tab (a .n) zName)) name (names .ensures) met)
     ∙ ap (metAt t (a .at)) (head-line (a .n) (a .j))

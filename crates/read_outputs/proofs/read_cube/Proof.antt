@@ -10,7 +10,7 @@ use borrow.Author.Count.{below-more}
 use borrow.Author.Tests.{not-true, not-false}
 use lib.Dec.{eqb}
 use lib.ListN.{getD}
-use Rattle.sums.specs.Sums.{sum, one}
+use Rattle.sums.specs.Sums.{sum}
 use Rattle.sums.specs.Laws.{sum-zero, sum-more}
 use Rattle.read_names.specs.Met.{lost-is}
 use Rattle.read_chains.specs.Chains.{power-small}
@@ -79,11 +79,10 @@ loop-again : tie.Need-loop-again Inv-loop μ-loop
 loop-again c =
     let l = c .before .before .before .before .before .before .loop in
     let a = c .before .before .before .before .before .before .before .before .args in
-    let b = c .before .before .before .before .byte in
-    (
+    let b = c .before .before .before .before .byte in (
       omega arith,
       below-more (λ j. isSymbol (getD (now (a .text)) (a .at + j) 0) ≡ true) (l .i) (l .inv .1)
-      (ap isSymbol (sym (b .ensures .0)) ∙ sym (c .before .before .before .is-symbol .ensures) ∙ not-false (c .before .before .before .is-symbol .result) (c .before .before .if1 .left)),
+          (ap isSymbol (sym (b .ensures .0)) ∙ sym (c .before .before .before .is-symbol .ensures) ∙ not-false (c .before .before .before .is-symbol .result) (c .before .before .if1 .left)),
       more (now (a .text)) (a .at) (l .i) (l .m) maskBit (b .result) (c .before .mask-bit .result) (l .inv .2) (b .ensures .0) (c .before .mask-bit .ensures),
       more (now (a .text)) (a .at) (l .i) (l .v) valueBit (b .result) (c .value-bit .result) (l .inv .3) (b .ensures .0) (c .value-bit .ensures),
       rw (c .before .mask-bit .ensures) (bit-small (not (eqb (b .result) 45)) (l .m) (l .i) (l .inv .4)),

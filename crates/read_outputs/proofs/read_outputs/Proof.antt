@@ -30,14 +30,13 @@ returns c =
 
 loop-holds : tie.Need-loop-holds Inv-loop μ-loop
 loop-holds c =
-    let a = c .before .before .before .before .before .before .args in
-    (
+    let a = c .before .before .before .before .before .before .args in (
       omega arith,
       refl,
       refl,
       refl,
       output-first (now (a .text)) (omega arith) (a .n) (a .k) (a .at) (now (a .counts)) (now (a .masks)) (now (a .values)) (c .before .meet-head .result) (c .before .meet-head .ensures)
-      (λ w. c .if1 .left (w ∙ lost-is)),
+          (λ w. c .if1 .left (w ∙ lost-is)),
       omega arith,
     )
 
@@ -81,14 +80,13 @@ loop-again : tie.Need-loop-again Inv-loop μ-loop
 loop-again c =
     let a = c .before .before .before .before .before .before .before .before .before .before .before .before .before .before .before .before .before .before .before .before .args in
     let l = c .before .before .before .before .before .before .before .before .before .before .before .before .before .loop in
-    let r = c .before .before .before .before .before .before .before .before .read-output in
-    (
+    let r = c .before .before .before .before .before .before .before .before .read-output in (
       omega arith,
       omega (arith, l .inv .1),
       omega (arith, l .inv .2),
       omega (arith, l .inv .3),
       output-next (now (a .text)) (l .inv .5) (a .n) (a .k) (l .inv .4) (r .ensures .0) (r .ensures .1 .0) (omega arith) _ (r .ensures .1 .1)
-      (c .before .meet-head2 .result) (c .before .meet-head2 .ensures) (λ w. c .if2 .left (w ∙ lost-is)),
+          (c .before .meet-head2 .result) (c .before .meet-head2 .ensures) (λ w. c .if2 .left (w ∙ lost-is)),
       l .inv .5,
     )
 

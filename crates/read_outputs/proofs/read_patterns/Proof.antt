@@ -64,12 +64,11 @@ unfolding Cubed
 loop-again c =
     let l = c .before .before .before .before .before .before .before .before .before .before .before .before .loop in
     let e = c .before .before .before .before .before .before .before .before .before .m .given in
-    let q = rw (e .1) at (c .before .before .before .before .before .before .before .before .before .before .before .read-cube .ensures) in
-    (
+    let q = rw (e .1) at (c .before .before .before .before .before .before .before .before .before .before .before .read-cube .ensures) in (
       omega (arith, c .before .before .before .before .before .before .store .kept .0, l .inv .0),
       omega (arith, c .before .before .store2 .kept .0, l .inv .1),
       patterns-more (l .inv .2) (e .0 .0) (e .0 .1 .0) (e .0 .1 .1 .0) q _ _ (c .before .before .before .before .before .before .store .ensures)
-      (c .before .before .store2 .ensures),
+          (c .before .before .store2 .ensures),
     )
 
 pub read-patterns-spec : {M : Type 1} → statement M

@@ -51,8 +51,8 @@ returns c =
     sym
     (first-is (a .n) (chainAt (now (a .text)) (a .at) (a .n) (a .i)) (l .a) (l .inv .0) (l .inv .1)
     (λ q.
-      sym (tested (now (a .text)) (a .at) (a .n) (a .i) (l .a) _ _ _ (c .before .before .before .meet-input .ensures) (c .before .before .power .ensures) (c .before .link-input .ensures))
-      ∙ lt-ltb (c .before .link-input .result) (a .n) (c .if1 .taken)))
+    sym (tested (now (a .text)) (a .at) (a .n) (a .i) (l .a) _ _ _ (c .before .before .before .meet-input .ensures) (c .before .before .power .ensures) (c .before .link-input .ensures))
+    ∙ lt-ltb (c .before .link-input .result) (a .n) (c .if1 .taken)))
 
 add-a : tie.Need-add-a Inv-loop μ-loop
 add-a c = search needs
@@ -63,12 +63,11 @@ loop-less c = search needs
 loop-again : tie.Need-loop-again Inv-loop μ-loop
 loop-again c =
     let l = c .before .before .before .before .before .loop in
-    let a = c .before .before .before .before .before .before .before .args in
-    (
+    let a = c .before .before .before .before .before .before .before .args in (
       omega arith,
       below-more (λ j. chainAt (now (a .text)) (a .at) (a .n) (a .i) j ≡ false) (l .a) (l .inv .1)
-      (sym (tested (now (a .text)) (a .at) (a .n) (a .i) (l .a) _ _ _ (c .before .before .before .meet-input .ensures) (c .before .before .power .ensures) (c .before .link-input .ensures))
-      ∙ le-ltb (c .before .link-input .result) (a .n) (c .if1 .left)),
+          (sym (tested (now (a .text)) (a .at) (a .n) (a .i) (l .a) _ _ _ (c .before .before .before .meet-input .ensures) (c .before .before .power .ensures) (c .before .link-input .ensures))
+          ∙ le-ltb (c .before .link-input .result) (a .n) (c .if1 .left)),
     )
 
 returns-2 : tie.Need-returns-2 Inv-loop μ-loop

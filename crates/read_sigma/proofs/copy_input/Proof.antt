@@ -45,11 +45,10 @@ loop-less c = search needs
 loop-again : tie.Need-loop-again Inv-loop μ-loop
 loop-again c =
     let l = c .before .before .before .loop in
-    let a = c .before .before .before .before .before .args in
-    (
+    let a = c .before .before .before .before .before .args in (
       omega arith,
       below-more (λ j. copyAt (now (a .text)) (a .at) (a .i) j ≡ false) (l .a) (l .inv .1)
-      (met-missed (now (a .text)) (omega arith) (a .at) 32 (xName (l .a) ++ (32 ∷ zName (a .i) ++ (10 ∷ []))) (sym (c .before .meet-last .ensures) ∙ c .if1 .left ∙ sym lost-is)),
+          (met-missed (now (a .text)) (omega arith) (a .at) 32 (xName (l .a) ++ (32 ∷ zName (a .i) ++ (10 ∷ []))) (sym (c .before .meet-last .ensures) ∙ c .if1 .left ∙ sym lost-is)),
     )
 
 returns-2 : tie.Need-returns-2 Inv-loop μ-loop

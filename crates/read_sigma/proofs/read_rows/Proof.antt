@@ -50,12 +50,11 @@ loop-less c = search needs
 loop-again : tie.Need-loop-again Inv-loop μ-loop
 loop-again c =
     let l = c .before .before .before .before .before .before .before .before .before .loop in
-    let e = c .before .before .before .before .before .row .given in
-    (
+    let e = c .before .before .before .before .before .row .given in (
       omega arith,
       omega (arith, c .before .before .store .kept .0),
       rows-more (l .inv .2) (omega arith) (e .0 .0) (e .0 .1 .0) (rw (e .1) at (c .before .before .before .before .before .before .before .read-row .ensures)) _
-      (c .before .before .store .ensures),
+          (c .before .before .store .ensures),
     )
 
 same-length-2 : tie.Need-same-length-2 Inv-loop μ-loop
