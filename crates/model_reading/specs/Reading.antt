@@ -1,28 +1,27 @@
 -- The answer of the reader of models, and what the lent slices hold: how many lines end before a place, the checks for what was read, and
 -- that a second reading stores all that it holds. Assumes nothing.
 use mathlib.Core.Path.{_≡_, refl, sym, ap, _∙_}
-use mathlib.Core.Bool.{Bool, true, false, not, cond, _||_}
-use mathlib.Core.List.{List, [], _∷_, _++_, map}
-use Prim.Native.Nat.{ℕ, zero, suc, _+_, _^_, _≤_, _<_, min}
+use mathlib.Core.Bool.{Bool, true, false, not, _||_}
+use mathlib.Core.List.{List, [], _∷_, _++_}
+use Prim.Native.Nat.{ℕ, _+_, _≤_, _<_, min}
 use native.Mathlib.Nat.{add-zero, zero-add, min-le-left, min-le-right}
 use native.Mathlib.Numerals.{add-one}
 use native.Mathlib.Omega.{arith}
-use borrow.Author.Tests.{lt-ltb, le-ltb, ltb-false, eq-eqb, ne-eqb}
+use borrow.Author.Tests.{lt-ltb, le-ltb, ltb-false}
 use lib.Dec.{eqb, ltb}
 use lib.ListN.{length, getD, take, drop}
 use lib.Seq.{sets, sets-eq, take-suc, take-all, take-at, take-length}
 use Rattle.slices.specs.Places.{at, over}
 use Rattle.sums.specs.Sums.{one}
 use Rattle.block.specs.Text.{lines, firstLine}
-use Rattle.block.specs.Refusals.{Check, check, answer, verdict, answered, carried, stored, dependent}
-use Rattle.block.specs.ModelRead.{Outcome, More, Whole, Bad, start, outcomeOf, isWhole, inputsSaid, outputsSaid, matrixSaid, patternsSaid, countsOf, allOf, goodLines, modelChecks, readModelVerdict, withModel, readModel, matrixIn, countsIn, patternsIn}
-use Rattle.block.specs.declared.Answer.{Answer}
+use Rattle.block.specs.Refusals.{Check, check, verdict, dependent}
+use Rattle.block.specs.ModelRead.{start, outcomeOf, isWhole, countsOf, allOf, goodLines, readModelVerdict, withModel, readModel, matrixIn, countsIn, patternsIn}
 use Rattle.block.specs.declared.ModelAnswer.{ModelAnswer}
 use Rattle.block.specs.declared.Pattern.{Pattern}
-use Rattle.refusal_laws.specs.Verdicts.{verdict-hit, verdict-miss, verdict-none, passes, stored-yes}
+use Rattle.refusal_laws.specs.Verdicts.{verdict-hit, verdict-miss, verdict-none, passes}
 use Rattle.read_laws.specs.Tests.{not-both}
 use Rattle.read_names.specs.Fate.{ends, ends-append}
-use Rattle.read_outputs.specs.Outputs.{masksOf, valuesOf, Holds, map-length}
+use Rattle.read_outputs.specs.Outputs.{masksOf, valuesOf, map-length}
 use Rattle.read_model.specs.declared.Model.{Model}
 use Rattle.read_model.specs.declared.Model.the-variants.{Read, Broken}
 use Rattle.read_model.specs.Whole.{ModelHeld, ModelBroken, Modelled}

@@ -1,14 +1,14 @@
 -- The covers of a chain by place: the first input whose line stands there (`linkedAt`), what the line then says (`linkOf`), that this is
 -- what the meaning says of the line (`linked`), and how a chain goes on cover by cover (`Going`). Assumes nothing.
-use mathlib.Core.Path.{_≡_, refl, sym, ap, ap₂, _∙_}
+use mathlib.Core.Path.{_≡_, refl, sym, ap, _∙_}
 use mathlib.Core.Bool.{Bool, true, false, not, cond, _&&_, _||_}
 use mathlib.Core.List.{List, [], _∷_, _++_, append-assoc, append-nil}
-use Prim.Native.Nat.{ℕ, zero, suc, _+_, _*_, _^_, _≤_, _<_}
+use Prim.Native.Nat.{ℕ, suc, _+_, _^_, _≤_, _<_}
 use native.Mathlib.Decide.{decLt}
 use native.Mathlib.Nat.{pow-le-pow-right}
 use native.Mathlib.Numerals.{add-one}
 use native.Mathlib.Omega.{arith, pow-step}
-use borrow.Author.Tests.{lt-ltb, le-ltb, ltb-true, eq-eqb}
+use borrow.Author.Tests.{lt-ltb, le-ltb, ltb-true}
 use lib.Dec.{eqb, ltb}
 use lib.ListN.{length, drop}
 use Rattle.slices.specs.Places.{at, first}
@@ -17,14 +17,13 @@ use Rattle.slices.specs.Least.{first-passes}
 use Rattle.block.specs.Limits.{listInputs}
 use Rattle.block.specs.Text.{equal, every, decimal}
 use Rattle.block.specs.Covers.{namesWord}
-use Rattle.block.specs.Model.{xName, zName, partName, copyCover, xorCover, spaced, namesLine, cubeLine}
-use Rattle.block.specs.ModelRead.{State, Outcome, Due, RowDue, LinkDue, OutputDue, More, Bad, on, orElse, attempt, nextRow, xorDue, linkAt, link, step}
+use Rattle.block.specs.Model.{xName, zName, partName, copyCover, xorCover, spaced, namesLine}
+use Rattle.block.specs.ModelRead.{State, LinkDue, OutputDue, More, on, orElse, nextRow, xorDue, linkAt, link, step}
 use Rattle.read_laws.specs.Front.{front, noLF}
-use Rattle.read_laws.specs.Tests.{every-append, equal-same, equal-true}
-use Rattle.read_names.specs.Met.{begins, metAt, lost, met-yes, met-then, met-found, met-missed, met-test, begins-then}
+use Rattle.read_laws.specs.Tests.{every-append}
+use Rattle.read_names.specs.Met.{begins, metAt, lost, met-then, met-found, met-missed, met-test, begins-then}
 use Rattle.read_names.specs.Fate.{isLine, front-begins, Came, Stopped, fate, fate-met, fate-stop, stop-after, decimal-noLF, Clear, word-line}
 use Rattle.read_names.specs.Attempts.{attempt-first}
-use Rattle.read_names.specs.declared.Place.{Place}
 use Rattle.read_names.specs.declared.Place.the-variants.{After, Stop}
 use Rattle.read_chains.specs.declared.Link.{Link}
 use Rattle.read_chains.specs.declared.Link.the-variants.{None, Last, Part}

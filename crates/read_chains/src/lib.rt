@@ -3,7 +3,7 @@
 use read_names::LOST;
 use read_names::Place;
 ghost use mathlib.Core.Path.{_≡_};
-ghost use mathlib.Core.List.{List, [], _∷_};
+ghost use mathlib.Core.List.{List, _∷_};
 ghost use Prim.Native.Nat.{ℕ, _≤_, _<_, _^_, _+_};
 ghost use Rattle.slices.specs.Places.{first};
 ghost use Rattle.block.specs.Limits.{listInputs};
@@ -140,7 +140,8 @@ pub fn meet_so_far(text: &[u8], at: usize, i: usize, p: usize) -> usize
 // The chain of row i, from the place of a line whose first name was met: `met` is the place after it, and `inputs` its input as a number.
 pub fn read_chain(text: &[u8], at: usize, met: usize, n: usize, i: usize, inputs: u32) -> Chain
     requires { ⌜ (n ≤ listInputs) × (inputs < 2 ^ n) × (1 ≤ inputs) × (i < 100) ⌝ }
-    ensures { λ r. ⌜ ((st : ℕ → List ℕ → State) → Chaining (now (text .entry)) n i inputs 1 at met st → Chained (now (text .entry)) n i st at r) ⌝ }
+    ensures { λ r. ⌜ ((st : ℕ → List ℕ → State) → Chaining (now (text .entry)) n i inputs 1 at met st
+        → Chained (now (text .entry)) n i st at r) ⌝ }
 {
     let mut from = at;
     let mut begun = met;

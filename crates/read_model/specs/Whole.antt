@@ -1,9 +1,9 @@
 -- A model by place: how many inputs and outputs its heading names (`sized`), and the whole of it, rows and outputs (`model-held`). Assumes
 -- nothing.
 use mathlib.Core.Path.{_≡_, refl, sym, ap, _∙_}
-use mathlib.Core.Bool.{Bool, true, false, cond, _&&_}
+use mathlib.Core.Bool.{Bool, true, false, _&&_}
 use mathlib.Core.List.{List, [], _∷_, _++_, append-assoc}
-use Prim.Native.Nat.{ℕ, zero, suc, _+_, _^_, _≤_, _<_}
+use Prim.Native.Nat.{ℕ, suc, _+_, _^_, _≤_, _<_}
 use native.Mathlib.Nat.{zero-add}
 use native.Mathlib.Numerals.{add-one}
 use native.Mathlib.Omega.{arith}
@@ -16,9 +16,9 @@ use Rattle.slices.specs.Places as places
 use Rattle.slices.specs.Tests.{and-both}
 use Rattle.slices.specs.Least.{first-passes}
 use Rattle.block.specs.Limits.{listInputs, outputs}
-use Rattle.block.specs.Text.{lines, equal, every}
+use Rattle.block.specs.Text.{lines, equal}
 use Rattle.block.specs.Model.{spaced, wordLine, titleLine}
-use Rattle.block.specs.ModelRead.{State, Outcome, Due, InputsDue, OutputsDue, RowDue, OutputDue, More, Whole, on, attempt, step, start, outcomeOf, isWhole, goodLines}
+use Rattle.block.specs.ModelRead.{State, Due, InputsDue, OutputsDue, RowDue, More, Whole, on, attempt, step, start, outcomeOf, isWhole, goodLines}
 use Rattle.block.specs.declared.Pattern.{Pattern}
 use Rattle.read_laws.specs.Front.{front, noLF}
 use Rattle.read_names.specs.Met.{begins, metAt, lost, lettered, met-found, met-missed}

@@ -1,14 +1,14 @@
 -- Attempts, one after the other: the first that is not bad decides, and it is the least number that passes a test. Assumes nothing.
-use mathlib.Core.Path.{_≡_, refl, sym, ap, ap₂, _∙_}
-use mathlib.Core.Bool.{Bool, true, false, cond}
-use Prim.Native.Nat.{ℕ, zero, suc, _≤_, _<_}
+use mathlib.Core.Path.{_≡_, refl, sym, ap, _∙_}
+use mathlib.Core.Bool.{Bool}
+use Prim.Native.Nat.{ℕ, zero, suc, _<_}
 use native.Mathlib.Decide.{decLt}
 use native.Mathlib.Omega.{arith}
 use borrow.Author.Tests.{lt-ltb, le-ltb}
 use lib.Dec.{ltb}
 use Rattle.slices.specs.Places.{first}
-use Rattle.slices.specs.Least.{first-is, first-le, first-below, first-passes}
-use Rattle.block.specs.ModelRead.{State, Outcome, More, Whole, Bad, on, orElse, attempt, isBad}
+use Rattle.slices.specs.Least.{first-le, first-below, first-passes}
+use Rattle.block.specs.ModelRead.{State, Outcome, More, Bad, on, orElse, attempt}
 
 -- all are bad
 pub attempt-none : (m : ℕ) (f : ℕ → Outcome) → ((j : ℕ) → j < m → f j ≡ Bad) → attempt m f ≡ Bad

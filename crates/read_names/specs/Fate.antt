@@ -16,7 +16,7 @@ use Rattle.slices.specs.Tests.{and-both}
 use Rattle.sums.specs.Sums.{one}
 use Rattle.block.specs.Text.{lines, onto, lineIn, equal, every, decimal, digits}
 use Rattle.block.specs.Model.{spaced, wordLine}
-use Rattle.block.specs.ModelRead.{State, Outcome, Due, More, Whole, Bad, on, step, onward, after, isBad, isWhole, goodLines}
+use Rattle.block.specs.ModelRead.{State, Outcome, Due, More, Whole, Bad, step, after, isWhole, goodLines}
 use Rattle.block.specs.declared.Pattern.{Pattern}
 use Rattle.read_laws.specs.Front.{front, line-first, noLF}
 use Rattle.read_laws.specs.Tests.{every-append, equal-true, equal-same}

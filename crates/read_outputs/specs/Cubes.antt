@@ -1,23 +1,22 @@
 -- A pattern's line by place: n symbols and " 1" stand there (`cube-there`) exactly where the first line is of a pattern's form (`no-cube`).
 -- Assumes nothing.
 use mathlib.Core.Path.{_≡_, refl, sym, ap, ap₂, _∙_}
-use mathlib.Core.Bool.{Bool, true, false, not, cond, _&&_, _||_}
+use mathlib.Core.Bool.{Bool, true, false, not, _&&_, _||_}
 use mathlib.Core.List.{List, [], _∷_, _++_, append-assoc}
 use Prim.Native.Nat.{ℕ, zero, suc, _+_, _*_, _^_, _≤_, _<_}
 use native.Mathlib.Numerals.{add-one}
 use native.Mathlib.Omega.{arith, pow-step}
-use borrow.Author.Tests.{eq-eqb, ne-eqb, eqb-true}
+use borrow.Author.Tests.{eq-eqb, eqb-true}
 use lib.Dec.{eqb}
 use lib.ListN.{length, take, drop, length-append, length-drop, List·getD-append}
 use lib.Seq.{take-at, drop-at, drop-drop, drop-append-le, length-take-le, getD-drop, getD-take}
 use Rattle.slices.specs.Places.{at}
 use Rattle.slices.specs.Tests.{and-both}
 use Rattle.sums.specs.Sums.{sum, one}
-use Rattle.sums.specs.Laws.{sum-zero, sum-more, sum-cong}
+use Rattle.sums.specs.Laws.{sum-cong}
 use Rattle.block.specs.Text.{every, equal}
 use Rattle.block.specs.Model.{pattern, cubeLine}
 use Rattle.block.specs.ModelRead.{patternForm, patternOn}
-use Rattle.block.specs.declared.Pattern.{Pattern}
 use Rattle.read_laws.specs.Front.{front, front-rest, noLF}
 use Rattle.read_laws.specs.Tests.{every-at, every-all, every-append, equal-true, equal-same, not-both}
 use Rattle.read_names.specs.Met.{begins, metAt, lost, begins-append, begins-length, met-yes, met-found, met-missed}

@@ -1,27 +1,26 @@
 -- The covers of the outputs by place: the patterns of one output (`PatternsRead`), the outputs one after the other (`OutputsRead`), the last
 -- line, and the whole (`AllRead`). The lists that were lent hold what fits. Assumes nothing.
-use mathlib.Core.Path.{_≡_, refl, sym, ap, ap₂, _∙_}
+use mathlib.Core.Path.{_≡_, refl, sym, ap, _∙_}
 use mathlib.Core.Bool.{Bool, true, false, cond}
 use mathlib.Core.List.{List, [], _∷_, _++_, map, map-append, append-assoc, append-nil}
-use Prim.Native.Nat.{ℕ, zero, suc, _+_, _-_, _^_, _≤_, _<_}
+use Prim.Native.Nat.{ℕ, suc, _+_, _-_, _^_, _≤_, _<_}
 use native.Mathlib.Nat.{add-zero}
-use native.Mathlib.Numerals.{add-one}
 use native.Mathlib.Omega.{arith}
 use borrow.Author.Tests.{eq-eqb, ne-eqb, eqb-true, eqb-false}
 use lib.Dec.{eqb}
-use lib.ListN.{length, set, take, drop, length-append, length-drop, drop-of-length-le}
-use lib.Seq.{sets, drop-drop}
+use lib.ListN.{length, set, drop, length-append, length-drop}
+use lib.Seq.{sets}
 use Rattle.slices.specs.Places.{tab}
-use Rattle.block.specs.Text.{lines, equal, every}
+use Rattle.block.specs.Text.{every}
 use Rattle.block.specs.Covers.{namesWord}
 use Rattle.block.specs.Model.{yName, zName, pattern, outputCover, spaced, namesLine, lastLine}
-use Rattle.block.specs.ModelRead.{State, Outcome, OutputDue, PatternDue, More, Whole, Bad, on, step, after, onward, isBad, isWhole, goodLines, patternForm, patternOn, countsOf, allOf}
+use Rattle.block.specs.ModelRead.{OutputDue, PatternDue, More, Whole, Bad, on, step, patternForm, countsOf, allOf}
 use Rattle.block.specs.declared.Pattern.{Pattern}
-use Rattle.read_laws.specs.Front.{front, noLF}
+use Rattle.read_laws.specs.Front.{front}
 use Rattle.read_laws.specs.Tests.{equal-same, equal-true}
 use Rattle.put_bytes.specs.Puts.{sets-append}
 use Rattle.read_names.specs.Met.{begins, metAt, lost, begins-length, met-yes, spaced-append, spaced-one}
-use Rattle.read_names.specs.Fate.{isLine, front-begins, lines-begins, line-found, line-missed, Fate, Stopped, fate, fate-met, fate-next, fate-stop, fate-whole, fate-over, stop-after, clear-more, clear-tab, word-line}
+use Rattle.read_names.specs.Fate.{isLine, front-begins, line-found, line-missed, Fate, Stopped, fate, fate-met, fate-next, fate-stop, fate-whole, fate-over, stop-after, clear-more, clear-tab, word-line}
 use Rattle.read_chains.specs.Chains.{name-clear}
 use Rattle.read_outputs.specs.declared.Outputs.{Outputs}
 use Rattle.read_outputs.specs.declared.Outputs.the-variants.{All, Broken}

@@ -3,7 +3,7 @@
 // are inner.
 use read_names::LOST;
 ghost use mathlib.Core.Path.{_≡_};
-ghost use Prim.Native.Nat.{ℕ, _≤_, _<_, _^_, _+_};
+ghost use Prim.Native.Nat.{_≤_, _<_, _+_};
 ghost use Prim.Native.Nat.{_-_};
 ghost use mathlib.Core.Bool.{false};
 ghost use mathlib.Core.List.{[]};
@@ -98,7 +98,8 @@ pub fn read_patterns(
     values: &mut [u32],
 ) -> Patterns
     requires { ⌜ (at ≤ length (now text)) × (n ≤ listInputs) × (count ≤ at) ⌝ }
-    ensures { λ r. ⌜ PatternsRead (now (text .entry)) n at count (now (masks .entry)) (now (values .entry)) (r .at) (r .count) (now (masks .exit)) (now (values .exit)) ⌝ }
+    ensures { λ r. ⌜ PatternsRead (now (text .entry)) n at count (now (masks .entry)) (now (values .entry)) (r .at) (r .count)
+        (now (masks .exit)) (now (values .exit)) ⌝ }
     ensures { λ r. ⌜ patternForm n (front (drop (r .at) (now (text .entry)))) ≡ false ⌝ }
 {
     let mut to = at;
@@ -140,7 +141,8 @@ pub fn read_output(
     values: &mut [u32],
 ) -> Patterns
     requires { ⌜ (at ≤ length (now text)) × (n ≤ listInputs) × (count ≤ at) ⌝ }
-    ensures { λ r. ⌜ PatternsRead (now (text .entry)) n at count (now (masks .entry)) (now (values .entry)) (r .at) (r .count) (now (masks .exit)) (now (values .exit)) ⌝ }
+    ensures { λ r. ⌜ PatternsRead (now (text .entry)) n at count (now (masks .entry)) (now (values .entry)) (r .at) (r .count)
+        (now (masks .exit)) (now (values .exit)) ⌝ }
     ensures { λ r. ⌜ patternForm n (front (drop (r .at) (now (text .entry)))) ≡ false ⌝ }
     ensures { λ r. ⌜ now (counts .exit) ≡ set (now (counts .entry)) j (r .count - count) ⌝ }
 {
@@ -186,7 +188,8 @@ pub fn read_outputs(
     values: &mut [u32],
 ) -> Outputs
     requires { ⌜ (n ≤ listInputs) × (1 ≤ k) × (k ≤ outputs) ⌝ }
-    ensures { λ r. ⌜ Ending (now (text .entry)) n k at (now (counts .entry)) (now (masks .entry)) (now (values .entry)) (now (counts .exit)) (now (masks .exit)) (now (values .exit)) r ⌝ }
+    ensures { λ r. ⌜ Ending (now (text .entry)) n k at (now (counts .entry)) (now (masks .entry)) (now (values .entry))
+        (now (counts .exit)) (now (masks .exit)) (now (values .exit)) r ⌝ }
 {
     let mut to = meet_head(text, at, n, 0);
     if to == LOST {

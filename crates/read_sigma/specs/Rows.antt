@@ -1,15 +1,13 @@
 -- The rows of sigma by place: a row's first line copies an input (`copied`), begins a chain (`begun-chain`), or is neither (`row-none`);
 -- and all rows, one after the other (`Rows`). Assumes nothing.
 use mathlib.Core.Path.{_≡_, refl, sym, ap, _∙_}
-use mathlib.Core.Bool.{Bool, true, false, cond}
+use mathlib.Core.Bool.{Bool, true, cond}
 use mathlib.Core.List.{List, [], _∷_, _++_}
-use Prim.Native.Nat.{ℕ, zero, suc, _+_, _^_, _≤_, _<_}
+use Prim.Native.Nat.{ℕ, _+_, _^_, _≤_, _<_}
 use native.Mathlib.Decide.{decLt}
-use native.Mathlib.Nat.{zero-add}
-use native.Mathlib.Numerals.{add-one}
 use native.Mathlib.Omega.{arith}
 use borrow.Author.Tests.{lt-ltb, le-ltb, eq-eqb, ne-eqb}
-use lib.Dec.{eqb, ltb}
+use lib.Dec.{ltb}
 use lib.ListN.{length, set, drop, length-append, List·getD-append}
 use lib.Seq.{sets, getD-append-seam}
 use Rattle.slices.specs.Places.{first}
@@ -18,7 +16,7 @@ use Rattle.slices.specs.Least.{first-passes}
 use Rattle.block.specs.Text.{equal}
 use Rattle.block.specs.Covers.{namesWord}
 use Rattle.block.specs.Model.{xName, zName, copyCover, namesLine, cubeLine}
-use Rattle.block.specs.ModelRead.{State, Outcome, Due, RowDue, OutputDue, More, Bad, on, orElse, attempt, nextRow, link, step}
+use Rattle.block.specs.ModelRead.{State, Outcome, Due, RowDue, OutputDue, More, on, orElse, attempt, nextRow, link, step}
 use Rattle.read_laws.specs.Front.{front}
 use Rattle.put_bytes.specs.Puts.{sets-append}
 use Rattle.read_names.specs.declared.Place.{Place}

@@ -2,8 +2,8 @@
 use read_chains::Chain;
 use read_names::Place;
 ghost use mathlib.Core.Path.{_≡_};
-ghost use mathlib.Core.List.{List, [], _∷_};
-ghost use Prim.Native.Nat.{ℕ, _≤_, _<_, _^_, _+_};
+ghost use mathlib.Core.List.{[], _∷_};
+ghost use Prim.Native.Nat.{_≤_, _<_, _+_};
 ghost use lib.ListN.{set};
 ghost use Rattle.slices.specs.Places.{first};
 ghost use Rattle.block.specs.Limits.{listInputs};

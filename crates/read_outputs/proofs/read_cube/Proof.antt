@@ -10,7 +10,7 @@ use borrow.Author.Count.{below-more}
 use borrow.Author.Tests.{not-true, not-false}
 use lib.Dec.{eqb}
 use lib.ListN.{getD}
-use Rattle.sums.specs.Sums.{sum, one}
+use Rattle.sums.specs.Sums.{sum}
 use Rattle.sums.specs.Laws.{sum-zero, sum-more}
 use Rattle.read_names.specs.Met.{lost-is}
 use Rattle.read_chains.specs.Chains.{power-small}
