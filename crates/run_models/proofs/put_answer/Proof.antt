@@ -1,7 +1,7 @@
 -- `run_models::put_answer` is safe: the line of a refusal is shorter than the room. Assumes nothing.
 use native.Mathlib.Omega.{arith}
 use Rattle.block.specs.Refusals.{answer}
-use Rattle.put_refusal.specs.Words.{refusal-le}
+use Rattle.put_refusal.specs.Length.{refusal-le}
 use borrow.Author.Needs.{needs}
 use Rattle.run_models.proofs.put_answer.Statement.{statement}
 use Rattle.run_models.proofs.put_answer.Tie as tie
@@ -23,12 +23,12 @@ read-model-requires c κs = search needs
 
 put-refusal-requires : tie.Need-put-refusal-requires
 put-refusal-requires c κs =
-    let r = c .read-model .result in
+    let r = c .before .before .before .before .before .read-model .result in
     omega (arith, refusal-le (answer (r .number) (r .a) (r .b)))
 
 returns : tie.Need-returns
 returns c =
-    let r = c .before .read-model .result in
+    let r = c .before .before .before .before .before .before .read-model .result in
     omega (arith, c .put-refusal .ensures .place, refusal-le (answer (r .number) (r .a) (r .b)))
 
 pub put-answer-spec : {M : Type 1} → statement M
