@@ -9,7 +9,9 @@ use saying::is_same;
 use saying::read_argument;
 use saying::say;
 use saying::say_argument;
+ghost use mathlib.Core.Path.{_≡_};
 ghost use Prim.Native.Nat.{_≤_};
+ghost use lib.ListN.{length};
 ghost use Rattle.block.specs.Limits.{modelRoom};
 
 // The bytes of a text, and room for its patterns.
@@ -26,7 +28,7 @@ fn is_printed(list: &[u8], due: &[u8]) -> bool {
 
 // Puts the line of the answer to a text at the front.
 fn put_answer(text: &[u8], out: &mut [u8; MODEL_ROOM]) -> usize
-    ensures { λ r. ⌜ r ≤ modelRoom ⌝ }
+    ensures { λ _. ⌜ length (now (out .exit)) ≡ modelRoom ⌝ }
 {
     let mut matrix = [0u32; LIST_INPUTS];
     let mut counts = [0usize; OUTPUTS];
@@ -40,7 +42,7 @@ fn put_answer(text: &[u8], out: &mut [u8; MODEL_ROOM]) -> usize
 fn is_refused(text: &[u8], due: &[u8]) -> bool {
     let mut out = [0u8; MODEL_ROOM];
     let count = put_answer(text, &mut out);
-    is_same(&out[..count], due)
+    is_same(read_bytes::first_bytes(&out, count), due)
 }
 
 // Whether argument i names a list.

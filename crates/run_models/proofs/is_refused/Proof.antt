@@ -1,6 +1,5 @@
--- `run_models::is_refused` is safe: the line is within the room. Assumes nothing.
+-- `run_models::is_refused` is safe: the room keeps its length. Assumes nothing.
 use native.Mathlib.Omega.{arith}
-use lib.ListN.{length-take}
 use borrow.Author.Needs.{needs}
 use Rattle.run_models.proofs.is_refused.Statement.{statement}
 use Rattle.run_models.proofs.is_refused.Tie as tie
@@ -8,11 +7,11 @@ use Rattle.run_models.proofs.is_refused.Tie as tie
 put-answer-requires : tie.Need-put-answer-requires
 put-answer-requires c κs = search needs
 
-array-share-prefix-out : tie.Need-array-share-prefix-out
-array-share-prefix-out c = omega (arith, c .put-answer .ensures, c .put-answer .kept .0)
+slice-aggregate-first-bytes : tie.Need-slice-aggregate-first-bytes
+slice-aggregate-first-bytes c = omega (arith, c .before .put-answer .ensures)
 
-slice-aggregate-is-same : tie.Need-slice-aggregate-is-same
-slice-aggregate-is-same c = simp length-take (omega (arith, c .before .put-answer .ensures, c .before .put-answer .kept .0))
+first-bytes-requires : tie.Need-first-bytes-requires
+first-bytes-requires c κs = search needs
 
 is-same-requires : tie.Need-is-same-requires
 is-same-requires c κs = search needs
@@ -25,7 +24,7 @@ is-refused-spec =
     tie.close
     (tie.spec
     put-answer-requires
-    array-share-prefix-out
-    slice-aggregate-is-same
+    slice-aggregate-first-bytes
+    first-bytes-requires
     is-same-requires
     returns)

@@ -27,9 +27,7 @@ put-refusal-requires c κs =
     omega (arith, refusal-le (answer (r .number) (r .a) (r .b)))
 
 returns : tie.Need-returns
-returns c =
-    let r = c .before .before .before .before .before .before .read-model .result in
-    omega (arith, c .put-refusal .ensures .place, refusal-le (answer (r .number) (r .a) (r .b)))
+returns c = omega (arith, c .put-refusal .kept .0)
 
 pub put-answer-spec : {M : Type 1} → statement M
 put-answer-spec =
