@@ -24,9 +24,10 @@ abbrev μ-loop : tie.MeasureT-loop
 
 loop-holds : tie.Need-loop-holds Inv-loop μ-loop
 loop-holds c =
-    let p = c .before .before .before .before .args .p in
-    let e : p - p ≡ 0 = omega arith in
-    (omega arith, omega arith, refl, rw (e, patterns-none) (none-fitted _ _))
+    let a = c .before .before .before .before .args in
+    let e : a .p - a .p ≡ 0 = omega arith in
+    let none = patterns-none (a .n) (a .j) (now (a .masks)) (now (a .values)) (now (a .words)) in
+    (omega arith, omega arith, refl, rw (e, none) (none-fitted _ _))
 
 sub-i : tie.Need-sub-i Inv-loop μ-loop
 sub-i c = omega arith
@@ -64,7 +65,7 @@ loop-less c = search needs
 loop-again : tie.Need-loop-again Inv-loop μ-loop
 loop-again c =
     let line = c .before .before in
-    let turn = line .before .before .before .before .before .before .before in
+    let turn = line .before .before .before .before .before .before in
     let l = turn .loop in
     let start = turn .before .before .before .before .before in
     let a = start .args in

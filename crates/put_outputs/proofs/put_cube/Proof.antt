@@ -44,7 +44,7 @@ loop-less c = omega arith
 
 loop-again : tie.Need-loop-again Inv-loop μ-loop
 loop-again c =
-    let turn = c .before .before .before in
+    let turn = c .before .before in
     let l = turn .loop in
     let a = turn .before .before .args in
     let i = a .n - l .left in
