@@ -34,17 +34,19 @@ decimal-clean v =
 abbrev pub IsWord : List ℕ → Type 0
 IsWord m = (clean m ≡ true) × (0 < length m)
 
-pub x-word : (i : ℕ) → IsWord (xName i)
+-- a letter and a number
+pub name-word : (c v : ℕ) → stops c ≡ false → IsWord (c ∷ decimal v)
 unfolding every
-x-word i = (decimal-clean i, omega arith)
+name-word c v e = (rw e (decimal-clean v), omega arith)
+
+pub x-word : (i : ℕ) → IsWord (xName i)
+x-word i = name-word 120 i refl
 
 pub y-word : (i : ℕ) → IsWord (yName i)
-unfolding every
-y-word i = (decimal-clean i, omega arith)
+y-word i = name-word 121 i refl
 
 pub z-word : (i : ℕ) → IsWord (zName i)
-unfolding every
-z-word i = (decimal-clean i, omega arith)
+z-word i = name-word 122 i refl
 
 pub part-word : (i p : ℕ) → IsWord (partName i p)
 unfolding every

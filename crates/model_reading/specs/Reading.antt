@@ -9,7 +9,7 @@ use native.Mathlib.Numerals.{add-one}
 use native.Mathlib.Omega.{arith}
 use borrow.Author.Tests.{lt-ltb, le-ltb, ltb-false}
 use lib.Dec.{eqb, ltb}
-use lib.ListN.{length, getD, take, drop}
+use lib.ListN.{length, getD, take, drop, length-map}
 use lib.Seq.{sets, sets-eq, take-suc, take-all, take-at, take-length}
 use Rattle.slices.specs.Places.{at, over}
 use Rattle.sums.specs.Sums.{one}
@@ -21,7 +21,7 @@ use Rattle.block.specs.declared.Pattern.{Pattern}
 use Rattle.refusal_laws.specs.Verdicts.{verdict-hit, verdict-miss, verdict-none, passes}
 use Rattle.read_laws.specs.Tests.{not-both}
 use Rattle.read_names.specs.Fate.{ends, ends-append}
-use Rattle.read_outputs.specs.Outputs.{masksOf, valuesOf, map-length}
+use Rattle.read_outputs.specs.Outputs.{masksOf, valuesOf}
 use Rattle.read_model.specs.declared.Model.{Model}
 use Rattle.read_model.specs.declared.Model.the-variants.{Read, Broken}
 use Rattle.read_model.specs.Whole.{ModelHeld, ModelBroken, Modelled}
@@ -122,15 +122,15 @@ held-stored {s₀ = s₀} {c₀ = c₀} {m₀ = m₀} {v₀ = v₀} h ls lc lm l
       matrix = rw (h .said) (h .matrix ∙ sets-over (h .sigma) s₀ (omega (arith, h .rows)));
       counts =
           rw (h .said)
-          (h .held .counts ∙ sets-over (countsOf (h .patterns)) c₀ (omega (arith, h .count, map-length (λ (ps : List Pattern). length ps) (h .patterns))));
+          (h .held .counts ∙ sets-over (countsOf (h .patterns)) c₀ (omega (arith, h .count, length-map (h .patterns) (λ (ps : List Pattern). length ps))));
       masks =
           rw (h .said)
           (h .held .masks
-          ∙ sets-over (masksOf (allOf (h .patterns))) m₀ (omega (arith, h .held .counted, map-length (λ (p : Pattern). p .mask) (allOf (h .patterns)))));
+          ∙ sets-over (masksOf (allOf (h .patterns))) m₀ (omega (arith, h .held .counted, length-map (allOf (h .patterns)) (λ (p : Pattern). p .mask))));
       values =
           rw (h .said)
           (h .held .values
-          ∙ sets-over (valuesOf (allOf (h .patterns))) v₀ (omega (arith, h .held .counted, map-length (λ (p : Pattern). p .values) (allOf (h .patterns)))));
+          ∙ sets-over (valuesOf (allOf (h .patterns))) v₀ (omega (arith, h .held .counted, length-map (allOf (h .patterns)) (λ (p : Pattern). p .values))));
     }
 
 -- a room that is not short

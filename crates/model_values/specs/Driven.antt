@@ -12,7 +12,6 @@ use lib.Bits.{bitAnd}
 use lib.Dec.{eqb, ltb}
 use lib.ListN.{length, take}
 use lib.Seq.{take-suc, take-all}
-use lib.Pow.{pow-mono}
 use Rattle.slices.specs.Places.{at, first}
 use Rattle.sums.specs.Sums.{sum, one}
 use Rattle.block.specs.ModelRead.{total}
@@ -99,10 +98,3 @@ word-goes-on counts masks values z j word power from i w e f g h k =
     (k ∙ ap₂ (λ (b : Bool) (p : ℕ). one b * p)
     (ap (λ (i : ℕ). ltb i (at counts j)) (h ∙ ap (λ (o : ℕ). first (at counts j) (λ i. drivenAt masks values z (o + i))) g)) f)
     ∙ sym (word-more counts masks values z j)
-
--- powers of the outputs
-pub power-le : (j : ℕ) → j < 15 → 2 ^ j ≤ 16384
-power-le j h = pow-mono {i = j} {j = 14} (omega arith)
-
-pub power-more : (j : ℕ) → 2 ^ j * 2 ≡ 2 ^ (j + 1)
-power-more j = rw (add-one j) (omega arith)

@@ -63,11 +63,6 @@ unfoldable pub upwards : ℕ → ℕ → ℕ → List ℕ
 upwards zero b r = []
 upwards (suc f) b r = cond (eqb (r % 2) 0) (upwards f (suc b) (r / 2)) (b ∷ upwards f (suc b) (r / 2))
 
-upwards-none : (f b : ℕ) → upwards f b 0 ≡ []
-unfolding upwards
-upwards-none zero b = refl
-upwards-none (suc f) b = upwards-none f (suc b)
-
 ends-none : (f b r : ℕ) → r < 2 ^ f → ends (upwards f b r) ≡ eqb r 0
 unfolding upwards
 ends-none zero b r h = sym (eq-eqb r 0 (omega arith))
@@ -106,10 +101,10 @@ digit-more i a q f b r h = go (ℕ-discrete (r % 2) 0)
         ∙ ap₂ (λ (l : Bool) (t : ℕ). linkCovers i a b q l ++ remaining i (lowest a b q) t us)
         (ends-none f (suc b) (r / 2) (omega (arith, pow-suc 2 f))) z)
 
-pub nothing-left : (i a q f b : ℕ) → remaining i a q (upwards f b 0) ≡ []
+pub nothing-left : (i a q : ℕ) → remaining i a q [] ≡ []
 unfolding rowCovers chain
-nothing-left i a zero f b = ap (rowCovers i) (upwards-none f b)
-nothing-left i a (suc q) f b = ap (chain i (fromName i a (suc q)) (suc q)) (upwards-none f b)
+nothing-left i a zero = refl
+nothing-left i a (suc q) = refl
 
 upwards-top : (f b r : ℕ) → upwards (suc f) b r ≡ upwards f b r ++ cond (eqb (bit r f) 0) [] ((b + f) ∷ [])
 unfolding upwards

@@ -1,19 +1,15 @@
 -- The bytes of covers: one after the other, of one copy, of one XOR. Assumes nothing.
-use mathlib.Core.Path.{_≡_, refl, sym, ap, _∙_}
+use mathlib.Core.Path.{_≡_, refl, ap, _∙_}
 use mathlib.Core.List.{List, [], _∷_, _++_, append-assoc, append-nil}
 use Prim.Native.Nat.{ℕ}
 use Rattle.block.specs.Covers.{Cover}
 use Rattle.block.specs.Model.{xName, zName, copyCover, xorCover, spaced, coverLines, joined}
 use Rattle.model_laws.specs.Lines.{lines-append}
+use Rattle.model_laws.specs.WordLines.{joined-append}
 
 -- the bytes of covers
 abbrev pub coverText : List Cover → List ℕ
 coverText cs = joined (coverLines cs)
-
-pub joined-append : (ls ks : List (List ℕ)) → joined (ls ++ ks) ≡ joined ls ++ joined ks
-unfolding joined
-joined-append [] ks = refl
-joined-append (l ∷ ls) ks = ap (λ (t : List ℕ). l ++ t) (joined-append ls ks) ∙ sym (append-assoc l (joined ls) (joined ks))
 
 pub text-append : (cs ds : List Cover) → coverText (cs ++ ds) ≡ coverText cs ++ coverText ds
 text-append cs ds = ap joined (lines-append cs ds) ∙ joined-append (coverLines cs) (coverLines ds)

@@ -116,9 +116,9 @@ pub fn emit_digit(
 
 // The lowest input, with b one more.
 pub fn lowest_of(a: usize, b: usize, q: usize) -> usize
-    requires { ⌜ a ≤ b ⌝ }
+    requires { ⌜ (a < 100) × (b < 100) ⌝ }
     ensures { λ r. ⌜ r ≡ lowest a b q ⌝ }
-    ensures { λ r. ⌜ r ≤ b ⌝ }
+    ensures { λ r. ⌜ r < 100 ⌝ }
 {
     if q == 0 {
         return b;
@@ -134,15 +134,16 @@ pub fn emit_row(out: &mut [u8], at: usize, n: usize, i: usize, v: usize) -> usiz
 {
     let mut to = at;
     let mut a = 0;
-    let mut b = 0;
     let mut q = 0;
     let mut rest = v;
-    while 0 < rest {
+    let mut left = n;
+    while 0 < left {
+        let b = n - left;
         to = emit_digit(out, to, i, a, b, q, rest);
         a = lowest_of(a, b, q);
         q += rest % 2;
         rest /= 2;
-        b += 1;
+        left -= 1;
     }
     to
 }

@@ -13,7 +13,8 @@ use Rattle.block.specs.declared.Row.{Row}
 use Rattle.block.specs.declared.Pattern.{Pattern}
 use Rattle.put_bytes.specs.Puts.{put-over}
 use Rattle.put_names.specs.Fitting.{Fitted}
-use Rattle.put_chains.specs.Texts.{coverText, text-append, joined-append}
+use Rattle.model_laws.specs.WordLines.{joined-append}
+use Rattle.put_chains.specs.Texts.{coverText, text-append}
 
 -- ".model block", LF and ".inputs"
 abbrev titleInputs : List ℕ

@@ -1,3 +1,2 @@
--- The pieces of a model, put where they fit: `Fitting` has the contract and the law that joins two pieces; `Names` the names in a row.
+-- The pieces of a model, put where they fit: `Fitting` has the contract and the law that joins two pieces.
 pub mod Fitting
-pub mod Names

@@ -10,7 +10,7 @@ ghost use Rattle.slices.specs.Places.{tab};
 ghost use Rattle.block.specs.Text.{decimal};
 ghost use Rattle.block.specs.Model.{partName, spaced};
 ghost use Rattle.put_names.specs.Fitting.{Fitted, reach};
-ghost use Rattle.put_names.specs.Names.{lettered};
+ghost use Rattle.model_laws.specs.Spaced.{lettered};
 
 // One byte.
 pub fn emit(out: &mut [u8], at: usize, b: u8) -> usize

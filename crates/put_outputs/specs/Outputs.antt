@@ -1,19 +1,17 @@
--- The outputs as the code puts them: the bytes of one, one more at a time, and the powers of two that pick their digits. Assumes nothing.
-use mathlib.Core.Path.{_≡_, refl, sym, ap, ap₂, _∙_}
+-- The outputs as the code puts them: the bytes of one, and one more at a time. Assumes nothing.
+use mathlib.Core.Path.{_≡_, refl, ap, ap₂, _∙_}
 use mathlib.Core.List.{List, [], _∷_, _++_, map, append-assoc, append-nil}
-use Prim.Native.Nat.{ℕ, _+_, _*_, _^_, _≤_, _<_}
-use native.Mathlib.Nat.{zero-add, pow-suc}
+use Prim.Native.Nat.{ℕ, _+_}
+use native.Mathlib.Nat.{zero-add}
 use native.Mathlib.Numerals.{add-one}
-use native.Mathlib.Omega.{arith}
 use lib.ListN.{length}
-use lib.Pow.{pow-mono}
 use Rattle.slices.specs.Places.{tab}
 use Rattle.slices.specs.Filled.{tab-suc, length-tab}
 use Rattle.block.specs.Covers.{namesWord}
 use Rattle.block.specs.Model.{yName, zName, cubeOf, outputCover, backCovers, spaced, cubeLine, coverLines, joined}
 use Rattle.block.specs.declared.Pattern.{Pattern}
 use Rattle.model_laws.specs.Lines.{back-append}
-use Rattle.put_names.specs.Names.{spaced-append}
+use Rattle.model_laws.specs.Spaced.{spaced-append}
 use Rattle.put_chains.specs.Texts.{coverText, text-append}
 use Rattle.put_outputs.specs.Patterns.{patternText}
 
@@ -45,11 +43,3 @@ back-more n f j =
     ∙ text-append (backCovers n 0 (tab j f)) (backCovers n (0 + length (tab j f)) (f j ∷ []))
     ∙ ap (λ (i : ℕ). coverText (backCovers n 0 (tab j f)) ++ coverText (outputCover n i (f j) ∷ []))
     (zero-add (length (tab j f)) ∙ length-tab j f))
-
--- ---- powers of two
-
-pub power-more : (j : ℕ) → 2 ^ j * 2 ≡ 2 ^ (j + 1)
-power-more j = sym (ap (λ (i : ℕ). 2 ^ i) (add-one j) ∙ pow-suc 2 j)
-
-pub power-le : (j : ℕ) → j < 15 → 2 ^ j ≤ 16384
-power-le j h = pow-mono {i = j} {j = 14} (omega arith)

@@ -40,12 +40,8 @@ symbols-more l to m v i x y e f =
     (ap (λ (j : ℕ). to + j) (sym (length-tab i (symbolAt m v))))
     ∙ ap (sets l to) more
 
-pub symbols-put : (l l′ : List ℕ) (to n m v i : ℕ) → i ≡ n → l′ ≡ symbolsPut l to m v i → Put l to (cubeOf n (pattern m v)) l′ (to + i)
-symbols-put l l′ to n m v i e f =
-    record {
-      place = ap (λ (j : ℕ). to + j) (e ∙ sym (length-tab n (symbolAt m v)));
-      stored = f ∙ ap (symbolsPut l to m v) e;
-    }
+pub symbols-put : (l l′ : List ℕ) (to n m v : ℕ) → l′ ≡ symbolsPut l to m v n → Put l to (cubeOf n (pattern m v)) l′ (to + n)
+symbols-put l l′ to n m v f = record { place = ap (λ (j : ℕ). to + j) (sym (length-tab n (symbolAt m v))); stored = f }
 
 pub half-more : (m i x : ℕ) → x ≡ m / 2 ^ i → x / 2 ≡ m / 2 ^ (i + 1)
 half-more m i x e = ap (λ (y : ℕ). y / 2) e ∙ shr-shr m i 1

@@ -20,14 +20,15 @@ pub fn put_cube(out: &mut [u8], at: usize, n: usize, mask: u32, values: u32) -> 
 {
     let mut m = mask;
     let mut v = values;
-    let mut i = 0;
-    while i < n {
+    let mut left = n;
+    while 0 < left {
+        let i = n - left;
         out[at + i] = put_bytes::symbol(m % 2, v % 2);
         m /= 2;
         v /= 2;
-        i += 1;
+        left -= 1;
     }
-    at + i
+    at + n
 }
 
 // A pattern's line.
@@ -75,10 +76,11 @@ pub fn emit_patterns(
     ensures { λ r. ⌜ r ≤ at + p * 103 ⌝ }
 {
     let mut to = at;
-    let mut i = 0;
-    while i < p {
+    let mut left = p;
+    while 0 < left {
+        let i = p - left;
         to = emit_chosen(out, to, n, words[i] / power % 2, masks[i], values[i]);
-        i += 1;
+        left -= 1;
     }
     to
 }

@@ -15,14 +15,14 @@ use Rattle.slices.specs.Places.{at, first}
 use Rattle.slices.specs.Tests.{and-both}
 use Rattle.slices.specs.Least.{first-passes}
 use Rattle.block.specs.Limits.{listInputs}
-use Rattle.block.specs.Text.{equal, every, decimal}
+use Rattle.block.specs.Text.{equal, every}
 use Rattle.block.specs.Covers.{namesWord}
 use Rattle.block.specs.Model.{xName, zName, partName, copyCover, xorCover, spaced, namesLine}
 use Rattle.block.specs.ModelRead.{State, LinkDue, OutputDue, More, on, orElse, nextRow, xorDue, linkAt, link, step}
 use Rattle.read_laws.specs.Front.{front, noLF}
-use Rattle.read_laws.specs.Tests.{every-append}
+use Rattle.model_laws.specs.WordLines.{isLine, IsWord, AllWords, x-word, z-word, part-word, three-words, word-line}
 use Rattle.read_names.specs.Met.{begins, metAt, lost, met-then, met-found, met-missed, met-test, begins-then}
-use Rattle.read_names.specs.Fate.{isLine, front-begins, Came, Stopped, fate, fate-met, fate-stop, stop-after, decimal-noLF, Clear, word-line}
+use Rattle.read_names.specs.Fate.{front-begins, Came, Stopped, fate, fate-met, fate-stop, stop-after}
 use Rattle.read_names.specs.Attempts.{attempt-first}
 use Rattle.read_names.specs.declared.Place.the-variants.{After, Stop}
 use Rattle.read_chains.specs.declared.Link.{Link}
@@ -66,23 +66,14 @@ word-clear : noLF namesWord ≡ true
 unfolding every
 word-clear = refl
 
-pub name-clear : (c v : ℕ) → eqb c 10 ≡ false → noLF (c ∷ decimal v) ≡ true
-unfolding every
-name-clear c v e = rw e (decimal-noLF v)
-
-pub part-clear : (i p : ℕ) → noLF (partName i p) ≡ true
-unfolding every
-part-clear i p = every-append (λ b. not (eqb b 10)) (decimal i) (95 ∷ decimal p) (decimal-noLF i) (decimal-noLF p)
-
 pub copy-is-line : (a i : ℕ) → isLine (namesLine (copyCover a i)) ≡ true
-unfolding Clear
+unfolding AllWords
 copy-is-line a i =
-    word-line namesWord (xName a ∷ zName i ∷ []) word-clear (name-clear 120 a refl, (name-clear 122 i refl, tt))
+    word-line namesWord (xName a ∷ zName i ∷ []) word-clear (x-word a, (z-word i, tt))
 
-link-is-line : (from : List ℕ) (b : ℕ) (to : List ℕ) → noLF from ≡ true → noLF to ≡ true → isLine (namesLine (xorCover from b to)) ≡ true
-unfolding Clear
+link-is-line : (from : List ℕ) (b : ℕ) (to : List ℕ) → IsWord from → IsWord to → isLine (namesLine (xorCover from b to)) ≡ true
 link-is-line from b to e f =
-    word-line namesWord (from ∷ xName b ∷ to ∷ []) word-clear (e, (name-clear 120 b refl, (f, tt)))
+    word-line namesWord (from ∷ xName b ∷ to ∷ []) word-clear (three-words from b to e f)
 
 -- ---- what stands at a place, after a cover's first name
 
@@ -189,7 +180,7 @@ module _ (t : List ℕ) (h : length t < 2 ^ 63) (at n m i p b : ℕ) (e : b ≡ 
 -- The state is that of any k and any rows before this one.
 pub record Chaining (text : List ℕ) (n i m p at begun : ℕ) (st : ℕ → List ℕ → State) : Type 0 where
   pub from : List ℕ
-  pub clear : noLF from ≡ true
+  pub word : IsWord from
   pub opened : begun ≡ metAt text at (opening from)
   pub links : (k : ℕ) (rs : List ℕ) → length rs ≡ i
       → step (st k rs) (front (drop at text)) ≡ link n k rs from m p (front (drop at text))
@@ -225,13 +216,13 @@ module _ (text : List ℕ) (h : length text < 2 ^ 63) where
       → metAt text (metAt text at (opening from)) (tail b to) ≡ metAt text at (namesLine (xorCover from b to))
   line-place at from b to = met-then text h at (opening from) (tail b to) ∙ ap (metAt text at) (link-line from b to)
 
-  line-there : (at : ℕ) (from : List ℕ) (b : ℕ) (to : List ℕ) → noLF from ≡ true → noLF to ≡ true
+  line-there : (at : ℕ) (from : List ℕ) (b : ℕ) (to : List ℕ) → IsWord from → IsWord to
       → equal (front (drop at text)) (namesLine (xorCover from b to)) ≡ begins (tail b to) (drop (metAt text at (opening from)) text)
   line-there at from b to e f =
       front-begins (namesLine (xorCover from b to)) (drop at text) (link-is-line from b to e f)
       ∙ line-met at from b to
 
-  pub link-there : (n k : ℕ) (rs from : List ℕ) (m p at : ℕ) → noLF from ≡ true → (begun : ℕ) → begun ≡ metAt text at (opening from)
+  pub link-there : (n k : ℕ) (rs from : List ℕ) (m p at : ℕ) → IsWord from → (begun : ℕ) → begun ≡ metAt text at (opening from)
       → link n k rs from m p (front (drop at text))
       ≡ on (ltb (first n (linkedAt text begun n m (length rs) p)) n)
       (More (stateBy text n k rs m p begun (first n (linkedAt text begun n m (length rs) p))))
@@ -240,15 +231,15 @@ module _ (text : List ℕ) (h : length text < 2 ^ 63) where
       attempt-first n (linkAt n k rs from m p (front (drop at text))) (linkedAt text begun n m (length rs) p) (stateBy text n k rs m p begun)
       (λ b l.
       let u : equal (front (drop at text)) (namesLine (xorCover from b (zName (length rs)))) ≡ begins (tail b (zName (length rs))) (drop begun text) =
-      rw g (line-there at from b (zName (length rs)) e (name-clear 122 (length rs) refl)) in
+      rw g (line-there at from b (zName (length rs)) e (z-word (length rs))) in
       let v : equal (front (drop at text)) (namesLine (xorCover from b (partName (length rs) p))) ≡ begins (tail b (partName (length rs) p)) (drop begun text) =
-      rw g (line-there at from b (partName (length rs) p) e (part-clear (length rs) p)) in
+      rw g (line-there at from b (partName (length rs) p) e (part-word (length rs) p)) in
       rw (u, v)
       (link-bools (ltb m (2 ^ b)) (begins (tail b (zName (length rs))) (drop begun text)) (ltb (suc b) n)
       (begins (tail b (partName (length rs) p)) (drop begun text)) _ _))
 
   -- a line of a chain that was met
-  link-went : (at begun : ℕ) (from : List ℕ) (b : ℕ) (to : List ℕ) (st next : State) → noLF from ≡ true → noLF to ≡ true
+  link-went : (at begun : ℕ) (from : List ℕ) (b : ℕ) (to : List ℕ) (st next : State) → IsWord from → IsWord to
       → begun ≡ metAt text at (opening from) → begins (tail b to) (drop begun text) ≡ true → step st (front (drop at text)) ≡ More next
       → fate text st at ≡ fate text next (metAt text begun (tail b to))
   link-went at begun from b to st next e f g q s =
@@ -262,14 +253,14 @@ module _ (text : List ℕ) (h : length text < 2 ^ 63) where
         ≡ on (ltb b n)
         (More (cond (begins (tail b (zName i)) (drop begun text)) (xorDue (nextRow n k (rs ++ ((m + 2 ^ b) ∷ []))))
         (xorDue (LinkDue n k rs (m + 2 ^ b) p))))
-    said b f k rs e = c .links k rs e ∙ rw f at (rw e at (link-there n k rs (c .from) m p at (c .clear) begun (c .opened)))
+    said b f k rs e = c .links k rs e ∙ rw f at (rw e at (link-there n k rs (c .from) m p at (c .word) begun (c .opened)))
 
     linked-last : (b : ℕ) → first n (linkedAt text begun n m i p) ≡ b → b < n → begins (tail b (zName i)) (drop begun text) ≡ true
         → Linked text n i p st at (Last (m + 2 ^ b) (metAt text begun (tail b (zName i))))
     unfolding Linked
     linked-last b f l q =
         λ k rs e.
-        link-went at begun (c .from) b (zName i) (st k rs) (xorDue (nextRow n k (rs ++ ((m + 2 ^ b) ∷ [])))) (c .clear) (name-clear 122 i refl)
+        link-went at begun (c .from) b (zName i) (st k rs) (xorDue (nextRow n k (rs ++ ((m + 2 ^ b) ∷ [])))) (c .word) (z-word i)
         (c .opened) q (said b f k rs e ∙ rw (lt-ltb b n l, q))
 
     linked-part : (b : ℕ) → first n (linkedAt text begun n m i p) ≡ b → b < n → begins (tail b (zName i)) (drop begun text) ≡ false
@@ -280,7 +271,7 @@ module _ (text : List ℕ) (h : length text < 2 ^ 63) where
         let w = and-both (ltb m (2 ^ b)) _ v in
         let x : ltb (suc b) n && begins (tail b (partName i p)) (drop begun text) ≡ true = rw q at (w .1) in
         λ k rs e.
-        link-went at begun (c .from) b (partName i p) (st k rs) (xorDue (LinkDue n k rs (m + 2 ^ b) p)) (c .clear) (part-clear i p)
+        link-went at begun (c .from) b (partName i p) (st k rs) (xorDue (LinkDue n k rs (m + 2 ^ b) p)) (c .word) (part-word i p)
         (c .opened) (and-both (ltb (suc b) n) _ x .1) (said b f k rs e ∙ rw (lt-ltb b n l, q))
 
     linked-by : (b : ℕ) → first n (linkedAt text begun n m i p) ≡ b → Linked text n i p st at (linkBy text begun n m i p b)
@@ -365,7 +356,7 @@ module _ (text : List ℕ) (h : length text < 2 ^ 63) (n i : ℕ) (st₀ : ℕ �
         chain =
             record {
               from = partName i p;
-              clear = part-clear i p;
+              word = part-word i p;
               opened = q;
               links = λ k rs f. rw (f, add-one p);
             };

@@ -8,7 +8,7 @@ use native.Mathlib.Nat.{zero-add}
 use native.Mathlib.Numerals.{add-one}
 use native.Mathlib.Omega.{arith}
 use borrow.Author.Tests.{lt-ltb, le-ltb, ltb-true}
-use lib.Dec.{eqb, ltb}
+use lib.Dec.{ltb}
 use lib.ListN.{length, take, drop, length-append}
 use lib.Seq.{sets}
 use Rattle.slices.specs.Places.{tab, first}
@@ -21,10 +21,11 @@ use Rattle.block.specs.Model.{spaced, wordLine, titleLine}
 use Rattle.block.specs.ModelRead.{State, Due, InputsDue, OutputsDue, RowDue, More, Whole, on, attempt, step, start, outcomeOf, isWhole, goodLines}
 use Rattle.block.specs.declared.Pattern.{Pattern}
 use Rattle.read_laws.specs.Front.{front, noLF}
-use Rattle.read_names.specs.Met.{begins, metAt, lost, lettered, met-found, met-missed}
-use Rattle.read_names.specs.Fate.{isLine, front-begins, ends, Fate, Stopped, fate, fate-met, fate-stop, clear-tab, word-line}
+use Rattle.model_laws.specs.Spaced.{lettered}
+use Rattle.model_laws.specs.WordLines.{isLine, stops, name-word, words-tab, word-line}
+use Rattle.read_names.specs.Met.{begins, metAt, lost, met-found, met-missed}
+use Rattle.read_names.specs.Fate.{front-begins, ends, Fate, Stopped, fate, fate-met, fate-stop}
 use Rattle.read_names.specs.Attempts.{attempt-first}
-use Rattle.read_chains.specs.Chains.{name-clear}
 use Rattle.read_sigma.specs.Rows.{AllRows}
 use Rattle.read_outputs.specs.Outputs.{Holds, AllRead}
 use Rattle.read_model.specs.declared.Sizes.{Sizes}
@@ -71,12 +72,12 @@ module _ (text : List ℕ) (h : length text < 2 ^ 63) (at : ℕ) (word : List �
 pub named-zero : (text : List ℕ) (at : ℕ) (word : List ℕ) (letter j : ℕ) → j < 1 → namedAt text at word letter j ≡ false
 named-zero text at word letter j h = let e : j ≡ 0 = omega arith in rw e refl
 
-module _ (text : List ℕ) (h : length text < 2 ^ 63) (at : ℕ) (word : List ℕ) (letter : ℕ) (e : noLF word ≡ true) (f : eqb letter 10 ≡ false)
+module _ (text : List ℕ) (h : length text < 2 ^ 63) (at : ℕ) (word : List ℕ) (letter : ℕ) (e : noLF word ≡ true) (f : stops letter ≡ false)
     (most : ℕ) (st : State) (next : ℕ → State)
     (due : (l : List ℕ) → step st l ≡ attempt (suc most) (λ n. on (ltb 0 n && equal l (wordLine word (tab n (lettered letter)))) (More (next n))))
     (r : ℕ) (g : r ≡ first (most + 1) (namedAt text at word letter)) where
   is-line : (n : ℕ) → isLine (wordLine word (tab n (lettered letter))) ≡ true
-  is-line n = word-line word (tab n (lettered letter)) e (clear-tab (lettered letter) (λ i. name-clear letter i f) n)
+  is-line n = word-line word (tab n (lettered letter)) e (words-tab (lettered letter) (λ i. name-word letter i f) n)
 
   said : step st (front (drop at text)) ≡ on (ltb r (most + 1)) (More (next r))
   said =

@@ -9,7 +9,8 @@ ghost use mathlib.Core.Path.{_≡_};
 ghost use Prim.Native.Nat.{_+_, _<_, _≤_};
 ghost use Rattle.slices.specs.Places.{tab, first};
 ghost use Rattle.block.specs.Model.{wordLine};
-ghost use Rattle.read_names.specs.Met.{metAt, lettered};
+ghost use Rattle.model_laws.specs.Spaced.{lettered};
+ghost use Rattle.read_names.specs.Met.{metAt};
 ghost use Rattle.read_model.specs.Whole.{namedAt, Inlined, Outlined, Sized, Modelled};
 ghost use Rattle.read_model.specs.declared.Sizes.the-variants.{Are};
 

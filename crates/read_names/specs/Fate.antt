@@ -1,36 +1,30 @@
 -- What becomes of a text from a place on, where a state is due there (`fate`): a line that is due leads to the next place with the same
 -- fate (`fate-next`), and one that is not stops the reading (`fate-stop`). A line stands at a place exactly where its bytes are met there.
 -- Assumes nothing.
-use mathlib.Core.Path.{_≡_, refl, sym, ap, ap₂, _∙_}
+use mathlib.Core.Path.{_≡_, refl, sym, ap, _∙_}
 use mathlib.Core.Bool.{Bool, true, false, not, cond, _&&_}
 use mathlib.Core.List.{List, [], _∷_, _++_}
-use Prim.Native.Nat.{ℕ, zero, suc, _+_, _/_, _%_, _^_, _≤_, _<_}
+use Prim.Native.Nat.{ℕ, suc, _+_, _^_, _≤_, _<_}
 use native.Mathlib.Nat.{add-zero, zero-add}
 use native.Mathlib.Omega.{arith}
 use borrow.Author.Tests.{eq-eqb, ne-eqb, eqb-true, eqb-false, not-true}
-use lib.Dec.{eqb, ltb}
+use lib.Dec.{eqb}
 use lib.ListN.{length, getD, take, drop, drop-of-length-le}
 use lib.Seq.{drop-cons, drop-drop, take-add}
-use Rattle.slices.specs.Places.{at, tab}
+use Rattle.slices.specs.Places.{at}
 use Rattle.slices.specs.Tests.{and-both}
 use Rattle.sums.specs.Sums.{one}
-use Rattle.block.specs.Text.{lines, onto, lineIn, equal, every, decimal, digits}
-use Rattle.block.specs.Model.{spaced, wordLine}
+use Rattle.block.specs.Text.{lines, onto, lineIn, equal}
 use Rattle.block.specs.ModelRead.{State, Outcome, Due, More, Whole, Bad, step, after, isWhole, goodLines}
 use Rattle.block.specs.declared.Pattern.{Pattern}
-use Rattle.read_laws.specs.Front.{front, line-first, noLF}
-use Rattle.read_laws.specs.Tests.{every-append, equal-true, equal-same}
+use Rattle.read_laws.specs.Front.{front, line-first}
+use Rattle.read_laws.specs.Tests.{equal-true, equal-same}
+use Rattle.model_laws.specs.WordLines.{isLine}
 use Rattle.read_names.specs.declared.Place.{Place}
 use Rattle.read_names.specs.declared.Place.the-variants.{After, Stop}
 use Rattle.read_names.specs.Met.{begins, metAt, lost, met-found, met-missed, met-yes}
 
 -- ---- a line, and the front of a text
-
--- the only LF is the last byte
-unfoldable pub isLine : List ℕ → Bool
-isLine [] = false
-isLine (b ∷ []) = eqb b 10
-isLine (b ∷ c ∷ bs) = not (eqb b 10) && isLine (c ∷ bs)
 
 no-way : {A : Type 0} → false ≡ true → A
 no-way e = let z : _≡_ {A = ℕ} 0 1 = cc in absurd (omega arith)
@@ -73,13 +67,6 @@ lines-begins (b ∷ c ∷ s) (x ∷ u) e f =
     let d : x ≡ b = eqb-true x b (g .0) in
     let n : eqb x 10 ≡ false = ap (λ (y : ℕ). eqb y 10) d ∙ not-true (eqb b 10) (a .0) in
     rw (n, lines-begins (c ∷ s) u (a .1) (g .1)) (ap (λ (y : ℕ). (y ∷ c ∷ s) ∷ lines (drop (length (c ∷ s)) u)) d)
-
--- the bytes without LF that LF ends
-pub line-ends : (s : List ℕ) → noLF s ≡ true → isLine (s ++ (10 ∷ [])) ≡ true
-unfolding isLine every
-line-ends [] e = refl
-line-ends (b ∷ []) e = ap₂ _&&_ (and-both (not (eqb b 10)) true e .0) refl
-line-ends (b ∷ c ∷ s) e = let a = and-both (not (eqb b 10)) (noLF (c ∷ s)) e in ap₂ _&&_ (a .0) (line-ends (c ∷ s) (a .1))
 
 -- ---- how many lines end before a place
 
@@ -290,42 +277,3 @@ pub came-after : (text : List ℕ) (st : State) (at : ℕ) (mid : State) (p : �
 unfolding Came
 came-after text st at mid p to (After q) e h = e ∙ h
 came-after text st at mid p to (Stop q) e h = stop-after e h
-
--- ---- names hold no LF
-
-digits-noLF : (most v : ℕ) → noLF (digits most v) ≡ true
-unfolding digits every
-digits-noLF zero v = refl
-digits-noLF (suc most) v = go (ltb v 10) (digits-noLF most (v / 10))
-  where
-    go : (q : Bool) → noLF (digits most (v / 10)) ≡ true → noLF (cond q ((48 + v) ∷ []) (digits most (v / 10) ++ ((48 + v % 10) ∷ []))) ≡ true
-    go true ih = rw (ne-eqb (48 + v) 10 (omega arith))
-    go false ih =
-        every-append (λ b. not (eqb b 10)) (digits most (v / 10)) ((48 + v % 10) ∷ []) ih (rw (ne-eqb (48 + v % 10) 10 (omega arith)))
-
-pub decimal-noLF : (v : ℕ) → noLF (decimal v) ≡ true
-decimal-noLF v = digits-noLF 20 v
-
--- each name is without LF
-unfoldable pub Clear : List (List ℕ) → Type 0
-Clear [] = Unit
-Clear (m ∷ ms) = (noLF m ≡ true) × Clear ms
-
-pub clear-more : (ms : List (List ℕ)) (m : List ℕ) → Clear ms → noLF m ≡ true → Clear (ms ++ (m ∷ []))
-unfolding Clear
-clear-more [] m h k = (k, tt)
-clear-more (l ∷ ms) m h k = (h .0, clear-more ms m (h .1) k)
-
-pub clear-tab : (f : ℕ → List ℕ) → ((i : ℕ) → noLF (f i) ≡ true) → (n : ℕ) → Clear (tab n f)
-unfolding Clear tab
-clear-tab f h zero = tt
-clear-tab f h (suc n) = clear-more (tab n f) (f n) (clear-tab f h n) (h n)
-
-spaced-noLF : (ms : List (List ℕ)) → Clear ms → noLF (spaced ms) ≡ true
-unfolding spaced Clear every
-spaced-noLF [] h = refl
-spaced-noLF (m ∷ ms) h = every-append (λ b. not (eqb b 10)) m (spaced ms) (h .0) (spaced-noLF ms (h .1))
-
--- a word and names make a line
-pub word-line : (w : List ℕ) (ms : List (List ℕ)) → noLF w ≡ true → Clear ms → isLine (wordLine w ms) ≡ true
-word-line w ms h k = line-ends (w ++ spaced ms) (every-append (λ b. not (eqb b 10)) w (spaced ms) h (spaced-noLF ms k))

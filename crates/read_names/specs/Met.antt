@@ -1,8 +1,8 @@
 -- Bytes that are compared by place: `metAt` is the place after them where they stand, and else a place that no text reaches; met one after
--- the other they are met together (`met-then`). What a number of one or two digits is, and names with one letter. Assumes nothing.
+-- the other they are met together (`met-then`). What a number of one or two digits is. Assumes nothing.
 use mathlib.Core.Path.{_≡_, refl, sym, ap, _∙_}
 use mathlib.Core.Bool.{Bool, true, false, not, cond, _&&_}
-use mathlib.Core.List.{List, [], _∷_, _++_, append-assoc, append-nil}
+use mathlib.Core.List.{List, [], _∷_, _++_}
 use Prim.Native.Nat.{ℕ, _+_, _/_, _%_, _^_, _≤_, _<_}
 use native.Mathlib.Nat.{add-zero}
 use native.Mathlib.Numerals.{add-one}
@@ -11,10 +11,8 @@ use borrow.Author.Tests.{lt-ltb, le-ltb, eq-eqb, ne-eqb}
 use lib.Dec.{eqb}
 use lib.ListN.{length, getD, take, drop, length-append, length-drop, drop-of-length-le}
 use lib.Seq.{take-suc, drop-cons, drop-drop}
-use Rattle.slices.specs.Places.{at, tab}
-use Rattle.slices.specs.Filled.{tab-suc}
+use Rattle.slices.specs.Places.{at}
 use Rattle.block.specs.Text.{digits, decimal}
-use Rattle.block.specs.Model.{spaced}
 
 -- the text t begins with s
 unfoldable pub begins : List ℕ → List ℕ → Bool
@@ -155,7 +153,7 @@ pub met-more : (t : List ℕ) → length t < 2 ^ 63 → (at i : ℕ) (s : List �
     → metAt t (metAt t at (take i s)) (getD s i 0 ∷ []) ≡ metAt t at (take (i + 1) s)
 met-more t h at i s l = met-then t h at (take i s) (getD s i 0 ∷ []) ∙ ap (metAt t at) (sym (rw (add-one i) (take-suc s i 0 l)))
 
--- ---- numbers and names
+-- ---- numbers
 
 pub one-digit : (v : ℕ) → v < 10 → decimal v ≡ (48 + v) ∷ []
 unfolding digits
@@ -164,28 +162,3 @@ one-digit v h = rw (lt-ltb v 10 h)
 pub two-digits : (v : ℕ) → 10 ≤ v → v < 100 → decimal v ≡ (48 + v / 10) ∷ (48 + v % 10) ∷ []
 unfolding digits
 two-digits v h l = rw (le-ltb v 10 h, lt-ltb (v / 10) 10 (omega arith))
-
--- names with one letter
-abbrev pub lettered : ℕ → ℕ → List ℕ
-lettered c i = c ∷ decimal i
-
-pub spaced-append : (ms ls : List (List ℕ)) → spaced (ms ++ ls) ≡ spaced ms ++ spaced ls
-unfolding spaced
-spaced-append [] ls = refl
-spaced-append (m ∷ ms) ls =
-    ap (λ (t : List ℕ). 32 ∷ m ++ t) (spaced-append ms ls)
-    ∙ ap (λ (t : List ℕ). 32 ∷ t) (sym (append-assoc m (spaced ms) (spaced ls)))
-
-pub spaced-one : (m : List ℕ) → spaced (m ∷ []) ≡ 32 ∷ m
-unfolding spaced
-spaced-one m = ap (λ (t : List ℕ). 32 ∷ t) (append-nil m)
-
--- the first names of a letter, each after a space: one more, and none
-pub names-more : (c i : ℕ) → spaced (tab (i + 1) (lettered c)) ≡ spaced (tab i (lettered c)) ++ (32 ∷ lettered c i)
-names-more c i =
-    rw (add-one i, tab-suc i (lettered c))
-    (spaced-append (tab i (lettered c)) (lettered c i ∷ []) ∙ ap (λ (t : List ℕ). spaced (tab i (lettered c)) ++ t) (spaced-one (lettered c i)))
-
-pub names-none : (c : ℕ) → spaced (tab 0 (lettered c)) ≡ []
-unfolding spaced tab
-names-none c = refl

@@ -9,8 +9,10 @@ ghost use Rattle.block.specs.Text.{decimal};
 ghost use Rattle.block.specs.Model.{partName, spaced};
 ghost use Rattle.block.specs.ModelRead.{State, Due};
 ghost use mathlib.Core.Bool.{true};
-ghost use Rattle.read_names.specs.Met.{metAt, lettered};
-ghost use Rattle.read_names.specs.Fate.{Came, isLine};
+ghost use Rattle.model_laws.specs.Spaced.{lettered};
+ghost use Rattle.model_laws.specs.WordLines.{isLine};
+ghost use Rattle.read_names.specs.Met.{metAt};
+ghost use Rattle.read_names.specs.Fate.{Came};
 
 pub const LOST: usize = 18446744073709551615;
 

@@ -19,8 +19,8 @@ use Rattle.block.specs.Model.{pattern, cubeLine}
 use Rattle.block.specs.ModelRead.{patternForm, patternOn}
 use Rattle.read_laws.specs.Front.{front, front-rest, noLF}
 use Rattle.read_laws.specs.Tests.{every-at, every-all, every-append, equal-true, equal-same, not-both}
+use Rattle.model_laws.specs.WordLines.{isLine, line-ends}
 use Rattle.read_names.specs.Met.{begins, metAt, lost, begins-append, begins-length, met-yes, met-found, met-missed}
-use Rattle.read_names.specs.Fate.{isLine, line-ends}
 use Rattle.read_outputs.specs.declared.Cube.{Cube}
 use Rattle.read_outputs.specs.declared.Cube.the-variants.{None, Is}
 

@@ -8,7 +8,7 @@ use native.Mathlib.Nat.{add-zero}
 use native.Mathlib.Omega.{arith}
 use borrow.Author.Tests.{eq-eqb, ne-eqb, eqb-true, eqb-false}
 use lib.Dec.{eqb}
-use lib.ListN.{length, set, drop, length-append, length-drop}
+use lib.ListN.{length, set, drop, length-append, length-drop, length-map}
 use lib.Seq.{sets}
 use Rattle.slices.specs.Places.{tab}
 use Rattle.block.specs.Text.{every}
@@ -19,9 +19,10 @@ use Rattle.block.specs.declared.Pattern.{Pattern}
 use Rattle.read_laws.specs.Front.{front}
 use Rattle.read_laws.specs.Tests.{equal-same, equal-true}
 use Rattle.put_bytes.specs.Puts.{sets-append}
-use Rattle.read_names.specs.Met.{begins, metAt, lost, begins-length, met-yes, spaced-append, spaced-one}
-use Rattle.read_names.specs.Fate.{isLine, front-begins, line-found, line-missed, Fate, Stopped, fate, fate-met, fate-next, fate-stop, fate-whole, fate-over, stop-after, clear-more, clear-tab, word-line}
-use Rattle.read_chains.specs.Chains.{name-clear}
+use Rattle.model_laws.specs.Spaced.{spaced-append, spaced-one}
+use Rattle.model_laws.specs.WordLines.{isLine, y-word, z-word, words-more, words-tab, word-line}
+use Rattle.read_names.specs.Met.{begins, metAt, lost, begins-length, met-yes}
+use Rattle.read_names.specs.Fate.{front-begins, line-found, line-missed, Fate, Stopped, fate, fate-met, fate-next, fate-stop, fate-whole, fate-over, stop-after}
 use Rattle.read_outputs.specs.declared.Outputs.{Outputs}
 use Rattle.read_outputs.specs.declared.Outputs.the-variants.{All, Broken}
 use Rattle.read_outputs.specs.Cubes.{CubeLine}
@@ -37,10 +38,6 @@ valuesOf ps = map (λ (p : Pattern). p .values) ps
 run-more : (l₀ l : List ℕ) (i : ℕ) (s : List ℕ) (x : ℕ) (l' : List ℕ) (j : ℕ) → l ≡ sets l₀ i s → j ≡ i + length s → l' ≡ set l j x
     → l' ≡ sets l₀ i (s ++ (x ∷ []))
 run-more l₀ l i s x l' j e f g = g ∙ ap (λ (y : List ℕ). set y j x) e ∙ sets-append s (x ∷ []) l₀ i j f
-
-pub map-length : {A B : Type 0} (f : A → B) (l : List A) → length (map f l) ≡ length l
-map-length f [] = refl
-map-length f (x ∷ l) = ap suc (map-length f l)
 
 -- ---- the patterns of one output
 
@@ -78,11 +75,11 @@ patterns-more {text} {n} {from} {count} {m₀} {v₀} {to} {total} {m} {v} r a b
       counted = omega (arith, r .counted, length-append (r .patterns) (pattern a b ∷ []));
       masks =
           run-more m₀ m count (masksOf (r .patterns)) a m' total (r .masks)
-          (r .counted ∙ ap (λ (i : ℕ). count + i) (sym (map-length (λ (p : Pattern). p .mask) (r .patterns)))) e
+          (r .counted ∙ ap (λ (i : ℕ). count + i) (sym (length-map (r .patterns) (λ (p : Pattern). p .mask)))) e
           ∙ ap (sets m₀ count) (sym (map-append (λ (p : Pattern). p .mask) (r .patterns) (pattern a b ∷ [])));
       values =
           run-more v₀ v count (valuesOf (r .patterns)) b v' total (r .values)
-          (r .counted ∙ ap (λ (i : ℕ). count + i) (sym (map-length (λ (p : Pattern). p .values) (r .patterns)))) f
+          (r .counted ∙ ap (λ (i : ℕ). count + i) (sym (length-map (r .patterns) (λ (p : Pattern). p .values)))) f
           ∙ ap (sets v₀ count) (sym (map-append (λ (p : Pattern). p .values) (r .patterns) (pattern a b ∷ [])));
       goes =
           λ k sigma qs.
@@ -108,7 +105,7 @@ head-is-line : (n j : ℕ) → isLine (namesLine (outputCover n j [])) ≡ true
 unfolding every
 head-is-line n j =
     word-line namesWord (tab n zName ++ (yName j ∷ [])) refl
-    (clear-more (tab n zName) (yName j) (clear-tab zName (λ i. name-clear 122 i refl) n) (name-clear 121 j refl))
+    (words-more (tab n zName) (yName j) (words-tab zName z-word n) (y-word j))
 
 last-is-line : isLine lastLine ≡ true
 unfolding isLine spaced
@@ -141,7 +138,7 @@ two-runs : (f : Pattern → ℕ) (l₀ : List ℕ) (qs : List (List Pattern)) (p
     → l' ≡ sets l₀ 0 (map f (allOf (qs ++ (ps ∷ []))))
 two-runs f l₀ qs ps l l' total n e g =
     g ∙ ap (λ (x : List ℕ). sets x total (map f ps)) e
-    ∙ sets-append (map f (allOf qs)) (map f ps) l₀ 0 total (omega (arith, map-length f (allOf qs)))
+    ∙ sets-append (map f (allOf qs)) (map f ps) l₀ 0 total (omega (arith, length-map (allOf qs) f))
     ∙ ap (sets l₀ 0) (sym (map-append f (allOf qs) ps) ∙ ap (map f) (sym (all-more qs ps)))
 
 holds-more : {text : List ℕ} {n from : ℕ} {c₀ m₀ v₀ : List ℕ} {qs : List (List Pattern)} {total : ℕ} {c m v : List ℕ} {to total' : ℕ} {m' v' : List ℕ}
@@ -155,7 +152,7 @@ holds-more {text} {n} {from} {c₀} {m₀} {v₀} {qs} {total} {c} {m} {v} {to} 
           ∙ sym (length-append (allOf qs) (p .patterns)) ∙ ap length (sym (all-more qs (p .patterns)));
       counts =
           run-more c₀ c 0 (countsOf qs) (total' - total) c' (length qs) (g .counts)
-          (omega (arith, map-length (λ (ps : List Pattern). length ps) qs)) e
+          (omega (arith, length-map qs (λ (ps : List Pattern). length ps))) e
           ∙ ap (λ (i : ℕ). sets c₀ 0 (countsOf qs ++ (i ∷ []))) d
           ∙ ap (sets c₀ 0) (sym (map-append (λ (ps : List Pattern). length ps) qs (p .patterns ∷ [])));
       masks = two-runs (λ (q : Pattern). q .mask) m₀ qs (p .patterns) m m' total (g .counted) (g .masks) (p .masks);

@@ -26,7 +26,8 @@ use Rattle.read_names.specs.Fate.{front-begins, Stopped, fate, fate-met, fate-s
 use Rattle.read_names.specs.Attempts.{attempt-first}
 use Rattle.read_chains.specs.declared.Chain.{Chain}
 use Rattle.read_chains.specs.declared.Chain.the-variants.{Row, Broken}
-use Rattle.read_chains.specs.Chains.{tail, opening, copy-line, copy-is-line, name-clear, linkedAt, stateBy, Chaining, Chained, Ended, link-there, ended-chain, power-lt}
+use Rattle.model_laws.specs.WordLines.{x-word}
+use Rattle.read_chains.specs.Chains.{tail, opening, copy-line, copy-is-line, linkedAt, stateBy, Chaining, Chained, Ended, link-there, ended-chain, power-lt}
 
 -- ---- a row's first line
 
@@ -95,7 +96,7 @@ module _ (text : List ℕ) (h : length text < 2 ^ 63) (n i at begun : ℕ) (g : 
     link-first : (a k : ℕ) (rs : List ℕ) → length rs ≡ i
         → link n k rs (xName a) (2 ^ a) 1 (front (drop at text)) ≡ on (chainAt text begun n i a) (More (after-first k rs a))
     link-first a k rs e =
-        link-there text h n k rs (xName a) (2 ^ a) 1 at (name-clear 120 a refl) (metAt text begun (32 ∷ xName a)) (opened-at a)
+        link-there text h n k rs (xName a) (2 ^ a) 1 at (x-word a) (metAt text begun (32 ∷ xName a)) (opened-at a)
         ∙ ap (λ (j : ℕ). on (ltb (first n (linkedAt text (metAt text begun (32 ∷ xName a)) n (2 ^ a) j 1)) n)
         (More (stateBy text n k rs (2 ^ a) 1 (metAt text begun (32 ∷ xName a)) (first n (linkedAt text (metAt text begun (32 ∷ xName a)) n (2 ^ a) j 1))))) e
 
@@ -112,7 +113,7 @@ module _ (text : List ℕ) (h : length text < 2 ^ 63) (n i at begun : ℕ) (g : 
         let q : chainAt text begun n i a ≡ true = rw f at (first-passes n (chainAt text begun n i) (omega arith)) in
         record {
           from = xName a;
-          clear = name-clear 120 a refl;
+          word = x-word a;
           opened = opened-at a;
           links =
               λ k rs e.

@@ -5,7 +5,8 @@ use Prim.Native.Nat.{ℕ, _+_, _-_, _*_, _^_, _≤_, _<_}
 use native.Mathlib.Omega.{arith}
 use borrow.Author.Needs.{needs}
 use denote.Ref.{now}
-use Rattle.model_values.specs.Driven.{drivenWord, begun, begun-none, begun-more, begun-le, word-none, word-goes-on, power-le, power-more}
+use Rattle.model_laws.specs.Powers.{power-more, power-le}
+use Rattle.model_values.specs.Driven.{drivenWord, begun, begun-none, begun-more, begun-le, word-none, word-goes-on}
 use Rattle.model_values.proofs.driven_word.Statement.{statement}
 use Rattle.model_values.proofs.driven_word.Tie as tie
 

@@ -7,7 +7,7 @@ use lib.ListN.{length}
 use Rattle.slices.specs.Places.{tab}
 use Rattle.block.specs.Model.{spaced}
 use Rattle.put_names.specs.Fitting.{Fitted, next, none-fitted}
-use Rattle.put_names.specs.Names.{lettered, names-more, names-none}
+use Rattle.model_laws.specs.Spaced.{lettered, names-more, names-none}
 use borrow.Author.Needs.{needs}
 use Rattle.put_names.proofs.emit_names.Statement.{statement}
 use Rattle.put_names.proofs.emit_names.Tie as tie

@@ -10,7 +10,8 @@ use Rattle.block.specs.Model.{backCovers, patternsOf}
 use Rattle.flat_rows.specs.Listing.{rowsFrom}
 use Rattle.put_names.specs.Fitting.{Fitted, next, none-fitted}
 use Rattle.put_chains.specs.Texts.{coverText}
-use Rattle.put_outputs.specs.Outputs.{back-none, back-more, power-more, power-le}
+use Rattle.model_laws.specs.Powers.{power-more, power-le}
+use Rattle.put_outputs.specs.Outputs.{back-none, back-more}
 use borrow.Author.Needs.{needs}
 use Rattle.put_outputs.proofs.emit_back.Statement.{statement}
 use Rattle.put_outputs.proofs.emit_back.Tie as tie

@@ -1,5 +1,5 @@
--- `put_outputs::emit_patterns` meets its contract. The loop's invariant: the lines that the first i rows bring are put. The measure is the
--- number of rows left. Assumes nothing.
+-- `put_outputs::emit_patterns` meets its contract. The loop's invariant: the lines that the first p - left rows bring are put. The measure
+-- is the number of rows left. Assumes nothing.
 use Prim.Native.Nat.{_+_, _-_, _*_, _≤_}
 use mathlib.Core.Path.{_≡_, refl}
 use native.Mathlib.Omega.{arith}
@@ -15,15 +15,22 @@ use Rattle.put_outputs.proofs.emit_patterns.Statement.{statement}
 use Rattle.put_outputs.proofs.emit_patterns.Tie as tie
 
 abbrev Inv-loop : tie.InvT-loop
-Inv-loop out₀ at n j power p masks values words to₀ i₀ out to i =
-    (i ≤ p) × (to ≤ at + i * 103) × (length out ≡ length out₀)
-    × Fitted out₀ at (patternText n (patternsOf j (rowsFrom i masks values words))) out to
+Inv-loop out₀ at n j power p masks values words to₀ left₀ out to left =
+    (left ≤ p) × (to ≤ at + (p - left) * 103) × (length out ≡ length out₀)
+    × Fitted out₀ at (patternText n (patternsOf j (rowsFrom (p - left) masks values words))) out to
 
 abbrev μ-loop : tie.MeasureT-loop
-μ-loop out₀ at n j power p masks values words to₀ i₀ out to i = p - i
+μ-loop out₀ at n j power p masks values words to₀ left₀ out to left = left
 
 loop-holds : tie.Need-loop-holds Inv-loop μ-loop
-loop-holds c = (omega arith, omega arith, refl, rw patterns-none (none-fitted _ _))
+loop-holds c =
+    let a = c .before .before .before .before .args in
+    let e : a .p - a .p ≡ 0 = omega arith in
+    let none = patterns-none (a .n) (a .j) (now (a .masks)) (now (a .values)) (now (a .words)) in
+    (omega arith, omega arith, refl, rw (e, none) (none-fitted _ _))
+
+sub-i : tie.Need-sub-i Inv-loop μ-loop
+sub-i c = omega arith
 
 mul-emit-chosen : tie.Need-mul-emit-chosen Inv-loop μ-loop
 mul-emit-chosen c = search needs
@@ -49,8 +56,8 @@ shared-slice-read-emit-chosen-3 c = search needs
 emit-chosen-requires : tie.Need-emit-chosen-requires Inv-loop μ-loop
 emit-chosen-requires c κs = search needs
 
-add-i : tie.Need-add-i Inv-loop μ-loop
-add-i c = search needs
+sub-left : tie.Need-sub-left Inv-loop μ-loop
+sub-left c = search needs
 
 loop-less : tie.Need-loop-less Inv-loop μ-loop
 loop-less c = search needs
@@ -61,11 +68,13 @@ loop-again c =
     let turn = line .before .before .before .before .before .before in
     let l = turn .loop in
     let start = turn .before .before .before .before .before in
-    let a = start .args in (
+    let a = start .args in
+    let i = a .p - l .left in
+    let e : a .p - (l .left - 1) ≡ i + 1 = omega arith in (
       omega arith,
       omega (arith, line .emit-chosen .ensures .1),
       omega (arith, line .emit-chosen .kept .0),
-      rw (patterns-more (a .n) (a .j) (l .i) (now (a .masks)) (now (a .values)) (now (a .words)))
+      rw (e, patterns-more (a .n) (a .j) i (now (a .masks)) (now (a .values)) (now (a .words)))
           (next (l .inv .3) (rw (start .pre .0 .2) at (line .emit-chosen .ensures .0))),
     )
 
@@ -75,7 +84,8 @@ same-length c = search needs
 returns : tie.Need-returns Inv-loop μ-loop
 returns c =
     let l = c .before .loop in
-    let e : l .i ≡ c .before .before .before .before .before .before .args .p = omega arith in
+    let p = c .before .before .before .before .before .before .args .p in
+    let e : p - l .left ≡ p = omega arith in
     (rw e at (l .inv .3), omega arith)
 
 pub emit-patterns-spec : {M : Type 1} → statement M
@@ -85,6 +95,7 @@ emit-patterns-spec =
     Inv-loop
     μ-loop
     loop-holds
+    sub-i
     mul-emit-chosen
     shared-slice-read-emit-chosen
     div-emit-chosen
@@ -93,7 +104,7 @@ emit-patterns-spec =
     mul-emit-chosen-3
     shared-slice-read-emit-chosen-3
     emit-chosen-requires
-    add-i
+    sub-left
     loop-less
     loop-again
     same-length

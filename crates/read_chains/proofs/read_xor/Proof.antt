@@ -3,7 +3,8 @@ use mathlib.Core.Path.{refl}
 use mathlib.Core.List.{[], _∷_}
 use denote.Ref.{now}
 use Rattle.slices.specs.Places.{at}
-use Rattle.read_names.specs.Fate.{Came, isLine}
+use Rattle.model_laws.specs.WordLines.{isLine}
+use Rattle.read_names.specs.Fate.{Came}
 use Rattle.block.specs.Model.{cubeLine}
 use Rattle.block.specs.ModelRead.{Due, xorDue}
 use Rattle.read_names.specs.Fate.{came-after}

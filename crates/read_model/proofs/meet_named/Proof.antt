@@ -6,7 +6,8 @@ use native.Mathlib.Omega.{arith}
 use denote.Ref.{now}
 use Rattle.slices.specs.Places.{tab}
 use Rattle.block.specs.Model.{spaced}
-use Rattle.read_names.specs.Met.{metAt, met-and, lettered}
+use Rattle.model_laws.specs.Spaced.{lettered}
+use Rattle.read_names.specs.Met.{metAt, met-and}
 use Rattle.read_model.specs.Whole.{named-line}
 use borrow.Author.Needs.{needs}
 use Rattle.read_model.proofs.meet_named.Statement.{statement}

@@ -3,7 +3,8 @@ use mathlib.Core.Path.{refl}
 use denote.Ref.{now}
 use Rattle.block.specs.Model.{spaced}
 use Rattle.block.specs.ModelRead.{InputsDue}
-use Rattle.read_names.specs.Fate.{Came, isLine}
+use Rattle.model_laws.specs.WordLines.{isLine}
+use Rattle.read_names.specs.Fate.{Came}
 use Rattle.read_model.specs.Whole.{Sized, in-sized}
 use borrow.Author.Needs.{needs}
 use Rattle.read_model.proofs.read_sizes.Statement.{statement}

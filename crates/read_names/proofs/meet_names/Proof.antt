@@ -7,7 +7,8 @@ use native.Mathlib.Omega.{arith}
 use denote.Ref.{now}
 use Rattle.slices.specs.Places.{at, tab}
 use Rattle.block.specs.Model.{spaced}
-use Rattle.read_names.specs.Met.{metAt, met-none, met-and, lettered, names-more, names-none}
+use Rattle.model_laws.specs.Spaced.{lettered, names-more, names-none}
+use Rattle.read_names.specs.Met.{metAt, met-none, met-and}
 use borrow.Author.Needs.{needs}
 use Rattle.read_names.proofs.meet_names.Statement.{statement}
 use Rattle.read_names.proofs.meet_names.Tie as tie

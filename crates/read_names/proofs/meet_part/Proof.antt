@@ -4,7 +4,8 @@ use native.Mathlib.Omega.{arith}
 use denote.Ref.{now}
 use Rattle.slices.specs.Places.{at}
 use Rattle.block.specs.Text.{decimal}
-use Rattle.read_names.specs.Met.{met-and, lettered}
+use Rattle.model_laws.specs.Spaced.{lettered}
+use Rattle.read_names.specs.Met.{met-and}
 use borrow.Author.Needs.{needs}
 use Rattle.read_names.proofs.meet_part.Statement.{statement}
 use Rattle.read_names.proofs.meet_part.Tie as tie

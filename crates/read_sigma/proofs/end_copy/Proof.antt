@@ -1,7 +1,8 @@
 -- `read_sigma::end_copy` meets its contract: the line is read, and the row is the one that was given. Assumes nothing.
 use mathlib.Core.Path.{refl}
 use Rattle.slices.specs.Places.{at}
-use Rattle.read_names.specs.Fate.{Came, isLine}
+use Rattle.model_laws.specs.WordLines.{isLine}
+use Rattle.read_names.specs.Fate.{Came}
 use Rattle.read_chains.specs.Chains.{Ended}
 use borrow.Author.Needs.{needs}
 use Rattle.read_sigma.proofs.end_copy.Statement.{statement}

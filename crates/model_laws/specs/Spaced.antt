@@ -19,12 +19,15 @@ spaced-append (m ∷ ms) ls =
     ap (λ (t : List ℕ). 32 ∷ m ++ t) (spaced-append ms ls)
     ∙ ap (λ (t : List ℕ). 32 ∷ t) (sym (append-assoc m (spaced ms) (spaced ls)))
 
-pub names-more : (c i : ℕ) → spaced (tab (i + 1) (lettered c)) ≡ spaced (tab i (lettered c)) ++ (32 ∷ lettered c i)
+pub spaced-one : (m : List ℕ) → spaced (m ∷ []) ≡ 32 ∷ m
 unfolding spaced
+spaced-one m = ap (λ (t : List ℕ). 32 ∷ t) (append-nil m)
+
+-- the first names of a letter: one more, and none
+pub names-more : (c i : ℕ) → spaced (tab (i + 1) (lettered c)) ≡ spaced (tab i (lettered c)) ++ (32 ∷ lettered c i)
 names-more c i =
     rw (add-one i, tab-suc i (lettered c))
-    (spaced-append (tab i (lettered c)) (lettered c i ∷ [])
-    ∙ ap (λ (t : List ℕ). spaced (tab i (lettered c)) ++ (32 ∷ t)) (append-nil (lettered c i)))
+    (spaced-append (tab i (lettered c)) (lettered c i ∷ []) ∙ ap (λ (t : List ℕ). spaced (tab i (lettered c)) ++ t) (spaced-one (lettered c i)))
 
 pub names-none : (c : ℕ) → spaced (tab 0 (lettered c)) ≡ []
 unfolding spaced tab
