@@ -146,18 +146,18 @@ module _ (t : List ℕ) (h : length t < 2 ^ 63) (at n m i p b : ℕ) where
   module _ (l : m < 2 ^ b) where
     pub linked-ends : (metAt t at (tail b (zName i)) ≡ lost → ⊥) → true ≡ linkedAt t at n m i p b
     unfolding linkedAt
-    linked-ends d = rw (lt-ltb m (2 ^ b) l, met-found t h at 32 (xName b ++ (32 ∷ zName i ++ (10 ∷ []))) d)
+    linked-ends d = rw (lt-ltb m (2 ^ b) l, met-found t h at (32 ∷ xName b ++ (32 ∷ zName i ++ (10 ∷ []))) d)
 
     module _ (d : metAt t at (tail b (zName i)) ≡ lost) where
       pub linked-over : n ≤ suc b → false ≡ linkedAt t at n m i p b
       unfolding linkedAt
       linked-over u =
-          rw (lt-ltb m (2 ^ b) l, met-missed t h at 32 (xName b ++ (32 ∷ zName i ++ (10 ∷ []))) d, le-ltb (suc b) n u)
+          rw (lt-ltb m (2 ^ b) l, met-missed t h at (32 ∷ xName b ++ (32 ∷ zName i ++ (10 ∷ []))) (omega arith) d, le-ltb (suc b) n u)
 
       pub linked-goes : suc b < n → (r : ℕ) → r ≡ metAt t at (tail b (partName i p)) → not (eqb r 18446744073709551615) ≡ linkedAt t at n m i p b
       unfolding linkedAt
       linked-goes u r g =
-          rw (lt-ltb m (2 ^ b) l, met-missed t h at 32 (xName b ++ (32 ∷ zName i ++ (10 ∷ []))) d, lt-ltb (suc b) n u)
+          rw (lt-ltb m (2 ^ b) l, met-missed t h at (32 ∷ xName b ++ (32 ∷ zName i ++ (10 ∷ []))) (omega arith) d, lt-ltb (suc b) n u)
           (met-test t h at 32 (xName b ++ (32 ∷ partName i p ++ (10 ∷ []))) r g)
 
 -- what is said, likewise
@@ -168,11 +168,11 @@ module _ (t : List ℕ) (h : length t < 2 ^ 63) (at n m i p b : ℕ) (e : b ≡ 
 
   pub link-last : b < n → (metAt t at (tail b (zName i)) ≡ lost → ⊥) → Last (m + 2 ^ b) (metAt t at (tail b (zName i))) ≡ linkOf t at n m i p
   unfolding linkOf linkBy
-  link-last l d = rw (← e, lt-ltb b n l, met-found t h at 32 (xName b ++ (32 ∷ zName i ++ (10 ∷ []))) d)
+  link-last l d = rw (← e, lt-ltb b n l, met-found t h at (32 ∷ xName b ++ (32 ∷ zName i ++ (10 ∷ []))) d)
 
   pub link-part : b < n → metAt t at (tail b (zName i)) ≡ lost → Part (m + 2 ^ b) (metAt t at (tail b (partName i p))) ≡ linkOf t at n m i p
   unfolding linkOf linkBy
-  link-part l d = rw (← e, lt-ltb b n l, met-missed t h at 32 (xName b ++ (32 ∷ zName i ++ (10 ∷ []))) d)
+  link-part l d = rw (← e, lt-ltb b n l, met-missed t h at (32 ∷ xName b ++ (32 ∷ zName i ++ (10 ∷ []))) (omega arith) d)
 
 -- ---- a chain that goes on
 

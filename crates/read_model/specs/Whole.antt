@@ -46,28 +46,18 @@ named-line word letter n = sym (append-assoc word (spaced (tab n (lettered lette
 line-some : (word names : List ℕ) → 1 ≤ length (word ++ names ++ (10 ∷ []))
 line-some word names = omega (arith, length-append (word ++ names) (10 ∷ []))
 
-some-found : (text : List ℕ) → length text < 2 ^ 63 → (at : ℕ) (s : List ℕ) → 1 ≤ length s → (metAt text at s ≡ lost → ⊥)
-    → begins s (drop at text) ≡ true
-some-found text h at [] l d = absurd (omega arith)
-some-found text h at (x ∷ s) l d = met-found text h at x s d
-
-some-missed : (text : List ℕ) → length text < 2 ^ 63 → (at : ℕ) (s : List ℕ) → 1 ≤ length s → metAt text at s ≡ lost
-    → begins s (drop at text) ≡ false
-some-missed text h at [] l d = absurd (omega arith)
-some-missed text h at (x ∷ s) l d = met-missed text h at x s d
-
 -- the test by the place that was answered
 module _ (text : List ℕ) (h : length text < 2 ^ 63) (at : ℕ) (word : List ℕ) (letter n : ℕ) (l : 1 ≤ n) (r : ℕ)
     (g : r ≡ metAt text at (wordLine word (tab n (lettered letter)))) where
   pub named-yes : (r ≡ lost → ⊥) → namedAt text at word letter n ≡ true
   named-yes d =
       rw (lt-ltb 0 n l)
-      (some-found text h at (wordLine word (tab n (lettered letter))) (line-some word (spaced (tab n (lettered letter)))) (λ w. d (g ∙ w)))
+      (met-found text h at (wordLine word (tab n (lettered letter))) (λ w. d (g ∙ w)))
 
   pub named-no : r ≡ lost → namedAt text at word letter n ≡ false
   named-no d =
       rw (lt-ltb 0 n l)
-      (some-missed text h at (wordLine word (tab n (lettered letter))) (line-some word (spaced (tab n (lettered letter)))) (sym g ∙ d))
+      (met-missed text h at (wordLine word (tab n (lettered letter))) (line-some word (spaced (tab n (lettered letter)))) (sym g ∙ d))
 
 pub named-zero : (text : List ℕ) (at : ℕ) (word : List ℕ) (letter j : ℕ) → j < 1 → namedAt text at word letter j ≡ false
 named-zero text at word letter j h = let e : j ≡ 0 = omega arith in rw e refl

@@ -239,22 +239,16 @@ unfolding step
 due-missed text at s to e f = fate-stop text (Due s to) at (rw (front-begins s (drop at text) e, f))
 
 -- by the place that was answered
-pub line-found : (text : List ℕ) → length text < 2 ^ 63 → (at : ℕ) (s : List ℕ) → isLine s ≡ true → (metAt text at s ≡ lost → ⊥)
-    → begins s (drop at text) ≡ true
-unfolding isLine
-line-found text h at [] e d = no-way e
-line-found text h at (x ∷ s) e d = met-found text h at x s d
-
 pub line-missed : (text : List ℕ) → length text < 2 ^ 63 → (at : ℕ) (s : List ℕ) → isLine s ≡ true → metAt text at s ≡ lost
     → begins s (drop at text) ≡ false
 unfolding isLine
 line-missed text h at [] e d = no-way e
-line-missed text h at (x ∷ s) e d = met-missed text h at x s d
+line-missed text h at (x ∷ s) e d = met-missed text h at (x ∷ s) (omega arith) d
 
 pub due-came : (text : List ℕ) → length text < 2 ^ 63 → (at : ℕ) (s : List ℕ) (to : State) (r : ℕ) → isLine s ≡ true
     → r ≡ metAt text at s → (r ≡ lost → ⊥) → fate text (Due s to) at ≡ fate text to r
 due-came text h at s to r e p d =
-    let f = line-found text h at s e (λ w. d (p ∙ w)) in
+    let f = met-found text h at s (λ w. d (p ∙ w)) in
     due-met text at s to e f ∙ ap (fate text to) (sym (p ∙ met-yes text h at s f))
 
 pub due-lost : (text : List ℕ) → length text < 2 ^ 63 → (at : ℕ) (s : List ℕ) (to : State) (r : ℕ) → isLine s ≡ true

@@ -106,18 +106,18 @@ module _ (t : List ℕ) (h : length t < 2 ^ 63) where
       go false = rw lost-none
 
   -- a place met, or lost
-  pub met-found : (at : ℕ) (x : ℕ) (s : List ℕ) → (metAt t at (x ∷ s) ≡ lost → ⊥) → begins (x ∷ s) (drop at t) ≡ true
-  met-found at x s d = go (begins (x ∷ s) (drop at t)) refl
+  pub met-found : (at : ℕ) (s : List ℕ) → (metAt t at s ≡ lost → ⊥) → begins s (drop at t) ≡ true
+  met-found at s d = go (begins s (drop at t)) refl
     where
-      go : (q : Bool) → begins (x ∷ s) (drop at t) ≡ q → q ≡ true
+      go : (q : Bool) → begins s (drop at t) ≡ q → q ≡ true
       go true e = refl
-      go false e = absurd (d (met-no at (x ∷ s) e))
+      go false e = absurd (d (met-no at s e))
 
-  pub met-missed : (at : ℕ) (x : ℕ) (s : List ℕ) → metAt t at (x ∷ s) ≡ lost → begins (x ∷ s) (drop at t) ≡ false
-  met-missed at x s d = go (begins (x ∷ s) (drop at t)) refl
+  pub met-missed : (at : ℕ) (s : List ℕ) → 1 ≤ length s → metAt t at s ≡ lost → begins s (drop at t) ≡ false
+  met-missed at s l d = go (begins s (drop at t)) refl
     where
-      go : (q : Bool) → begins (x ∷ s) (drop at t) ≡ q → q ≡ false
-      go true e = absurd (omega (arith, lost-is, met-yes at (x ∷ s) e, begins-length (x ∷ s) (drop at t) e, length-drop at t))
+      go : (q : Bool) → begins s (drop at t) ≡ q → q ≡ false
+      go true e = absurd (omega (arith, lost-is, met-yes at s e, begins-length s (drop at t) e, length-drop at t))
       go false e = refl
 
   -- the same as a test of the place that was answered

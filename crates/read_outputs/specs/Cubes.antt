@@ -141,7 +141,7 @@ module _ (text : List ℕ) (h : length text < 2 ^ 63) (n from : ℕ) where
       → to ≡ metAt text (from + n) (cubeLine []) → (to ≡ lost → ⊥) → Cubed text n from (Is m v to)
   unfolding Cubed
   cube-there good m v to e f g d =
-      let q = met-found text h (from + n) 32 (49 ∷ 10 ∷ []) (λ w. d (g ∙ w)) in
+      let q = met-found text h (from + n) (32 ∷ 49 ∷ 10 ∷ []) (λ w. d (g ∙ w)) in
       let p : to ≡ from + n + 3 = g ∙ met-yes text h (from + n) (cubeLine []) q in
       rw p (there good q m v e f)
 
@@ -180,7 +180,7 @@ module _ (text : List ℕ) (h : length text < 2 ^ 63) (n from : ℕ) where
 
   pub no-end : metAt text (from + n) (cubeLine []) ≡ lost → Cubed text n from None
   no-end e =
-      none (λ f. not-both (begins (cubeLine []) (drop (from + n) text)) (sound f .1) (met-missed text h (from + n) 32 (49 ∷ 10 ∷ []) e))
+      none (λ f. not-both (begins (cubeLine []) (drop (from + n) text)) (sound f .1) (met-missed text h (from + n) (32 ∷ 49 ∷ 10 ∷ []) (omega arith) e))
 
 -- ---- the sums, symbol by symbol
 

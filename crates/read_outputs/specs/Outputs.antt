@@ -21,8 +21,8 @@ use Rattle.read_laws.specs.Tests.{equal-same, equal-true}
 use Rattle.put_bytes.specs.Puts.{sets-append}
 use Rattle.model_laws.specs.Spaced.{spaced-append, spaced-one}
 use Rattle.model_laws.specs.WordLines.{isLine, y-word, z-word, words-more, words-tab, word-line}
-use Rattle.read_names.specs.Met.{begins, metAt, lost, begins-length, met-yes}
-use Rattle.read_names.specs.Fate.{front-begins, line-found, line-missed, Fate, Stopped, fate, fate-met, fate-next, fate-stop, fate-whole, fate-over, stop-after}
+use Rattle.read_names.specs.Met.{begins, metAt, lost, begins-length, met-yes, met-found}
+use Rattle.read_names.specs.Fate.{front-begins, line-missed, Fate, Stopped, fate, fate-met, fate-next, fate-stop, fate-whole, fate-over, stop-after}
 use Rattle.read_outputs.specs.declared.Outputs.{Outputs}
 use Rattle.read_outputs.specs.declared.Outputs.the-variants.{All, Broken}
 use Rattle.read_outputs.specs.Cubes.{CubeLine}
@@ -193,7 +193,7 @@ module _ (text : List ℕ) (h : length text < 2 ^ 63) (at total r : ℕ) (g : r 
 
   module _ (d : r ≡ lost → ⊥) where
     met : begins lastLine (drop at text) ≡ true
-    met = line-found text h at lastLine last-is-line (λ w. d (g ∙ w))
+    met = met-found text h at lastLine (λ w. d (g ∙ w))
 
     place : r ≡ at + 5
     unfolding spaced
@@ -217,7 +217,7 @@ module _ (text : List ℕ) (h : length text < 2 ^ 63) (n k : ℕ) where
   unfolding step
   output-first from c m v r e d =
       let s = namesLine (outputCover n 0 []) in
-      let f : begins s (drop from text) ≡ true = line-found text h from s (head-is-line n 0) (λ w. d (e ∙ w)) in
+      let f : begins s (drop from text) ≡ true = met-found text h from s (λ w. d (e ∙ w)) in
       record {
         outputs = [];
         size = refl;
@@ -277,7 +277,7 @@ module _ (text : List ℕ) (h : length text < 2 ^ 63) (n k : ℕ) where
       unfolding head
       output-next c' e r g d =
           let s = namesLine (outputCover n (j + 1) []) in
-          let f : begins s (drop past text) ≡ true = line-found text h past s (head-is-line n (j + 1)) (λ w. d (g ∙ w)) in
+          let f : begins s (drop past text) ≡ true = met-found text h past s (λ w. d (g ∙ w)) in
           let w = met-within text past s (omega arith) f in
           record {
             outputs = next;

@@ -34,7 +34,7 @@ returns c =
     let a = c .before .before .before .before .before .args in
     sym
     (first-is (a .n) (copyAt (now (a .text)) (a .at) (a .i)) (l .a) (l .inv .0) (l .inv .1)
-    (λ q. met-found (now (a .text)) (omega arith) (a .at) 32 (xName (l .a) ++ (32 ∷ zName (a .i) ++ (10 ∷ []))) (λ d. c .if1 .taken (c .before .meet-last .ensures ∙ d ∙ lost-is))))
+    (λ q. met-found (now (a .text)) (omega arith) (a .at) (32 ∷ xName (l .a) ++ (32 ∷ zName (a .i) ++ (10 ∷ []))) (λ d. c .if1 .taken (c .before .meet-last .ensures ∙ d ∙ lost-is))))
 
 add-a : tie.Need-add-a Inv-loop μ-loop
 add-a c = search needs
@@ -48,7 +48,7 @@ loop-again c =
     let a = c .before .before .before .before .before .args in (
       omega arith,
       below-more (λ j. copyAt (now (a .text)) (a .at) (a .i) j ≡ false) (l .a) (l .inv .1)
-          (met-missed (now (a .text)) (omega arith) (a .at) 32 (xName (l .a) ++ (32 ∷ zName (a .i) ++ (10 ∷ []))) (sym (c .before .meet-last .ensures) ∙ c .if1 .left ∙ sym lost-is)),
+          (met-missed (now (a .text)) (omega arith) (a .at) (32 ∷ xName (l .a) ++ (32 ∷ zName (a .i) ++ (10 ∷ []))) (omega arith) (sym (c .before .meet-last .ensures) ∙ c .if1 .left ∙ sym lost-is)),
     )
 
 returns-2 : tie.Need-returns-2 Inv-loop μ-loop
