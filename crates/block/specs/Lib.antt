@@ -1,4 +1,5 @@
--- The meaning of 01, one file for each of its sections, in their order. Laws about it stand in other crates.
+-- The meaning of 01, one file for each of its sections, in their order, and of models in BLIF (02, Ticket 4): `Covers`, `Model`, `ModelRead`.
+-- Laws about it stand in other crates.
 pub mod Limits
 pub mod Words
 pub mod Measure

@@ -5,6 +5,7 @@
 // what is said of a model by `read_model` and `model_value` of the crate models; no contract says which bytes the system reads and writes.
 // A read or a write that fails is told on standard error; where a read fails nothing is printed, since the text is not known.
 use block::LIST_INPUTS;
+use block::LIST_POINTS;
 use block::MODEL_ROOM;
 use block::ModelAnswer;
 use block::OUTPUTS;
@@ -22,7 +23,7 @@ ghost use Rattle.io.specs.Counts.{Counts};
 // has four bytes.
 const MODEL_BYTES: usize = 262144;
 
-const MODEL_PATTERNS: usize = 65536;
+const MODEL_PATTERNS: usize = MODEL_BYTES / 4;
 
 // What was read: how many bytes, and whether a read failed.
 struct Input {
@@ -139,7 +140,7 @@ struct Point {
 
 // A number with one digit more. It stays above every point once it is.
 fn grown(x: usize, digit: usize) -> usize {
-    if 65536 < x {
+    if LIST_POINTS < x {
         return x;
     }
     std::num::wrapping_add_usize(x * 10, digit)
