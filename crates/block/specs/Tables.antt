@@ -4,6 +4,7 @@ use mathlib.Core.Bool.{not, _||_}
 use mathlib.Core.List.{List, [], _∷_}
 use Prim.Native.Nat.{ℕ, _^_}
 use lib.Dec.{eqb, ltb}
+use lib.IntN.{ℤ, pos}
 use lib.ListN.{length}
 use Rattle.slices.specs.Places.{at, tab}
 use Rattle.block.specs.Limits.{tableInputs}
@@ -71,3 +72,22 @@ restoreVerdict n k y sigma table room =
 -- the block at x is the smaller block at sigma x
 unfoldable pub restored : ℕ → List ℕ → List ℕ → List ℕ
 restored n sigma table = tab (2 ^ n) (λ x. ofTable table (apply (at sigma) n x))
+
+-- ---- R at every t, by the spectrum (02, Ticket 5): 1, 2, 3 (y), 4, 5, 6; roomValues and roomWorking are the lengths of the lent storage
+-- ("result room or lent signed working room below 2^n entries is 5")
+
+unfoldable pub spectrumVerdict : ℕ → ℕ → ℕ → List ℕ → ℕ → ℕ → Answer
+spectrumVerdict n k y table roomValues roomWorking =
+    verdict (typedChecks tableInputs n k y (
+    check (not (eqb (length table) (2 ^ n))) 4 0 0
+    ∷ check (ltb roomValues (2 ^ n) || ltb roomWorking (2 ^ n)) 5 0 0
+    ∷ malformed 0 (badEntry (missing y) k) table
+    ∷ []))
+
+-- R at 0, 1, .. 2^n - 1 ("the same R at every t as the counting definition")
+unfoldable pub shiftValues : (ℕ → ℕ) → ℕ → List ℕ
+shiftValues f n = tab (2 ^ n) (shift f n)
+
+-- the working entries at the end ("the 2^n working entries end at 0")
+unfoldable pub workingEnd : ℕ → List ℤ
+workingEnd n = tab (2 ^ n) (λ _. pos 0)

@@ -1,12 +1,12 @@
 -- Laws of listed values, and of a lent list that a loop overwrites from the front. Assumes nothing.
 use mathlib.Core.Path.{_≡_, refl, sym, ap, ap₂, _∙_}
-use mathlib.Core.List.{List, [], _∷_, _++_, append-assoc, map}
+use mathlib.Core.List.{List, [], _∷_, _++_, append-nil, append-assoc, map}
 use Prim.Native.Nat.{ℕ, zero, suc, _+_, _-_, _≤_, _<_}
 use native.Mathlib.Decide.{decLt}
 use native.Mathlib.Numerals.{add-one}
 use native.Mathlib.Omega.{arith}
 use lib.ListN.{length, getD, drop, set, length-append, length-drop, List·getD-append, length-map, List·getD-map}
-use lib.Seq.{set-at, drop-cons, drop-at, ext-getD, getD-append-add, getD-drop}
+use lib.Seq.{set-at, drop-cons, drop-at, drop-length, ext-getD, getD-append-add, getD-drop}
 use Rattle.slices.specs.Places.{tab, at, over}
 
 pub length-tab {ℓ} : {A : Type ℓ} (m : ℕ) (f : ℕ → A) → length (tab m f) ≡ m
@@ -72,6 +72,17 @@ over-beyond m f l d i h =
     let g : m + (i - m) ≡ i = omega arith in
     ap (λ k. getD k i d) (over-tab m f l) ∙ ap (λ (j : ℕ). getD (tab m f ++ drop m l) j d) e
     ∙ getD-append-add (tab m f) (drop m l) (i - m) d ∙ getD-drop m l (i - m) d ∙ ap (λ (j : ℕ). getD l j d) g
+
+-- stored over the whole of a list, nothing of it is left
+pub over-whole {ℓ} : {A : Type ℓ} (m : ℕ) (f : ℕ → A) (l : List A) → length l ≡ m → over (tab m f) l ≡ tab m f
+over-whole m f l e = over-tab m f l ∙ ap (λ k. tab m f ++ k) none ∙ append-nil (tab m f)
+  where
+    none : drop m l ≡ []
+    none = rw (sym e) (drop-length l)
+
+-- stored as a part that ends at j, it is stored at the front
+pub over-part {ℓ} : {A : Type ℓ} (m j : ℕ) (f : ℕ → A) (k l : List A) → k ≡ tab m f → j ≡ m → k ++ drop j l ≡ over (tab m f) l
+over-part m j f k l e d = ap₂ (λ s (i : ℕ). s ++ drop i l) e d ∙ sym (over-tab m f l)
 
 -- what was stored is read off the front
 pub tab-front {ℓ} : {A : Type ℓ} (m : ℕ) (x l : List A) (d : A) → length x ≡ m → tab m (λ i. getD (over x l) i d) ≡ x

@@ -1,0 +1,33 @@
+-- One output word's points, the next word, and numbers that 2^n divides. Not here: laws. Assumes nothing.
+use mathlib.Core.Path.{_≡_}
+use mathlib.Core.List.{List}
+use Prim.Native.Nat.{ℕ, _%_, _≤_, _<_, _^_}
+use lib.Dec.{eqb}
+use lib.IntN.{ℤ, pos, natAbs}
+use lib.ListN.{length}
+use Rattle.slices.specs.Places.{at}
+use Rattle.sums.specs.Sums.{one}
+use Rattle.walsh_laws.specs.Walsh.{mostNumber}
+use Rattle.walsh_laws.specs.Passes.{val}
+
+-- 1 at the points with the word u, and else 0
+abbrev pub marks : (ℕ → ℕ) → ℕ → ℕ → ℕ
+marks f u x = one (eqb (f x) u)
+
+-- z is the smaller of r and w, or r where w is below u
+pub record Nearer (w u r z : ℕ) : Type 0 where
+  pub most : z ≤ r
+  pub least : u ≤ w → z ≤ w
+  pub from : u ≤ r → u ≤ z
+
+-- r is at least u, and no entry lies between the two; 65,535 where there is none
+pub record Next (table : List ℕ) (u r : ℕ) : Type 0 where
+  pub from : u ≤ r
+  pub most : r ≤ 65535
+  pub least : (x : ℕ) → x < length table → u ≤ at table x → r ≤ at table x
+
+-- numbers that are not negative, multiples of 2^n, and within 2^24
+pub record Exact (l : List ℤ) (n : ℕ) : Type 0 where
+  pub whole : (x : ℕ) → x < 2 ^ n → val l x ≡ pos (natAbs (val l x))
+  pub divides : (x : ℕ) → x < 2 ^ n → natAbs (val l x) % 2 ^ n ≡ 0
+  pub small : (x : ℕ) → x < 2 ^ n → natAbs (val l x) ≤ mostNumber

@@ -1,0 +1,80 @@
+// The work on one output word before and after its transforms (02, Ticket 5): which word comes next, its points, and the exact division
+// by 2^n. Every function here is inner: the transforms stand in walsh, the sum over the words in spectrum_work.
+ghost use mathlib.Core.Path.{_≡_};
+ghost use Prim.Native.Nat.{ℕ, _+_, _*_, _/_, _%_, _≤_, _<_, _^_};
+ghost use lib.Dec.{eqb};
+ghost use lib.IntN.{pos, natAbs};
+ghost use lib.ListN.{length};
+ghost use Rattle.slices.specs.Places.{at, tab};
+ghost use Rattle.sums.specs.Sums.{one};
+ghost use Rattle.block.specs.Limits.{tableInputs};
+ghost use Rattle.walsh_laws.specs.Walsh.{mostPoints};
+ghost use Rattle.walsh_laws.specs.Passes.{val};
+ghost use Rattle.spectrum_words.specs.Words.{marks, Exact, Nearer, Next};
+
+// Of r and w the smaller one, but r where w is below u.
+fn nearer(w: u16, u: u16, r: u16) -> u16
+    ensures { λ z. ⌜ Nearer w u r z ⌝ }
+{
+    if u <= w {
+        if w < r {
+            return w;
+        }
+    }
+    r
+}
+
+// The least entry that is not below u, 65,535 where there is none.
+pub fn next_word(table: &[u16], u: u16) -> u16
+    ensures { λ r. ⌜ Next (now (table .entry)) u r ⌝ }
+{
+    let mut r: u16 = 65535;
+    let mut x: usize = 0;
+    while x < table.len() {
+        r = nearer(table[x], u, r);
+        x += 1;
+    }
+    r
+}
+
+// 1 where the two words are equal, and else 0.
+fn mark(w: u16, u: u16) -> i32
+    ensures { λ r. ⌜ r ≡ pos (one (eqb w u)) ⌝ }
+{
+    if w == u { 1 } else { 0 }
+}
+
+// A 1 at each point with the word u, and else 0.
+pub fn put_marks(table: &[u16], u: u16, s: &mut [i32])
+    requires { ⌜ length (now table) ≡ length (now s) ⌝ }
+    ensures { λ _. ⌜ now (s .exit) ≡ tab (length (now (s .entry))) (λ x. pos (marks (at (now (table .entry))) u x)) ⌝ }
+{
+    let mut x: usize = 0;
+    while x < s.len() {
+        s[x] = mark(table[x], u);
+        x += 1;
+    }
+}
+
+// A number that is not negative divided by one that divides it.
+fn exact_quotient(a: i32, d: i32) -> u32
+    requires { ⌜ (a ≡ pos (natAbs a)) × (d ≡ pos (natAbs d)) × (0 < natAbs d) × (natAbs a % natAbs d ≡ 0) ⌝ }
+    ensures { λ r. ⌜ r * natAbs d ≡ natAbs a ⌝ }
+{
+    (a / d) as u32
+}
+
+// Each number divided by 2^n, which divides it, and added to the result; the numbers end at 0.
+pub fn add_quotients(s: &mut [i32], n: usize, out: &mut [u32])
+    requires { ⌜ (length (now s) ≡ 2 ^ n) × (length (now out) ≡ 2 ^ n) × (n ≤ tableInputs) × Exact (now s) n × ((t : ℕ) → t < 2 ^ n → at (now out) t ≤ mostPoints) ⌝ }
+    ensures { λ _. ⌜ (now (s .exit) ≡ tab (2 ^ n) (λ _. pos 0)) × (now (out .exit) ≡ tab (2 ^ n) (λ t. at (now (out .entry)) t + natAbs (val (now (s .entry)) t) / 2 ^ n)) ⌝ }
+{
+    let size = s.len() as i32;
+    let mut t: usize = 0;
+    while t < s.len() {
+        let a = s[t];
+        out[t] += exact_quotient(a, size);
+        s[t] = 0;
+        t += 1;
+    }
+}

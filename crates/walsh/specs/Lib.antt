@@ -1,0 +1,2 @@
+-- What the inner functions' contracts name.
+pub mod Numbers
