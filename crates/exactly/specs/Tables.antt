@@ -10,7 +10,7 @@ use Rattle.slices.specs.Places.{at}
 use Rattle.block.specs.Limits.{tableInputs}
 use Rattle.block.specs.Words.{missing}
 use Rattle.block.specs.Refusals.{badEntry, badNumber}
-use Rattle.block.specs.Tables.{tableValueVerdict, tableMethodVerdict, restoreVerdict}
+use Rattle.block.specs.Tables.{tableValueVerdict, tableMethodVerdict, restoreVerdict, spectrumVerdict}
 use Rattle.exactly.specs.General.{Reason, placed, plain, done, _also_, Exactly, decided-exactly}
 use Rattle.exactly.specs.Conditions.{
   lt-says,
@@ -103,4 +103,25 @@ restore-exactly n k y sigma table room =
     also malformed-decided 1 (badNumber n) (MalformedNumber n) sigma (number-says n)
     also malformed-decided 0 (badEntry (missing y) k) (MalformedEntry (missing y) k) table (entry-says (missing y) k)
     also dependent-decided n (at sigma)
+    also done))
+
+-- ---- R at every t, by the spectrum
+
+unfoldable pub spectrumReasons : ℕ → ℕ → ℕ → List ℕ → ℕ → ℕ → List Reason
+spectrumReasons n k y table roomValues roomWorking =
+    typedReasons tableInputs n k y
+    (plain 4 (length table ≡ 2 ^ n → ⊥)
+    ∷ plain 5 ((roomValues < 2 ^ n) ⊎ (roomWorking < 2 ^ n))
+    ∷ entryReason (missing y) k table
+    ∷ [])
+
+pub spectrum-exactly : (n k y : ℕ) (table : List ℕ) (roomValues roomWorking : ℕ)
+    → Exactly (spectrumReasons n k y table roomValues roomWorking) (spectrumVerdict n k y table roomValues roomWorking)
+unfolding spectrumReasons spectrumVerdict
+spectrum-exactly n k y table roomValues roomWorking =
+    decided-exactly _ _
+    (typed-decided tableInputs n k y
+    (plain-decided 4 (λ e. omega arith) (ne-says (length table) (2 ^ n))
+    also plain-decided 5 (λ e. omega arith) (or-says (lt-says roomValues (2 ^ n)) (lt-says roomWorking (2 ^ n)))
+    also malformed-decided 0 (badEntry (missing y) k) (MalformedEntry (missing y) k) table (entry-says (missing y) k)
     also done))

@@ -15,7 +15,7 @@ use importing::Imported;
 ghost use Rattle.block.specs.Words.{rowsOf};
 ghost use Rattle.block.specs.ModelRead.{patternsFlat};
 ghost use Rattle.promises.specs.Lent.{lentFlat, lentRecords};
-ghost use Rattle.promises.specs.Tables.{TableValuePromise, TableMethodPromise, RestorePromise};
+ghost use Rattle.promises.specs.Tables.{TableValuePromise, TableMethodPromise, RestorePromise, SpectrumPromise};
 ghost use Rattle.promises.specs.Lists.{RowValuePromise, RowMethodPromise, FillPromise};
 ghost use Rattle.promises.specs.Texts.{WritePromise, ReadPromise};
 ghost use Rattle.promises.specs.Sheets.{SheetPromise, PrintPromise};
@@ -66,6 +66,21 @@ pub extern "C" fn irwystl_restore_table(
     ensures { λ r. ⌜ RestorePromise n k «block_type» (now (sigma .entry)) (now (smaller .entry)) (now (table .entry)) r (now (table .exit)) ⌝ }
 {
     tables::restore_table(n, k, block_type, sigma, smaller, table)
+}
+
+#[no_mangle]
+pub extern "C" fn irwystl_table_spectrum(
+    n: usize,
+    k: usize,
+    block_type: usize,
+    table: &[u16],
+    values: &mut [u32],
+    working: &mut [i32],
+) -> Answer
+    ensures { λ r. ⌜ SpectrumPromise n k «block_type» (now (table .entry)) (now (values .entry)) (now (working .entry)) r
+        (now (values .exit)) (now (working .exit)) ⌝ }
+{
+    spectrum::table_spectrum(n, k, block_type, table, values, working)
 }
 
 // ---- rows in three flat slices

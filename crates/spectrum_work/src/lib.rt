@@ -8,52 +8,54 @@ ghost use Rattle.slices.specs.Places.{at, tab, over};
 ghost use Rattle.block.specs.Limits.{tableInputs};
 ghost use Rattle.block.specs.Words.{ofTable};
 ghost use Rattle.block.specs.Measure.{shift};
+ghost use Rattle.block.specs.Tables.{shiftValues, workingEnd};
 ghost use Rattle.walsh_laws.specs.Walsh.{auto, mostPoints};
 ghost use Rattle.spectrum_words.specs.Words.{marks};
 
 // What the points with the word u add to R, at every t. The working numbers end at 0.
-fn add_word(table: &[u16], n: usize, u: u16, work: &mut [i32], out: &mut [u32])
-    requires { ⌜ (length (now table) ≡ 2 ^ n) × (length (now work) ≡ 2 ^ n) × (length (now out) ≡ 2 ^ n) × (n ≤ tableInputs) × ((t : ℕ) → t < 2 ^ n → at (now out) t ≤ mostPoints) ⌝ }
-    ensures { λ _. ⌜ (now (work .exit) ≡ tab (2 ^ n) (λ _. pos 0)) × (now (out .exit) ≡ tab (2 ^ n) (λ t. at (now (out .entry)) t + auto (marks (at (now (table .entry))) u) n t)) ⌝ }
+fn add_word(table: &[u16], n: usize, u: u16, working: &mut [i32], values: &mut [u32])
+    requires { ⌜ (length (now table) ≡ 2 ^ n) × (length (now working) ≡ 2 ^ n) × (length (now values) ≡ 2 ^ n) × (n ≤ tableInputs) × ((t : ℕ) → t < 2 ^ n → at (now values) t ≤ mostPoints) ⌝ }
+    ensures { λ _. ⌜ (now (working .exit) ≡ tab (2 ^ n) (λ _. pos 0)) × (now (values .exit) ≡ tab (2 ^ n) (λ t. at (now (values .entry)) t + auto (marks (at (now (table .entry))) u) n t)) ⌝ }
 {
-    spectrum_words::put_marks(table, u, work);
-    walsh::transform(work, n);
-    walsh::square(work);
-    walsh::transform(work, n);
-    spectrum_words::add_quotients(work, n, out);
+    spectrum_words::put_marks(table, u, working);
+    walsh::transform(working, n);
+    walsh::square(working);
+    walsh::transform(working, n);
+    spectrum_words::add_quotients(working, n, values);
 }
 
 // Zeros in both.
-fn clear(work: &mut [i32], out: &mut [u32])
-    requires { ⌜ length (now work) ≡ length (now out) ⌝ }
-    ensures { λ _. ⌜ (now (work .exit) ≡ tab (length (now (work .entry))) (λ _. pos 0)) × (now (out .exit) ≡ tab (length (now (out .entry))) (λ _. 0)) ⌝ }
+fn clear(working: &mut [i32], values: &mut [u32])
+    requires { ⌜ length (now working) ≡ length (now values) ⌝ }
+    ensures { λ _. ⌜ (now (working .exit) ≡ tab (length (now (working .entry))) (λ _. pos 0)) × (now (values .exit) ≡ tab (length (now (values .entry))) (λ _. 0)) ⌝ }
 {
     let mut x: usize = 0;
-    while x < work.len() {
-        work[x] = 0;
-        out[x] = 0;
+    while x < working.len() {
+        working[x] = 0;
+        values[x] = 0;
         x += 1;
     }
 }
 
 // R at every t, over as much room as the table has entries. 65,535, no output, is no word and comes after all of them.
-fn add_words(table: &[u16], n: usize, work: &mut [i32], out: &mut [u32])
-    requires { ⌜ (length (now table) ≡ 2 ^ n) × (length (now work) ≡ 2 ^ n) × (length (now out) ≡ 2 ^ n) × (n ≤ tableInputs) ⌝ }
-    ensures { λ _. ⌜ (now (work .exit) ≡ tab (2 ^ n) (λ _. pos 0)) × (now (out .exit) ≡ tab (2 ^ n) (shift (ofTable (now (table .entry))) n)) ⌝ }
+fn add_words(table: &[u16], n: usize, working: &mut [i32], values: &mut [u32])
+    requires { ⌜ (length (now table) ≡ 2 ^ n) × (length (now working) ≡ 2 ^ n) × (length (now values) ≡ 2 ^ n) × (n ≤ tableInputs) ⌝ }
+    ensures { λ _. ⌜ (now (working .exit) ≡ tab (2 ^ n) (λ _. pos 0)) × (now (values .exit) ≡ tab (2 ^ n) (shift (ofTable (now (table .entry))) n)) ⌝ }
 {
-    clear(work, out);
+    clear(working, values);
     let mut u = spectrum_words::next_word(table, 0);
     while u < 65535 {
-        add_word(table, n, u, work, out);
+        add_word(table, n, u, working, values);
         u = spectrum_words::next_word(table, u + 1);
     }
 }
 
-// R at every t, at the front of the room `out`. The 2^n working numbers end at 0; what lies beyond in either room holds what it held.
-pub fn put_shifts(table: &[u16], n: usize, work: &mut [i32], out: &mut [u32])
-    requires { ⌜ (length (now table) ≡ 2 ^ n) × (n ≤ tableInputs) × (2 ^ n ≤ length (now work)) × (2 ^ n ≤ length (now out)) ⌝ }
-    ensures { λ _. ⌜ (now (work .exit) ≡ over (tab (2 ^ n) (λ _. pos 0)) (now (work .entry))) × (now (out .exit) ≡ over (tab (2 ^ n) (shift (ofTable (now (table .entry))) n)) (now (out .entry))) ⌝ }
+// R at every t, at the front of the room `values`. The 2^n working numbers end at 0; what lies beyond in either room holds what it held.
+pub fn put_shifts(table: &[u16], n: usize, values: &mut [u32], working: &mut [i32])
+    requires { ⌜ (length (now table) ≡ 2 ^ n) × (n ≤ tableInputs) × (2 ^ n ≤ length (now values)) × (2 ^ n ≤ length (now working)) ⌝ }
+    ensures { λ _. ⌜ (now (values .exit) ≡ over (shiftValues (ofTable (now (table .entry))) n) (now (values .entry)))
+        × (now (working .exit) ≡ over (workingEnd n) (now (working .entry))) ⌝ }
 {
     let size = table.len();
-    add_words(table, n, &mut work[..size], &mut out[..size]);
+    add_words(table, n, &mut working[..size], &mut values[..size]);
 }

@@ -11,7 +11,7 @@ use Rattle.slices.specs.Places.{at}
 use Rattle.block.specs.Limits.{tableInputs, outputs}
 use Rattle.block.specs.Words.{fr, fd, missing}
 use Rattle.block.specs.Refusals.{verdict, outside, badEntry, badNumber}
-use Rattle.block.specs.Tables.{tableValueVerdict, tableMethodVerdict}
+use Rattle.block.specs.Tables.{tableValueVerdict, tableMethodVerdict, spectrumVerdict}
 use Rattle.block.specs.declared.Answer.{Answer}
 use Rattle.shared_checks.specs.Sizes.{inside, or-left, or-right, long-enough, sizes-pass}
 use Rattle.table_checks.specs.Restoring.{restoreChecked}
@@ -82,6 +82,26 @@ module _ (n k y w : ℕ) (table : List ℕ) (roomT roomSigma roomTable : ℕ) (v
       let whole = passes _ _ refl (weight .1) in
       let lent = passes _ _ refl (whole .1) in
       passes-none (length table) (λ i. badEntry (missing y) k (at table i)) (passes _ _ refl (lent .1) .0)
+
+pub record SpectrumPassed (n : ℕ) (table : List ℕ) (roomValues roomWorking : ℕ) : Type 0 where
+  pub inputs : n ≤ tableInputs
+  pub entries : length table ≡ 2 ^ n
+  pub values : 2 ^ n ≤ roomValues
+  pub working : 2 ^ n ≤ roomWorking
+
+pub spectrum-passed : (n k y : ℕ) (table : List ℕ) (roomValues roomWorking : ℕ) (v : Answer)
+    → v ≡ spectrumVerdict n k y table roomValues roomWorking → v .number ≡ 0 → SpectrumPassed n table roomValues roomWorking
+unfolding spectrumVerdict
+spectrum-passed n k y table roomValues roomWorking v e h =
+    let sizes = sizes-pass tableInputs n k y _ (zero-too e h) in
+    let whole = passes _ _ refl (sizes .1) in
+    let lent = passes _ _ refl (whole .1) in
+    record {
+      inputs = sizes .0 .0 .1;
+      entries = eqb-true (length table) (2 ^ n) (not-false (eqb (length table) (2 ^ n)) (whole .0));
+      values = ltb-false roomValues (2 ^ n) (or-left (ltb roomValues (2 ^ n)) (ltb roomWorking (2 ^ n)) (lent .0));
+      working = ltb-false roomWorking (2 ^ n) (or-right (ltb roomValues (2 ^ n)) (ltb roomWorking (2 ^ n)) (lent .0));
+    }
 
 pub record RestorePassed (n : ℕ) (sigma table : List ℕ) (room : ℕ) : Type 0 where
   pub inputs : n ≤ tableInputs

@@ -6,13 +6,13 @@ ghost use mathlib.Core.Path.{_≡_};
 ghost use mathlib.Core.Bool.{not, _||_};
 ghost use mathlib.Core.List.{[], _∷_};
 ghost use Prim.Native.Nat.{_≤_};
-ghost use lib.Dec.{eqb};
+ghost use lib.Dec.{eqb, ltb};
 ghost use lib.ListN.{length};
 ghost use Rattle.slices.specs.Places.{at, first};
 ghost use Rattle.block.specs.Limits.{listInputs, outputs};
 ghost use Rattle.block.specs.Words.{missing};
 ghost use Rattle.block.specs.Refusals.{verdict, andThen, badEntry, badNumber, malformed};
-ghost use Rattle.block.specs.Tables.{tableValueVerdict, tableMethodVerdict};
+ghost use Rattle.block.specs.Tables.{tableValueVerdict, tableMethodVerdict, spectrumVerdict};
 ghost use Rattle.table_checks.specs.Restoring.{restoreChecked};
 
 // Whether a table entry is neither below 2^k nor the word of a missing point.
@@ -120,6 +120,35 @@ pub fn table_method_verdict(
     let weight = shared_checks::then_where(sizes, shared_checks::is_outside(1, n, w), 3, 0, 0);
     let whole = shared_checks::then_where(weight, table.len() != size, 4, 0, 0);
     let short = shared_checks::is_short(n, room_t, room_sigma, size, room_table);
+    let lent = shared_checks::then_where(whole, short, 5, 0, 0);
+    then_entries(lent, k, block_type, table)
+}
+
+// Whether one of two lent rooms has fewer than `size` entries.
+pub fn is_either_short(size: usize, first: usize, second: usize) -> bool
+    ensures { λ r. ⌜ r ≡ ltb first size || ltb second size ⌝ }
+{
+    if first < size {
+        return true;
+    }
+    second < size
+}
+
+// The verdict on R at every t, by the spectrum.
+pub fn spectrum_verdict(
+    n: usize,
+    k: usize,
+    block_type: usize,
+    table: &[u16],
+    room_values: usize,
+    room_working: usize,
+) -> Answer
+    ensures { λ r. ⌜ r ≡ spectrumVerdict n k «block_type» (now (table .entry)) «room_values» «room_working» ⌝ }
+{
+    let sizes = shared_checks::sizes(TABLE_INPUTS, n, k, block_type);
+    let size = shared_checks::size_of(n);
+    let whole = shared_checks::then_where(sizes, table.len() != size, 4, 0, 0);
+    let short = is_either_short(size, room_values, room_working);
     let lent = shared_checks::then_where(whole, short, 5, 0, 0);
     then_entries(lent, k, block_type, table)
 }

@@ -86,7 +86,7 @@ returns c =
       c .before .before .before .add-quotients .ensures .1
           ∙ tab-cong (2 ^ n) _ _
           (λ t h.
-          ap (λ (q : ℕ). at (now (s .args .out)) t + q)
+          ap (λ (q : ℕ). at (now (s .args .values)) t + q)
           (ap (λ l. natAbs (val l t) / 2 ^ n) (multiples (c .before .before .before .before .before .before .before)) ∙ quotient (points s) n (s .pre .3) (bits s) t h)),
     )
 

@@ -14,10 +14,10 @@ use Rattle.spectrum_work.proofs.add_words.Statement.{statement}
 use Rattle.spectrum_work.proofs.add_words.Tie as tie
 
 abbrev Inv-loop : tie.InvT-loop
-Inv-loop table n work₀ out₀ u₀ work out u = (u ≤ 65535) × (work ≡ tab (2 ^ n) (λ _. pos 0)) × (out ≡ tab (2 ^ n) (below (at table) n u))
+Inv-loop table n working₀ values₀ u₀ working values u = (u ≤ 65535) × (working ≡ tab (2 ^ n) (λ _. pos 0)) × (values ≡ tab (2 ^ n) (below (at table) n u))
 
 abbrev μ-loop : tie.MeasureT-loop
-μ-loop table n work₀ out₀ u₀ work out u = 65535 - u
+μ-loop table n working₀ values₀ u₀ working values u = 65535 - u
 
 clear-requires : tie.Need-clear-requires Inv-loop μ-loop
 clear-requires c κs = search needs

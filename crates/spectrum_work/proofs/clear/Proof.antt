@@ -12,25 +12,25 @@ use Rattle.spectrum_work.proofs.clear.Statement.{statement}
 use Rattle.spectrum_work.proofs.clear.Tie as tie
 
 abbrev Inv-loop : tie.InvT-loop
-Inv-loop work₀ out₀ x₀ work out x = (x ≤ length work₀) × (length work ≡ length work₀) × (length out ≡ length out₀) × (work ≡ over (tab x (λ _. pos 0)) work₀) × (out ≡ over (tab x (λ _. 0)) out₀)
+Inv-loop working₀ values₀ x₀ working values x = (x ≤ length working₀) × (length working ≡ length working₀) × (length values ≡ length values₀) × (working ≡ over (tab x (λ _. pos 0)) working₀) × (values ≡ over (tab x (λ _. 0)) values₀)
 
 abbrev μ-loop : tie.MeasureT-loop
-μ-loop work₀ out₀ x₀ work out x = length work₀ - x
+μ-loop working₀ values₀ x₀ working values x = length working₀ - x
 
 loop-holds : tie.Need-loop-holds Inv-loop μ-loop
 loop-holds c = (search needs, search needs, search needs, over-none _ _, over-none _ _)
 
-mul-work : tie.Need-mul-work Inv-loop μ-loop
-mul-work c = search needs
+mul-working : tie.Need-mul-working Inv-loop μ-loop
+mul-working c = search needs
 
-slice-set-of-work : tie.Need-slice-set-of-work Inv-loop μ-loop
-slice-set-of-work c = search needs
+slice-set-of-working : tie.Need-slice-set-of-working Inv-loop μ-loop
+slice-set-of-working c = search needs
 
-mul-out : tie.Need-mul-out Inv-loop μ-loop
-mul-out c = search needs
+mul-values : tie.Need-mul-values Inv-loop μ-loop
+mul-values c = search needs
 
-slice-write-out : tie.Need-slice-write-out Inv-loop μ-loop
-slice-write-out c = search needs
+slice-write-values : tie.Need-slice-write-values Inv-loop μ-loop
+slice-write-values c = search needs
 
 add-x : tie.Need-add-x Inv-loop μ-loop
 add-x c = search needs
@@ -56,10 +56,10 @@ same-length-2 c = search needs
 returns : tie.Need-returns Inv-loop μ-loop
 returns c =
     let a = c .before .before .args in
-    let first : c .before .loop .x ≡ length (now (a .work)) = omega arith in
-    let second : c .before .loop .x ≡ length (now (a .out)) = omega arith in (
-      (rw first at (c .before .loop .inv .3)) ∙ over-whole (length (now (a .work))) (λ _. pos 0) (now (a .work)) refl,
-      (rw second at (c .before .loop .inv .4)) ∙ over-whole (length (now (a .out))) (λ _. 0) (now (a .out)) refl,
+    let first : c .before .loop .x ≡ length (now (a .working)) = omega arith in
+    let second : c .before .loop .x ≡ length (now (a .values)) = omega arith in (
+      (rw first at (c .before .loop .inv .3)) ∙ over-whole (length (now (a .working))) (λ _. pos 0) (now (a .working)) refl,
+      (rw second at (c .before .loop .inv .4)) ∙ over-whole (length (now (a .values))) (λ _. 0) (now (a .values)) refl,
     )
 
 pub clear-spec : {M : Type 1} → statement M
@@ -69,10 +69,10 @@ clear-spec =
     Inv-loop
     μ-loop
     loop-holds
-    mul-work
-    slice-set-of-work
-    mul-out
-    slice-write-out
+    mul-working
+    slice-set-of-working
+    mul-values
+    slice-write-values
     add-x
     loop-less
     loop-again

@@ -6,6 +6,7 @@ use lib.ListN.{length, length-take}
 use denote.Ref.{now}
 use Rattle.block.specs.Words.{ofTable}
 use Rattle.block.specs.Measure.{shift}
+use Rattle.block.specs.Tables.{shiftValues, workingEnd}
 use Rattle.slices.specs.Filled.{over-part}
 use borrow.Author.Needs.{needs}
 use Rattle.spectrum_work.proofs.put_shifts.Statement.{statement}
@@ -35,11 +36,12 @@ same-length-2 : tie.Need-same-length-2
 same-length-2 c = search needs
 
 returns : tie.Need-returns
+unfolding shiftValues workingEnd
 returns c =
     let s = c .before .before .before .before .before .before .before .before in
     let e = c .before .before .before .add-words .ensures in (
-      over-part (2 ^ s .args .n) (length (now (s .args .table))) (λ _. pos 0) _ (now (s .args .work)) (e .0) (s .pre .0),
-      over-part (2 ^ s .args .n) (length (now (s .args .table))) (shift (ofTable (now (s .args .table))) (s .args .n)) _ (now (s .args .out)) (e .1) (s .pre .0),
+      over-part (2 ^ s .args .n) (length (now (s .args .table))) (shift (ofTable (now (s .args .table))) (s .args .n)) _ (now (s .args .values)) (e .1) (s .pre .0),
+      over-part (2 ^ s .args .n) (length (now (s .args .table))) (λ _. pos 0) _ (now (s .args .working)) (e .0) (s .pre .0),
     )
 
 pub put-shifts-spec : {M : Type 1} → statement M
