@@ -1,9 +1,10 @@
-// The program (01, the first section; 02, Ticket 4). It reads row text on standard input, at most 8,192 bytes of it, and prints its sheet
-// with weight limit 3, or n where n is below 3; called with --blif it prints the model in BLIF in the sheet's place. Called with --model it
-// reads a model, and prints "model INPUTS OUTPUTS PATTERNS", or, where a point follows, "word" and the word there. Whatever it can't answer
-// it answers with the one line "refused N A B". What is printed of a list is promised by `print_text` and `print_model` of the crate printing,
-// what is said of a model by `read_model` and `model_value` of the crate models; no contract says which bytes the system reads and writes.
-// A read or a write that fails is told on standard error; where a read fails nothing is printed, since the text is not known.
+// The program (01, the first section; 02, Tickets 4 and 5). It reads row text on standard input, at most 8,192 bytes of it, and prints its
+// sheet with weight limit 3, or n where n is below 3; called with --blif it prints the model in BLIF in the sheet's place, with --shifts R
+// at every t, by the spectrum. Called with --model it reads a model, and prints "model INPUTS OUTPUTS PATTERNS", or, where a point follows,
+// "word" and the word there. Whatever it can't answer it answers with the one line "refused N A B". What is printed of a list is promised by
+// `print_text` and `print_model` of the crate printing, what is said of a model by `read_model` and `model_value` of the crate models; crate
+// shift_lines says by which promises R is said. No contract says which bytes the system reads and writes. A read or a write that fails is
+// told on standard error; where a read fails nothing is printed, since the text is not known.
 use block::LIST_INPUTS;
 use block::LIST_POINTS;
 use block::MODEL_ROOM;
@@ -16,7 +17,9 @@ use libc::STDIN_FILENO;
 use libc::STDOUT_FILENO;
 use saying::part32;
 use saying::say;
+use saying::say_bits;
 use saying::say_number;
+use saying::say_refused;
 ghost use Rattle.io.specs.Counts.{Counts};
 
 // The bytes of a model that are read, which are more than any model that is written has, and the patterns that they can hold: a line of one
@@ -81,8 +84,24 @@ fn print_model(text: &[u8]) {
     print_bytes(&out[..count]);
 }
 
-// Prints what the list on standard input gives.
-fn answer_list(blif: bool) {
+// What is printed of a list.
+enum Due {
+    Sheet,
+    Model,
+    Shifts,
+}
+
+// Prints what is due of a text.
+fn print_due(due: Due, text: &[u8]) {
+    match due {
+        Due::Sheet => print_sheet(text),
+        Due::Model => print_model(text),
+        Due::Shifts => shift_lines::say_shifts(text),
+    }
+}
+
+// Prints what is due of the list on standard input.
+fn answer_list(due: Due) {
     let mut text = [0u8; READ_BYTES];
     let input = read_input(&mut text);
     if input.failed {
@@ -90,20 +109,7 @@ fn answer_list(blif: bool) {
         return;
     }
     let length = input.length;
-    if blif {
-        print_model(&text[..length]);
-    } else {
-        print_sheet(&text[..length]);
-    }
-}
-
-// Says a refusal.
-fn say_refused(number: u32, a: usize, b: usize) {
-    say(b"refused");
-    say_number(number as u64);
-    say_number(a as u64);
-    say_number(b as u64);
-    say(b"\n");
+    print_due(due, &text[..length]);
 }
 
 // Says that a model was read.
@@ -117,18 +123,8 @@ fn say_model(r: ModelAnswer) {
 
 // Says a word of k outputs, highest first.
 fn say_word(k: usize, word: u64) {
-    let mut digits = [48u8; OUTPUTS];
-    let mut rest = word;
-    let mut left = k;
     say(b"word ");
-    if k <= OUTPUTS {
-        while 0 < left {
-            left -= 1;
-            digits[left] = (48 + rest % 2) as u8;
-            rest /= 2;
-        }
-        say(&digits[..k]);
-    }
+    say_bits(k, word);
     say(b"\n");
 }
 
@@ -247,11 +243,15 @@ fn is_called(option: &[u8]) -> bool {
 
 fn main() {
     if os::arg_count() < 2 {
-        answer_list(false);
+        answer_list(Due::Sheet);
         return;
     }
     if is_called(b"--blif") {
-        answer_list(true);
+        answer_list(Due::Model);
+        return;
+    }
+    if is_called(b"--shifts") {
+        answer_list(Due::Shifts);
         return;
     }
     if is_called(b"--model") {

@@ -1,7 +1,7 @@
 // Cases of the operations on tables and lists, run: the arguments are files of data/, one case to a line with the answer due (crate
 // case_lines has the form). A case that is answered otherwise is said with what was answered; at the end stands how many were as due.
-// operations.txt, the two of the order and the two of the types come from a program of another hand, ranges.txt has 01's and 02's blocks
-// to try by hand and the ends of each range. (type_texts.txt has cases of reading, writing and the sheet, which the tests from outside run.)
+// operations.txt, the two of the order, the two of the types and spectrum.txt come from a program of another hand, ranges.txt has 01's and
+// 02's blocks to try by hand and the ends of each range. (type_texts.txt has cases of reading, writing and the sheet, which the tests from outside run.)
 use case_lines::Given;
 use case_lines::HELD;
 use case_lines::HELD_ENTRY;
@@ -14,15 +14,18 @@ use case_lines::every;
 use case_lines::put;
 use case_lines::put_answer;
 use case_lines::put_list;
+use case_lines::put_number;
 use case_lines::put_rows;
 use case_lines::put_table;
 use case_lines::read_given;
 use case_lines::read_numbers;
 use case_lines::read_rooms;
+use case_lines::read_word;
 use libc::STDOUT_FILENO;
 use saying::is_same;
 use saying::part16;
 use saying::part32;
+use saying::room_signed;
 use saying::room16;
 use saying::room32;
 use saying::say;
@@ -214,6 +217,67 @@ fn restore(
     put_table(got, a, &table, result_size(r.number, points(h.n)))
 }
 
+// What the working numbers hold before a call: none of them is 0.
+const HELD_SIGNED: i32 = -559038737;
+
+// Whether R at t is a result: t is a point, and the working number there ended at 0.
+fn is_worked(t: usize, size: usize, left: i32) -> bool {
+    if size <= t {
+        return false;
+    }
+    left == 0
+}
+
+// R at every t. Where a working number was left standing a value is missing, and the case is answered otherwise.
+fn put_values(
+    got: &mut [u64; NUMBERS],
+    at: usize,
+    values: &[u32; NUMBERS],
+    working: &[i32; NUMBERS],
+    size: usize,
+) -> usize
+    requires { ⌜ at ≤ numbersMost ⌝ }
+    ensures { λ r. ⌜ r ≤ numbersMost ⌝ }
+{
+    let mut to = at;
+    for t in 0..NUMBERS {
+        to = put_number(got, to, is_worked(t, size, working[t]), values[t]);
+    }
+    to
+}
+
+// spectrum n k TYPE ROOM_R ROOM_WORK TABLE => N A B R
+fn spectrum_of(
+    h: Given,
+    room_working: usize,
+    numbers: &[u64; NUMBERS],
+    count: usize,
+    got: &mut [u64; NUMBERS],
+) -> usize
+    requires { ⌜ count ≤ numbersMost ⌝ }
+    ensures { λ r. ⌜ r ≤ numbersMost ⌝ }
+{
+    let table = entries(numbers, count);
+    let mut values = [HELD; NUMBERS];
+    let mut working = [HELD_SIGNED; NUMBERS];
+    let r = spectrum::table_spectrum(
+        h.n,
+        h.k,
+        h.block_type,
+        part16(&table, count),
+        room32(&mut values, h.last),
+        room_signed(&mut working, room_working),
+    );
+    let a = put_answer(got, r.number, r.a, r.b);
+    put_values(
+        got,
+        a,
+        &values,
+        &working,
+        result_size(r.number, points(h.n)),
+    )
+}
+
 // Runs the operation of a name on one list: nothing for a name that is none.
 fn run_list(
     name: &[u8],
@@ -268,6 +332,19 @@ fn run_restore(h: Given, text: &[u8], got: &mut [u64; NUMBERS]) -> Part
     Part { count, next }
 }
 
+// Reads the working room and the table of a spectrum, and runs it.
+fn run_spectrum(h: Given, text: &[u8], got: &mut [u64; NUMBERS]) -> Part
+    requires { ⌜ h .next ≤ length (now text) ⌝ }
+    ensures { λ r. ⌜ (r .next ≤ length (now (text .entry))) × (r .count ≤ numbersMost) ⌝ }
+{
+    let room = read_word(text, h.next);
+    let mut numbers = [0u64; NUMBERS];
+    let list = read_numbers(text, room.next, b' ', &mut numbers);
+    let next = list.next;
+    let count = spectrum_of(h, room.value as usize, &numbers, list.count, got);
+    Part { count, next }
+}
+
 // Runs the operation of a name on the arguments from a place on, and gathers what it answers.
 fn run(name: &[u8], text: &[u8], at: usize, got: &mut [u64; NUMBERS]) -> Part
     requires { ⌜ at ≤ length (now text) ⌝ }
@@ -279,6 +356,9 @@ fn run(name: &[u8], text: &[u8], at: usize, got: &mut [u64; NUMBERS]) -> Part
     }
     if is_same(name, b"restore") {
         return run_restore(h, text, got);
+    }
+    if is_same(name, b"spectrum") {
+        return run_spectrum(h, text, got);
     }
     let mut numbers = [0u64; NUMBERS];
     let list = read_numbers(text, h.next, b' ', &mut numbers);

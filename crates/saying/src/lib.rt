@@ -13,6 +13,30 @@ pub fn say_number(x: u64) {
     io::print_decimal(STDOUT_FILENO, x);
 }
 
+// Says a refusal.
+pub fn say_refused(number: u32, a: usize, b: usize) {
+    say(b"refused");
+    say_number(number as u64);
+    say_number(a as u64);
+    say_number(b as u64);
+    say(b"\n");
+}
+
+// Says the lowest bits of a number, as many as asked for but at most 64, the highest first.
+pub fn say_bits(count: usize, bits: u64) {
+    let mut digits = [48u8; 64];
+    let mut rest = bits;
+    let mut left = count;
+    if count <= 64 {
+        while 0 < left {
+            left -= 1;
+            digits[left] = (48 + rest % 2) as u8;
+            rest /= 2;
+        }
+        say(&digits[..count]);
+    }
+}
+
 // Says the program's argument i.
 pub fn say_argument(i: usize) {
     let mut name = io::buffer();
@@ -66,5 +90,9 @@ pub fn room16(s: &mut [u16], n: usize) -> &mut [u16] {
 }
 
 pub fn room32(s: &mut [u32], n: usize) -> &mut [u32] {
+    if n < s.len() { &mut s[..n] } else { s }
+}
+
+pub fn room_signed(s: &mut [i32], n: usize) -> &mut [i32] {
     if n < s.len() { &mut s[..n] } else { s }
 }

@@ -2,8 +2,9 @@
 use mathlib.Core.Path.{_≡_, refl, sym, ap, ap₂, _∙_, subst}
 use mathlib.Core.Bool.{Bool, true, false, not, _&&_}
 use mathlib.Core.List.{List}
-use Prim.Native.Nat.{ℕ, _+_, _*_, _≤_, _<_, _^_}
+use Prim.Native.Nat.{ℕ, zero, suc, _+_, _*_, _≤_, _<_, _^_}
 use native.Mathlib.Decide.{decLt, ℕ-discrete}
+use native.Mathlib.Numerals.{add-one}
 use native.Mathlib.Omega.{arith}
 use borrow.Author.Tests.{eq-eqb, ne-eqb, lt-ltb, le-ltb}
 use lib.Bits.{bitXor, xor-lt}
@@ -12,9 +13,9 @@ use lib.ListN.{length}
 use lib.Pow.{pow-mono}
 use Rattle.slices.specs.Places.{at, tab}
 use Rattle.slices.specs.Filled.{tab-at, tab-cong, getD-any}
-use Rattle.sums.specs.Sums.{one, count}
+use Rattle.sums.specs.Sums.{sum, one, count}
 use Rattle.sums.specs.Laws.{sum-cong, sum-none, sum-add, count-cong, count-le}
-use Rattle.block.specs.Words.{ofTable}
+use Rattle.block.specs.Words.{none, ofTable}
 use Rattle.block.specs.Measure.{same, shift}
 use Rattle.walsh_laws.specs.Walsh.{auto, mostPoints}
 use Rattle.spectrum_words.specs.Words.{marks, Next}
@@ -52,6 +53,13 @@ below-more f n u t =
     sum-cong _ _ (2 ^ n) (λ x h. one-more (f x) (f (bitXor x t)) u)
     ∙ sum-add (λ x. one (ltb (f x) u && eqb (f x) (f (bitXor x t)))) (λ x. one (eqb (f x) u) * one (eqb (f (bitXor x t)) u)) (2 ^ n)
 
+-- all of them so far, word by word
+pub below-words : (f : ℕ → ℕ) (n u t : ℕ) → below f n u t ≡ sum (λ v. auto (marks f v) n t) u
+unfolding sum
+below-words f n zero t = below-none f n t
+below-words f n (suc u) t =
+    ap (λ (v : ℕ). below f n v t) (sym (add-one u)) ∙ below-more f n u t ∙ ap (λ (a : ℕ). a + auto (marks f u) n t) (below-words f n u t)
+
 -- from a word to the next one
 pub below-next : (table : List ℕ) (n u r t : ℕ) → length table ≡ 2 ^ n → Next table u r → below (at table) n u t ≡ below (at table) n r t
 unfolding below alike
@@ -66,28 +74,36 @@ below-next table n u r t e d = count-cong _ _ (2 ^ n) (λ x h. ap (λ b. b && eq
             le-ltb (at table x) u (omega arith)
             ∙ sym (le-ltb (at table x) r (d .least x (omega arith) (omega arith)))
 
--- all words
-pub below-all : (table : List ℕ) (n t : ℕ) → length table ≡ 2 ^ n → t < 2 ^ n → ((x : ℕ) → at table x ≤ 65535)
-    → below (at table) n 65535 t ≡ shift (ofTable table) n t
+-- all words: R, of any block
+pub shift-below : (f : ℕ → ℕ) (n t : ℕ) → t < 2 ^ n → ((x : ℕ) → x < 2 ^ n → f x ≤ none) → below f n none t ≡ shift f n t
 unfolding below alike shift same
-below-all table n t e ht small =
-    count-cong _ _ (2 ^ n)
-    (λ x h. test (at table x) (at table (bitXor x t)) (small x) ∙ ap₂ both (getD-any table 0 65535 x (omega arith)) (getD-any table 0 65535 (bitXor x t) (omega (arith, xor-lt n x t h ht))))
+shift-below f n t h small = count-cong _ _ (2 ^ n) (λ x b. test (f x) (f (bitXor x t)) (small x b))
+  where
+    left : (b : Bool) → false ≡ b && false
+    left true = refl
+    left false = refl
+
+    test : (a b : ℕ) → a ≤ none → ltb a none && eqb a b ≡ not (eqb a none) && (not (eqb b none) && eqb a b)
+    test a b h = go (ℕ-discrete a none) (ℕ-discrete a b)
+      where
+        go : Dec (a ≡ none) → Dec (a ≡ b) → ltb a none && eqb a b ≡ not (eqb a none) && (not (eqb b none) && eqb a b)
+        go (yes d) k = rw (eq-eqb a none d, le-ltb a none (omega arith))
+        go (no d) (yes k) = rw (ne-eqb a none d, lt-ltb a none (omega arith), eq-eqb a b k, ne-eqb b none (λ j. d (k ∙ j)))
+        go (no d) (no k) = rw (ne-eqb a none d, lt-ltb a none (omega arith), ne-eqb a b k) (left (not (eqb b none)))
+
+-- .. and of a table
+below-all : (table : List ℕ) (n t : ℕ) → length table ≡ 2 ^ n → t < 2 ^ n → ((x : ℕ) → at table x ≤ none)
+    → below (at table) n none t ≡ shift (ofTable table) n t
+unfolding below alike
+below-all table n t e h small =
+    count-cong _ _ (2 ^ n) (λ x b. ap₂ both (here x b) (here (bitXor x t) (xor-lt n x t b h)))
+    ∙ shift-below (ofTable table) n t h (λ x b. subst (λ (a : ℕ). a ≤ none) (here x b) (small x))
   where
     both : ℕ → ℕ → Bool
-    both a b = not (eqb a 65535) && (not (eqb b 65535) && eqb a b)
+    both a b = ltb a none && eqb a b
 
-    none : (b : Bool) → false ≡ b && false
-    none true = refl
-    none false = refl
-
-    test : (a b : ℕ) → a ≤ 65535 → ltb a 65535 && eqb a b ≡ both a b
-    test a b h = go (ℕ-discrete a 65535) (ℕ-discrete a b)
-      where
-        go : Dec (a ≡ 65535) → Dec (a ≡ b) → ltb a 65535 && eqb a b ≡ both a b
-        go (yes d) k = rw (eq-eqb a 65535 d, le-ltb a 65535 (omega arith))
-        go (no d) (yes k) = rw (ne-eqb a 65535 d, lt-ltb a 65535 (omega arith), eq-eqb a b k, ne-eqb b 65535 (λ j. d (k ∙ j)))
-        go (no d) (no k) = rw (ne-eqb a 65535 d, lt-ltb a 65535 (omega arith), ne-eqb a b k) (none (not (eqb b 65535)))
+    here : (x : ℕ) → x < 2 ^ n → at table x ≡ ofTable table x
+    here x b = getD-any table 0 none x (omega arith)
 
 -- ---- the loop over the words, in the code's terms
 
@@ -108,6 +124,6 @@ module _ (table : List ℕ) (n : ℕ) (full : length table ≡ 2 ^ n) where
   words-small u l few e t h =
       subst (λ (x : ℕ). x ≤ mostPoints) (sym (ap (λ s. at s t) e ∙ tab-at (2 ^ n) (below (at table) n u) 0 t h)) (below-le (at table) n u t few)
 
-  pub words-all : (l : List ℕ) → l ≡ tab (2 ^ n) (below (at table) n 65535) → ((x : ℕ) → at table x ≤ 65535)
+  pub words-all : (l : List ℕ) → l ≡ tab (2 ^ n) (below (at table) n none) → ((x : ℕ) → at table x ≤ none)
       → l ≡ tab (2 ^ n) (shift (ofTable table) n)
   words-all l e small = e ∙ tab-cong (2 ^ n) _ _ (λ t h. below-all table n t full h small)

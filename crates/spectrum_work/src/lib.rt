@@ -20,7 +20,7 @@ fn add_word(table: &[u16], n: usize, u: u16, working: &mut [i32], values: &mut [
     spectrum_words::put_marks(table, u, working);
     walsh::transform(working, n);
     walsh::square(working);
-    walsh::transform(working, n);
+    walsh::transform(working, n); // again, of the squares
     spectrum_words::add_quotients(working, n, values);
 }
 
