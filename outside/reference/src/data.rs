@@ -16,6 +16,9 @@ use std::str::FromStr;
 /// What lent numbers hold before the call.
 const HELD: u32 = 0xABCD_1234;
 
+/// What lent signed numbers hold before the call.
+const HELD_SIGNED: i32 = HELD as i32;
+
 /// What lent records hold before the call.
 const HELD_ROW: Row = Row {
     mask: HELD,
@@ -147,6 +150,7 @@ fn answer<O: Operations>(line: &str) -> (String, Option<Vec<u8>>) {
             assert_eq!(got, O::row_value(n, k, block_type, t, flat.list()));
             format!("{} {}", places(&got), got.results)
         }
+        "spectrum" => spectrum_answer::<O>(block(), &words),
         "table_method" => table_method_answer::<O>(block(), &words),
         "row_method" => row_method_answer::<O>(block(), &words),
         "fill" => {
@@ -276,6 +280,19 @@ fn read_model<O: Operations>(text: &[u8], room: [usize; 3]) -> (Answer<ModelHead
         values: written(&values, patterns, HELD).to_vec(),
     };
     (got, held)
+}
+
+/// The spectrum, whose working room ends at 0 in its first 2^n entries.
+fn spectrum_answer<O: Operations>([n, k, block_type]: [usize; 3], words: &[&str]) -> String {
+    let mut values = vec![HELD; parse(words[4])];
+    let mut working = vec![HELD_SIGNED; parse(words[5])];
+    let table = numbers(words[6]);
+    let got = O::table_spectrum(n, k, block_type, &table, &mut values, &mut working);
+    let size = if got.number == 0 { 1 << n } else { 0 };
+    let worked = written(&working, size, HELD_SIGNED);
+    assert!(worked.iter().all(|&number| number == 0));
+    let entries = joined(written(&values, size, HELD));
+    format!("{} {entries}", places(&got))
 }
 
 fn table_method_answer<O: Operations>([n, k, block_type]: [usize; 3], words: &[&str]) -> String {
@@ -416,7 +433,8 @@ pub fn check_operations<O: Operations>() {
         ("type_lists.txt", 106),
         ("type_tables.txt", 80),
         ("type_texts.txt", 102),
-        ("ranges.txt", 176),
+        ("spectrum.txt", 170),
+        ("ranges.txt", 208),
     ] {
         check_file::<O>("../../crates/run_operations/data", name, cases);
     }

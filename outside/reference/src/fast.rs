@@ -8,7 +8,8 @@
 //! of one word add to (document 003, Theorem 1). Where missing points have a word
 //! (02, Ticket 2), the points of that word stand in a bitmap, and its pairs are
 //! counted there by the one-bits of two copies of it. The steps then look for the
-//! greatest R outside the span of the chosen numbers, kept in echelon form.
+//! greatest R outside the span of the chosen numbers, kept in echelon form. R of a
+//! table at every t is asked by its spectrum too, and not counted there (02, Ticket 5).
 
 use crate::list::{answer_method, check_fill, check_value, Found};
 use crate::matrix::highest;
@@ -20,10 +21,12 @@ use crate::{
 use std::iter::once;
 
 mod model;
+mod spectrum;
 
 pub use crate::table::table_value;
 pub use crate::text::{read_text, write_text};
 pub use model::{model_value, print_model, read_model, write_model};
+pub use spectrum::table_spectrum;
 
 /// The numbers below 2^16 with one to three one-bits, smallest first (02,
 /// Ticket 3).

@@ -521,6 +521,14 @@ pub enum Case {
         t: usize,
         table: Vec<u16>,
     },
+    TableSpectrum {
+        n: usize,
+        k: usize,
+        block_type: usize,
+        table: Vec<u16>,
+        values: Vec<u32>,
+        working: Vec<i32>,
+    },
     TableMethod {
         n: usize,
         k: usize,
@@ -619,7 +627,7 @@ impl Case {
     /// The case of a seed.
     pub fn new(seed: u64) -> Case {
         let random = &mut Random::new(seed);
-        match random.below(14) {
+        match random.below(15) {
             0 => {
                 let ([n, k, block_type], table) = any_table(random);
                 let t = number(random, 0, (1 << n.min(16)) - 1);
@@ -814,9 +822,20 @@ impl Case {
                     values,
                 }
             }
-            _ => Case::PrintModel {
+            13 => Case::PrintModel {
                 input: any_text(random),
             },
+            _ => {
+                let ([n, k, block_type], table) = spectrum_table(random);
+                Case::TableSpectrum {
+                    n,
+                    k,
+                    block_type,
+                    table,
+                    values: numbers(random, 1 << n.min(16)),
+                    working: signed(random, 1 << n.min(16)),
+                }
+            }
         }
     }
 
@@ -834,6 +853,17 @@ impl Case {
             } => flat(O::table_value(*n, *k, *block_type, *t, table), |value| {
                 vec![value]
             }),
+            Case::TableSpectrum {
+                n,
+                k,
+                block_type,
+                table,
+                values,
+                working,
+            } => flat(
+                O::table_spectrum(*n, *k, *block_type, table, values, working),
+                |()| vec![],
+            ),
             Case::TableMethod {
                 n,
                 k,
@@ -1132,6 +1162,19 @@ fn any_table(random: &mut Random) -> ([usize; 3], Vec<u16>) {
     ([n, k, block_type], table)
 }
 
+/// The same for the spectrum. Up to 8 inputs one table in four has any words, about
+/// as many as there are points; with more inputs the plain form takes long on these.
+fn spectrum_table(random: &mut Random) -> ([usize; 3], Vec<u16>) {
+    let ([n, k, block_type], mut table) = any_table(random);
+    if n <= 8 && random.one_in(4) {
+        let outputs = k.clamp(1, OUTPUTS);
+        for entry in table.iter_mut().filter(|entry| **entry < 1 << outputs) {
+            *entry = random.word(outputs) as u16;
+        }
+    }
+    ([n, k, block_type], table)
+}
+
 /// n, k, the type and a list, mostly within their ranges and disjoint.
 fn any_list(random: &mut Random, inputs: usize, most: usize) -> ([usize; 3], LentRows) {
     let n = number(random, 1, inputs);
@@ -1203,6 +1246,16 @@ fn entries(random: &mut Random, due: usize) -> Vec<u16> {
 fn numbers(random: &mut Random, due: usize) -> Vec<u32> {
     let count = room(random, due);
     (0..count).map(|_| random.word(32)).collect()
+}
+
+/// Lent signed numbers with any contents, the ends of their range among them.
+fn signed(random: &mut Random, due: usize) -> Vec<i32> {
+    let count = room(random, due);
+    let any = |random: &mut Random| match random.below(8) {
+        0 => random.pick(&[i32::MIN, i32::MAX, -1, 0, 1]),
+        _ => random.word(32) as i32,
+    };
+    (0..count).map(|_| any(random)).collect()
 }
 
 /// Lent bytes with any contents.

@@ -8,6 +8,15 @@ use crate::{Answer, Flat, FlatRoom, Measures, ModelHead, Row, Smaller, TextHead}
 pub trait Operations {
     fn table_value(n: usize, k: usize, block_type: usize, t: usize, table: &[u16]) -> Answer<u64>;
 
+    fn table_spectrum(
+        n: usize,
+        k: usize,
+        block_type: usize,
+        table: &[u16],
+        values: &mut [u32],
+        working: &mut [i32],
+    ) -> Answer<()>;
+
     fn table_method(
         n: usize,
         k: usize,
@@ -170,6 +179,18 @@ macro_rules! operations_of {
             ) -> Answer<u64> {
                 use $module as operations;
                 operations::table_value(n, k, block_type, t, table)
+            }
+
+            fn table_spectrum(
+                n: usize,
+                k: usize,
+                block_type: usize,
+                table: &[u16],
+                values: &mut [u32],
+                working: &mut [i32],
+            ) -> Answer<()> {
+                use $module as operations;
+                operations::table_spectrum(n, k, block_type, table, values, working)
             }
 
             fn table_method(

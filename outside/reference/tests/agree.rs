@@ -2,11 +2,11 @@
 //! both forms of rows, and the demands that hold between operations.
 
 use reference::inputs::{self, Case, LentRows, Random};
-use reference::{fast, matrix, Fast, Operations, Plain, Row, FD, FR};
+use reference::{fast, matrix, Fast, Operations, Plain, Row, FD, FR, NO_OUTPUT};
 use std::collections::BTreeMap;
 
 /// How many seeds the cases below are drawn from.
-const SEEDS: u64 = 8_400;
+const SEEDS: u64 = 9_000;
 
 #[test]
 fn plain_and_fast_give_the_same_and_refusals_change_nothing() {
@@ -43,6 +43,7 @@ fn plain_and_fast_give_the_same_and_refusals_change_nothing() {
     // 512 rows are too rare among the program's.
     for (name, numbers) in [
         ("TableValue", &[0, 1, 2, 3, 4, 6][..]),
+        ("TableSpectrum", &[0, 1, 2, 3, 4, 5, 6]),
         ("TableMethod", &[0, 1, 2, 3, 4, 5, 6]),
         ("Restore", &[0, 1, 2, 3, 4, 5, 6, 8]),
         ("RowValue", &[0, 1, 2, 3, 4, 6, 7]),
@@ -155,6 +156,66 @@ fn both_methods_agree_and_restoring_goes_back() {
         }
     }
     assert!(answered > 350);
+}
+
+/// R at every t, by the spectrum.
+fn spectrum<O: Operations>(n: usize, k: usize, y: usize, table: &[u16]) -> Vec<u32> {
+    let (mut values, mut working) = (vec![u32::MAX; 1 << n], vec![i32::MIN; 1 << n]);
+    let got = O::table_spectrum(n, k, y, table, &mut values, &mut working);
+    assert_eq!(got.number, 0);
+    assert!(working.iter().all(|&number| number == 0));
+    values
+}
+
+/// R at every t, one by one.
+fn counted(n: usize, k: usize, y: usize, table: &[u16]) -> Vec<u32> {
+    let value = |t| Plain::table_value(n, k, y, t, table).results as u32;
+    (0..1 << n).map(value).collect()
+}
+
+/// The spectrum gives the R of the counting definition at every t, for both types.
+#[test]
+fn the_spectrum_is_r_at_every_t() {
+    for n in 1..=12 {
+        for seed in 0..if n < 10 { 24 } else { 3 } {
+            let random = &mut Random::new(seed);
+            let k = random.between(1, 15);
+            let words = inputs::words(random, k);
+            let mut table: Vec<u16> = (0..1 << n).map(|_| random.pick(&words) as u16).collect();
+            let missing = random.pick(&[2, 5, 20, 999]);
+            for entry in &mut table {
+                if random.one_in(missing) {
+                    *entry = NO_OUTPUT;
+                }
+            }
+            for y in [FR, FD] {
+                if y == FD {
+                    let open = table.iter_mut().filter(|entry| **entry == NO_OUTPUT);
+                    open.for_each(|entry| *entry = 0);
+                }
+                let due = counted(n, k, y, &table);
+                let name = format!("{n} inputs, seed {seed}, type {y}");
+                assert!(spectrum::<Plain>(n, k, y, &table) == due, "{name}");
+                assert!(spectrum::<Fast>(n, k, y, &table) == due, "{name}");
+            }
+        }
+    }
+}
+
+/// The same with more and more words, up to one for each point, for which the plain
+/// form takes long.
+#[test]
+fn the_spectrum_of_many_words() {
+    let random = &mut Random::new(5);
+    let mut points: Vec<u16> = (0..4_096).collect();
+    random.shuffle(&mut points);
+    for words in [1, 2, 16, 256, 1_024, 4_096] {
+        let table: Vec<u16> = points.iter().map(|point| point % words).collect();
+        for y in [FR, FD] {
+            let due = counted(12, 12, y, &table);
+            assert!(spectrum::<Fast>(12, 12, y, &table) == due, "{words} words");
+        }
+    }
 }
 
 /// Text read and written again is the same bytes, rows written and read again

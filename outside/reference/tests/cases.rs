@@ -1,8 +1,9 @@
 //! 01's blocks to try by hand, cases a to j and those after them, read as fr, the
-//! sheet's example, Example 2 of document 000, and blocks of either type (02,
-//! Ticket 2). Each is asked of the plain and of the fast operations.
+//! sheet's example, Example 2 of document 000, blocks of either type (02, Ticket 2),
+//! and the spectrum of some of these (02, Ticket 5). Each is asked of the plain and of
+//! the fast operations.
 
-use reference::{fast, Row, FD, FR, NO_OUTPUT};
+use reference::{fast, spectrum, Row, FD, FR, NO_OUTPUT};
 
 /// Rows as 01 writes them: "symbols word".
 fn list(lines: &[&str]) -> Vec<Row> {
@@ -72,6 +73,34 @@ fn row_number(n: usize, k: usize, w: usize, rows: &[Row]) -> u32 {
     row_method(n, k, w, rows).0[0]
 }
 
+/// Number, A, B and R at every t, by the spectrum, in rooms of these lengths. What
+/// lies beyond the results, and with a refusal all, holds what it held, and the
+/// working entries end at 0.
+fn spectrum_in(
+    y: usize,
+    [n, k]: [usize; 2],
+    table: &[u16],
+    room: [usize; 2],
+) -> ([u32; 3], Vec<u32>) {
+    let mut lent = (vec![7; room[0]], vec![-7; room[1]]);
+    let mut fast_lent = lent.clone();
+    let got = reference::table_spectrum(n, k, y, table, &mut lent.0, &mut lent.1);
+    let (values, working) = (&mut fast_lent.0, &mut fast_lent.1);
+    assert_eq!(got, fast::table_spectrum(n, k, y, table, values, working));
+    assert_eq!(lent, fast_lent);
+    let size = if got.number == 0 { 1 << n } else { 0 };
+    assert!(lent.0[size..].iter().all(|&value| value == 7));
+    assert!(lent.1[..size].iter().all(|&number| number == 0));
+    assert!(lent.1[size..].iter().all(|&number| number == -7));
+    lent.0.truncate(size);
+    ([got.number, got.a, got.b], lent.0)
+}
+
+/// The same in rooms a little longer than it asks for.
+fn spectrum_of(y: usize, numbers: [usize; 2], table: &[u16]) -> ([u32; 3], Vec<u32>) {
+    spectrum_in(y, numbers, table, [table.len() + 1, table.len() + 2])
+}
+
 const ANSWERED: [u32; 3] = [0, 0, 0];
 
 #[test]
@@ -81,6 +110,9 @@ fn case_a() {
     assert_eq!(values.collect::<Vec<_>>(), [4, 0, 0, 4]);
     let due = (ANSWERED, [0, 4], vec![3, 1], vec![2, 3], vec![0, 0, 1, 1]);
     assert_eq!(table_method(2, 1, 2, &table), due);
+    let due = (ANSWERED, vec![4, 0, 0, 4]);
+    assert_eq!(spectrum_of(FR, [2, 1], &table), due);
+    assert_eq!(spectrum_of(FD, [2, 1], &table), due);
 }
 
 #[test]
@@ -326,6 +358,8 @@ fn document_000_example_2() {
     let of_table = table_method(4, 3, 4, &table);
     assert_eq!(of_table.1, [18, 30]);
     assert_eq!((of_table.2, of_table.3), (columns, sigma));
+    let due = due.map(|value| value as u32).to_vec();
+    assert_eq!(spectrum_of(FR, [4, 3], &table), (ANSWERED, due));
     let mut filled = [0; 16];
     assert_eq!(
         reference::fill(4, 3, FR, &smaller[..], &mut filled).number,
@@ -394,6 +428,75 @@ fn measures_of_either_type_by_hand() {
         assert_eq!((number, measures), (ANSWERED, [sum, sum]));
         assert_eq!(columns, [2, 4, 1]);
     }
+}
+
+/// The spectrum step by step: of case a word 1 is at 1 and 2. Its transform is 2, 0,
+/// 0, -2, for at 1 and at 2 one of these points counts with a minus and at 3 both. The
+/// squares are 4, 0, 0, 4, their transform 8, 0, 0, 8, and a fourth of that is what the
+/// word adds to R. Word 0, at 0 and 3, adds as much.
+#[test]
+fn the_spectrum_by_hand() {
+    assert_eq!(spectrum::transform(&[0, 1, 1, 0]), [2, 0, 0, -2]);
+    assert_eq!(spectrum::transform(&[1, 0, 0, 1]), [2, 0, 0, 2]);
+    assert_eq!(spectrum::transform(&[4, 0, 0, 4]), [8, 0, 0, 8]);
+    assert_eq!(spectrum::transform(&[1, 2, 3, 4]), [10, -2, -4, 0]);
+    // One point has word 1; the others have no output, or word 0.
+    let none = [NO_OUTPUT, NO_OUTPUT, NO_OUTPUT, 1];
+    assert_eq!(spectrum_of(FR, [2, 1], &none), (ANSWERED, vec![1, 0, 0, 0]));
+    assert_eq!(
+        spectrum_of(FD, [2, 1], &[0, 0, 0, 1]),
+        (ANSWERED, vec![4, 2, 2, 2])
+    );
+    // Words that differ in their highest bit alone, and no output anywhere.
+    assert_eq!(
+        spectrum_of(FD, [1, 15], &[16_383, 32_767]),
+        (ANSWERED, vec![2, 0])
+    );
+    assert_eq!(
+        spectrum_of(FR, [1, 15], &[NO_OUTPUT; 2]),
+        (ANSWERED, vec![0, 0])
+    );
+}
+
+#[test]
+fn refusals_of_the_spectrum() {
+    let most = usize::MAX;
+    let bad = [0, 2, NO_OUTPUT, 1];
+    let number = |y, numbers, table: &[u16], room| spectrum_in(y, numbers, table, room).0;
+    // Each is given before those after it.
+    for n in [0, 13, 64, most] {
+        assert_eq!(number(0, [n, 0], &bad[..3], [0, 0]), [1, 0, 0]);
+    }
+    for k in [0, 16, 64, most] {
+        assert_eq!(number(0, [2, k], &bad[..3], [0, 0]), [2, 0, 0]);
+    }
+    for y in [0, 3, most] {
+        assert_eq!(number(y, [2, 1], &bad[..3], [0, 0]), [3, 0, 0]);
+    }
+    for table in [&[][..], &bad[..3], &[0; 5]] {
+        assert_eq!(number(FR, [2, 1], table, [0, 0]), [4, 0, 0]);
+    }
+    for room in [[0, 4], [3, 4], [4, 0], [4, 3], [3, 3]] {
+        assert_eq!(number(FR, [2, 1], &bad, room), [5, 0, 0]);
+    }
+    assert_eq!(number(FR, [2, 1], &bad, [4, 4]), [6, 0, 1]);
+    assert_eq!(number(FR, [2, 2], &bad, [4, 4]), ANSWERED);
+    assert_eq!(number(FD, [2, 2], &bad, [5, 4]), [6, 0, 2]);
+}
+
+/// 12 inputs: one word, its R being 4,096 at every t, and two, each on half of the
+/// points. 13 are too many.
+#[test]
+fn the_spectrum_of_twelve_inputs() {
+    let all = vec![4_096; 4_096];
+    for word in [0, 32_767] {
+        let due = (ANSWERED, all.clone());
+        assert_eq!(spectrum_of(FD, [12, 15], &[word; 4_096]), due);
+    }
+    let halves: Vec<u16> = (0..4_096).map(|x| x >> 11).collect();
+    let due: Vec<u32> = (0..4_096).map(|t| 4_096 * (1 - (t >> 11))).collect();
+    assert_eq!(spectrum_of(FR, [12, 1], &halves), (ANSWERED, due));
+    assert_eq!(spectrum_of(FR, [13, 1], &[0; 8_192]).0, [1, 0, 0]);
 }
 
 #[test]
