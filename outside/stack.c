@@ -23,6 +23,8 @@ static irwystl_row rows[ROWS], smaller[IRWYSTL_SMALLER_ROWS];
 static uint32_t masks[ROWS], values[ROWS], words[ROWS], basis[16], sigma[16];
 static uint32_t smaller_masks[IRWYSTL_SMALLER_ROWS], smaller_values[IRWYSTL_SMALLER_ROWS], smaller_words[IRWYSTL_SMALLER_ROWS];
 static uint16_t table[POINTS], made[POINTS];
+static uint32_t shifts[POINTS];
+static int32_t working[POINTS];
 static uint8_t text[8192], out[IRWYSTL_SHEET_ROOM], line[IRWYSTL_LINE_ROOM], model[IRWYSTL_MODEL_ROOM];
 static uint32_t model_masks[PATTERNS], model_values[PATTERNS], model_matrix[16];
 static size_t text_length, model_length, counts[IRWYSTL_MOST_OUTPUTS], patterns, type;
@@ -31,6 +33,7 @@ static size_t text_length, model_length, counts[IRWYSTL_MOST_OUTPUTS], patterns,
 
 static uint32_t nothing(void) { return 0; }
 static uint32_t table_value(void) { return irwystl_table_value(12, 7, type, 5, table, POINTS).number; }
+static uint32_t table_spectrum(void) { return irwystl_table_spectrum(12, 7, type, table, POINTS, shifts, POINTS, working, POINTS).number; }
 static uint32_t table_method(void) { return irwystl_table_method(12, 7, type, 12, table, POINTS, basis, 16, sigma, 16, made, POINTS).number; }
 static uint32_t restore_table(void) { return irwystl_restore_table(12, 7, type, sigma, 12, table, POINTS, made, POINTS).number; }
 static uint32_t row_value(void) { return irwystl_row_value(16, 7, type, 5, FLAT).number; }
@@ -107,6 +110,7 @@ int main(void) {
   struct call none = {"nothing", nothing, 0};
   struct call calls[] = {
       {"table_value", table_value, 0},
+      {"table_spectrum", table_spectrum, 0},
       {"table_method", table_method, 0},
       {"restore_table", restore_table, 0},
       {"row_value", row_value, 0},

@@ -61,7 +61,7 @@ enum irwystl_number {
   IRWYSTL_LIMIT = 3,     /* w is not 1 to n, t or x not below 2^n, the type no type; or the line of IRWYSTL_FR is left out in writing */
   IRWYSTL_COUNT = 4,     /* no row or too many, flat rows of unequal length, a table without 2^n entries, a matrix without n rows; not as
                             many counts as outputs, or not as many patterns as they say */
-  IRWYSTL_ROOM = 5,      /* the room lent for a result is too short */
+  IRWYSTL_ROOM = 5,      /* the room lent for a result, or to work in, is too short */
   IRWYSTL_RECORD = 6,    /* row, entry, pattern or matrix row b, counted from 0, is malformed; a is 1 for a matrix row, else 0 */
   IRWYSTL_SHARED = 7,    /* rows a and b, counted from 0, share a point */
   IRWYSTL_DEPENDENT = 8, /* matrix row a, counted from 0, is the XOR of some rows before it, or 0 */
@@ -147,6 +147,15 @@ typedef struct irwystl_import_answer {
 
 /* R(t) of a table of 2^n entries. Refuses with 1, 2, 3 (type, t), 4, 6. Promise: tables::table_value. */
 irwystl_value_answer irwystl_table_value(size_t n, size_t k, size_t type, size_t t, const uint16_t *table, size_t table_length);
+
+/*
+ * R at every t of a table of 2^n entries, as the Wiener-Khinchin theorem has it: for each word a signed Walsh transform, squares, the
+ * transform again, and that divided by 2^n; R is the sum over the words. It is what irwystl_table_value counts at each t. values gets R at 0,
+ * 1, .. 2^n - 1, and the first 2^n entries of working, in which the transforms are made, end at 0: each is room for at least that many, and
+ * may hold any numbers before. Refuses with 1, 2, 3 (type), 4, 5 (either room), 6. Promise: spectrum::table_spectrum.
+ */
+irwystl_answer irwystl_table_spectrum(size_t n, size_t k, size_t type, const uint16_t *table, size_t table_length, uint32_t *values,
+                                      size_t values_length, int32_t *working, size_t working_length);
 
 /*
  * T, sigma, the smaller table and both measures of a table of 2^n entries, with weight limit w: the numbers chosen for T have at most w

@@ -16,6 +16,7 @@
 #define HELD 0xABCD1234u
 #define HELD_ENTRY 0xABCD
 #define HELD_BYTE 0xAB
+#define HELD_SIGNED (-1412623820) /* the bits of HELD */
 
 /* A list of a line: numbers in the first field, or the three fields of rows. */
 typedef struct list {
@@ -139,7 +140,8 @@ static void arrow(void) {
 static list given, second, expected;
 static irwystl_row rows[MOST], smaller_rows[MOST];
 static uint16_t table[MOST], other_table[MOST];
-static uint32_t basis[MOST], sigma[MOST], smaller[3][MOST];
+static uint32_t basis[MOST], sigma[MOST], smaller[3][MOST], shifts[MOST];
+static int32_t working[MOST];
 static text given_text, expected_text;
 static uint8_t out[MOST_BYTES];
 
@@ -167,7 +169,8 @@ static size_t room(void) { return room_within(MOST); }
 static void lend(void) {
   for (size_t i = 0; i < MOST; i++) {
     irwystl_row held = {HELD, HELD, HELD};
-    basis[i] = sigma[i] = HELD;
+    basis[i] = sigma[i] = shifts[i] = HELD;
+    working[i] = HELD_SIGNED;
     smaller[0][i] = smaller[1][i] = smaller[2][i] = HELD;
     smaller_rows[i] = held;
     other_table[i] = HELD_ENTRY;
@@ -197,6 +200,12 @@ static void are(const uint32_t *lent, size_t field) {
 static void is_list(const uint32_t *lent) {
   next_list(&expected);
   are(lent, 0);
+}
+
+/* As many zeros stand at the front as the list due has numbers, and beyond them the pattern. */
+static void are_zeros(void) {
+  for (size_t i = 0; i < MOST; i++)
+    if (working[i] != (i < expected.length ? 0 : HELD_SIGNED)) differs = 1;
 }
 
 static void is_table(void) {
@@ -263,6 +272,18 @@ static void row_value(void) {
   arrow();
   is_value(irwystl_records_row_value(n, k, type, t, rows, given.length));
   is_value(irwystl_row_value(n, k, type, t, FLAT));
+}
+
+static void spectrum(void) {
+  size_t n = next(), k = next(), type = next_type(), shifts_room = room(), working_room = room();
+  next_list(&given);
+  as_table(&given, table);
+  arrow();
+  lend();
+  irwystl_answer r = irwystl_table_spectrum(n, k, type, table, given.length, shifts, shifts_room, working, working_room);
+  answered(r.number, r.a, r.b);
+  is_list(shifts);
+  are_zeros();
 }
 
 static void table_method(void) {
@@ -388,7 +409,8 @@ static const struct {
   void (*run)(void);
 } operations[] = {{"table_value", table_value}, {"row_value", row_value}, {"table_method", table_method},
                   {"row_method", row_method},   {"fill", fill},           {"restore", restore},
-                  {"read", read_text},          {"write", write_text},    {"sheet", sheet}};
+                  {"read", read_text},          {"write", write_text},    {"sheet", sheet},
+                  {"spectrum", spectrum}};
 
 static void run_line(const char *line) {
   size_t length = strcspn(line, " ");

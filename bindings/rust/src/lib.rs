@@ -148,6 +148,51 @@ pub fn table_value(
     unsafe { raw::irwystl_table_value(n, k, block_type, t, table.as_ptr(), table.len()) }.result()
 }
 
+/// R at every t of a table of 2^n entries, as the Wiener-Khinchin theorem has it: for
+/// each word a signed Walsh transform, squares, the transform again, and that divided
+/// by 2^n; R is the sum over the words. It is what [`table_value`] counts at each t.
+/// `values` is room for 2^n numbers, R at 0, 1, .. 2^n - 1; `working` is room for 2^n
+/// too, in which the transforms are made, and which ends at 0. Both may hold any
+/// numbers before. Refuses with 1, 2, 3 (the type), 4, 5 (either room) and 6.
+///
+/// ```
+/// use irwystl::{table_spectrum, Refusal, FD, FR, NO_OUTPUT};
+/// let mut values = [9; 4];
+/// let mut working = [-9; 5];
+/// table_spectrum(2, 1, FR, &[0, 1, 1, 0], &mut values, &mut working)?;
+/// assert_eq!(values, [4, 0, 0, 4]);
+/// assert_eq!(working, [0, 0, 0, 0, -9]);
+/// // a point without an output counts in no R
+/// table_spectrum(2, 1, FR, &[0, 1, 1, NO_OUTPUT], &mut values, &mut working)?;
+/// assert_eq!(values, [3, 0, 0, 2]);
+/// let refused = table_spectrum(2, 1, FD, &[0; 4], &mut values, &mut working[..3]);
+/// assert_eq!((refused, values), (Err(Refusal::Room), [3, 0, 0, 2]));
+/// # Ok::<(), irwystl::Refusal>(())
+/// ```
+pub fn table_spectrum(
+    n: usize,
+    k: usize,
+    block_type: usize,
+    table: &[u16],
+    values: &mut [u32],
+    working: &mut [i32],
+) -> Result<(), Refusal> {
+    unsafe {
+        raw::irwystl_table_spectrum(
+            n,
+            k,
+            block_type,
+            table.as_ptr(),
+            table.len(),
+            values.as_mut_ptr(),
+            values.len(),
+            working.as_mut_ptr(),
+            working.len(),
+        )
+    }
+    .result()
+}
+
 /// T, sigma, the smaller table and both measures of a table of 2^n entries, with
 /// weight limit w. The greatest R is taken first, at equal R the number with the
 /// fewest one-bits, then the smallest. `basis` and `sigma` are room for n numbers

@@ -169,6 +169,18 @@ extern "C" {
         table_length: usize,
     ) -> ValueAnswer;
 
+    pub fn irwystl_table_spectrum(
+        n: usize,
+        k: usize,
+        block_type: usize,
+        table: *const u16,
+        table_length: usize,
+        values: *mut u32,
+        values_length: usize,
+        working: *mut i32,
+        working_length: usize,
+    ) -> Answer;
+
     pub fn irwystl_table_method(
         n: usize,
         k: usize,

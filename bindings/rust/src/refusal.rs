@@ -18,7 +18,7 @@ pub enum Refusal {
     /// entries, a matrix without n rows, not as many counts as outputs or patterns
     /// as they say.
     Count,
-    /// 5: the room lent for a result is too short.
+    /// 5: the room lent for a result, or to work in, is too short.
     Room,
     /// 6: a row, a table entry or a pattern, counted from 0, is malformed.
     Record { index: usize },
@@ -88,7 +88,9 @@ impl fmt::Display for Refusal {
                     "the number of rows, entries or patterns is out of range"
                 )
             }
-            Refusal::Room => write!(out, "the room lent for a result is too short"),
+            Refusal::Room => {
+                write!(out, "the room lent for a result or to work in is too short")
+            }
             Refusal::Record { index } => {
                 write!(out, "record {index}, counted from 0, is malformed")
             }

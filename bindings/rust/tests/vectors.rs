@@ -82,6 +82,20 @@ impl Operations for Safe {
         })
     }
 
+    fn table_spectrum(
+        n: usize,
+        k: usize,
+        block_type: usize,
+        table: &[u16],
+        values: &mut [u32],
+        working: &mut [i32],
+    ) -> Answer<()> {
+        answer(
+            irwystl::table_spectrum(n, k, block_type, table, values, working),
+            |()| (),
+        )
+    }
+
     fn table_method(
         n: usize,
         k: usize,

@@ -88,6 +88,29 @@ impl Operations for Product {
         value(unsafe { raw::irwystl_table_value(n, k, block_type, t, table.as_ptr(), table.len()) })
     }
 
+    fn table_spectrum(
+        n: usize,
+        k: usize,
+        block_type: usize,
+        table: &[u16],
+        values: &mut [u32],
+        working: &mut [i32],
+    ) -> Answer<()> {
+        plain(unsafe {
+            raw::irwystl_table_spectrum(
+                n,
+                k,
+                block_type,
+                table.as_ptr(),
+                table.len(),
+                values.as_mut_ptr(),
+                values.len(),
+                working.as_mut_ptr(),
+                working.len(),
+            )
+        })
+    }
+
     fn table_method(
         n: usize,
         k: usize,

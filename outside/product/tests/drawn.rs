@@ -1,16 +1,17 @@
 //! The product against the plain operations of `reference`: seeded calls, valid
 //! and damaged, every operation with rows in flat slices and as records, answers
-//! and everything lent compared; models there and back, damaged, and with rooms near
-//! what they ask for; imports of drawn texts; then the cases with answers
-//! (outside/CASES.md). Lent storage holds a pattern before each call and is never
-//! cleared, so that a stray write shows. Each call of the product runs in a thread
-//! with 1 MiB of stack.
+//! and everything lent compared; the spectrum of a table with rooms near what it asks
+//! for, and against the values that are counted; models there and back, damaged, and
+//! with rooms near what they ask for; imports of drawn texts; then the cases with
+//! answers (outside/CASES.md). Lent storage holds a pattern before each call and is
+//! never cleared, so that a stray write shows. Each call of the product runs in a
+//! thread with 1 MiB of stack.
 
 use irwystl::{import_text, LINE_ROOM};
 use product::Product;
 use reference::data::{check_lists, check_models, check_operations};
 use reference::inputs::{models, Case, Random};
-use reference::{Operations, Plain, MODEL_ROOM, SHEET_ROOM};
+use reference::{Fast, Operations, Plain, FD, FR, MODEL_ROOM, SHEET_ROOM};
 use std::{env, thread};
 
 /// What the rooms of an import hold before the call.
@@ -86,6 +87,61 @@ fn same(name: &str, case: Case) -> Case {
     assert_eq!(answer, due_answer, "{name}");
     assert_eq!(got, due, "{name}: what was lent");
     due
+}
+
+/// Spectra of tables of 1 to 8 inputs, with each room exact, one short and a little
+/// longer.
+#[test]
+fn spectra_in_rooms() {
+    for n in 1..=8 {
+        let size = 1 << n;
+        let random = &mut Random::new(n as u64);
+        let table: Vec<u16> = (0..size).map(|_| random.word(2) as u16).collect();
+        for block_type in [FR, FD] {
+            for [values, working] in [
+                [size, size],
+                [size - 1, size],
+                [size, size - 1],
+                [size + 2, size],
+                [size, size + 2],
+            ] {
+                let case = Case::TableSpectrum {
+                    n,
+                    k: 2,
+                    block_type,
+                    table: table.clone(),
+                    values: vec![0xABCD_1234; values],
+                    working: vec![-0x1234_ABCD; working],
+                };
+                same(&format!("{n} inputs, rooms {values} and {working}"), case);
+            }
+        }
+    }
+}
+
+/// The spectrum of a table of 12 inputs gives what the single values give, and what
+/// the fast operation gives, with one word, and with as many as there are points.
+#[test]
+fn spectra_of_many_words() {
+    let random = &mut Random::new(5);
+    let mut points: Vec<u16> = (0..4_096).collect();
+    random.shuffle(&mut points);
+    for (words, y) in [(1, FR), (2, FD), (16, FR), (256, FD), (4_096, FR)] {
+        let table: Vec<u16> = points.iter().map(|point| point % words).collect();
+        let mut due = vec![7; 4_096];
+        Fast::table_spectrum(12, 12, y, &table, &mut due, &mut [-7; 4_096]);
+        let (answer, values, working, counted) = small_stack(move || {
+            let (mut values, mut working) = (vec![7; 4_096], vec![-7; 4_096]);
+            let answer = Product::table_spectrum(12, 12, y, &table, &mut values, &mut working);
+            let value = |t| Product::table_value(12, 12, y, t, &table).results as u32;
+            let counted: Vec<u32> = (0..4_096).map(value).collect();
+            (answer, values, working, counted)
+        });
+        assert_eq!(answer.number, 0);
+        assert!(values == due, "{words} words");
+        assert!(values == counted, "{words} words, by counting");
+        assert!(working.iter().all(|&number| number == 0), "{words} words");
+    }
 }
 
 /// The text of a case that writes a model, with its own length as the room, one byte
