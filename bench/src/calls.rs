@@ -2,7 +2,7 @@
 
 use crate::timing::{medians, once};
 use reference::inputs::Case;
-use reference::Operations;
+use reference::{Answer, Operations};
 use std::mem::forget;
 use std::ptr::read_volatile;
 use std::time::Duration;
@@ -18,12 +18,24 @@ fn black_box<T>(value: T) -> T {
     seen
 }
 
+/// How a case is called.
+#[derive(Clone, Copy)]
+enum Way {
+    /// As it is, with rows in flat slices.
+    Flat,
+    /// With rows as records.
+    Records,
+    /// A single value of a table, once for each t, and each time of the same table.
+    EveryT,
+}
+
 /// Calls that are timed together.
 pub struct Call {
     pub name: String,
-    pub cases: Vec<Case>,
-    /// Rows are lent as records, not as flat slices.
-    pub records: bool,
+    /// Other calls that work out the same. Our time of each is shown beside this one.
+    pub beside: Vec<Call>,
+    cases: Vec<Case>,
+    way: Way,
 }
 
 impl Call {
@@ -36,58 +48,119 @@ impl Call {
     pub fn all(name: impl Into<String>, cases: Vec<Case>) -> Call {
         Call {
             name: name.into(),
+            beside: Vec::new(),
             cases,
-            records: false,
+            way: Way::Flat,
         }
     }
 
     /// One call on records.
     pub fn on_records(name: impl Into<String>, case: Case) -> Call {
         Call {
-            records: true,
+            way: Way::Records,
             ..Call::new(name, case)
+        }
+    }
+
+    /// A single value of a table, asked for every t.
+    pub fn every_t(name: impl Into<String>, case: Case) -> Call {
+        Call {
+            way: Way::EveryT,
+            ..Call::new(name, case)
+        }
+    }
+
+    /// The call with others beside it.
+    pub fn beside(self, calls: Vec<Call>) -> Call {
+        Call {
+            beside: calls,
+            ..self
         }
     }
 
     /// The median times of two implementations that take turns, after their
     /// answers and what they leave in all they are lent were found the same.
     pub fn compare<P: Operations, O: Operations>(&self, runs: usize) -> [Duration; 2] {
+        self.agree::<P, O>();
+        self.times(runs, [run::<P>, run::<O>])
+    }
+
+    /// The median time of one implementation, after it was found to agree with
+    /// another in the same way.
+    pub fn time<P: Operations, O: Operations>(&self, runs: usize) -> Duration {
+        self.agree::<P, O>();
+        let [time] = self.times(runs, [run::<O>]);
+        time
+    }
+
+    /// Finds answers and what is left in all that is lent the same.
+    fn agree<P: Operations, O: Operations>(&self) {
         for case in &self.cases {
             let [mut first, mut second] = [case.clone(), case.clone()];
-            let same = if self.records {
-                first.run_records::<P>() == second.run_records::<O>()
-            } else {
-                first.run::<P>() == second.run::<O>()
-            };
+            let same = answers::<P>(self.way, &mut first) == answers::<O>(self.way, &mut second);
             assert!(same && first == second, "{}: not the same", self.name);
         }
-        let single = once(&mut self.work(1), run::<P>);
+    }
+
+    /// The median times of functions that take turns.
+    fn times<const N: usize>(&self, runs: usize, functions: [fn(&mut Work); N]) -> [Duration; N] {
+        let single = once(&mut self.work(1), functions[0]);
         let times = (RUN.as_nanos() / single.as_nanos().max(1)).clamp(1, 500) as usize;
-        medians(runs, || self.work(times), [run::<P>, run::<O>]).map(|time| time / times as u32)
+        medians(runs, || self.work(times), functions).map(|time| time / times as u32)
     }
 
     /// The calls, made so many times over.
     fn work(&self, times: usize) -> Work {
         Work {
             cases: vec![self.cases.clone(); times],
-            records: self.records,
+            way: self.way,
         }
     }
+}
+
+/// Makes the calls of a case, and hands each answer on; where a case has no form on
+/// records there is none.
+fn make<O: Operations>(way: Way, case: &mut Case, mut each: impl FnMut(Option<Answer<Vec<u64>>>)) {
+    match way {
+        Way::Flat => each(Some(case.run::<O>())),
+        Way::Records => each(case.run_records::<O>()),
+        Way::EveryT => {
+            let mut next = 0;
+            while ask(case, next) {
+                each(Some(case.run::<O>()));
+                next += 1;
+            }
+        }
+    }
+}
+
+/// Makes this the t of a single value of a table, where it is below 2^n.
+fn ask(case: &mut Case, next: usize) -> bool {
+    match case {
+        Case::TableValue { t, table, .. } => {
+            *t = next;
+            next < table.len()
+        }
+        _ => panic!("no other case is asked for every t"),
+    }
+}
+
+/// All answers to a case.
+fn answers<O: Operations>(way: Way, case: &mut Case) -> Vec<Option<Answer<Vec<u64>>>> {
+    let mut answers = Vec::new();
+    make::<O>(way, case, |answer| answers.push(answer));
+    answers
 }
 
 /// The calls of one run.
 struct Work {
     cases: Vec<Vec<Case>>,
-    records: bool,
+    way: Way,
 }
 
 /// Makes the calls.
 fn run<O: Operations>(work: &mut Work) {
     for case in work.cases.iter_mut().flatten() {
-        if work.records {
-            black_box(black_box(case).run_records::<O>());
-        } else {
-            black_box(black_box(case).run::<O>());
-        }
+        make::<O>(work.way, black_box(case), |answer| drop(black_box(answer)));
     }
 }

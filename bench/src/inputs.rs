@@ -19,6 +19,7 @@ pub struct Table {
 pub fn tables() -> Vec<Table> {
     vec![
         operations(),
+        spectra(),
         by_type(),
         text_parts(),
         by_rows(),
@@ -93,6 +94,32 @@ fn operations() -> Table {
             Call::new("restoring, 12 inputs", restore(&table_12)),
             Call::all("300 row texts to sheets", texts(300)),
         ],
+    }
+}
+
+/// R at every t of a table of 12 inputs with more and more words, each on as many
+/// points: by the spectrum, beside what our other engine takes, which counts. The
+/// table method with weight limit 12 counts R at every t but 0, and then chooses; a
+/// single value counts it at one t.
+fn spectra() -> Table {
+    let mut points: Vec<u16> = (0..4_096).collect();
+    Random::new(5).shuffle(&mut points);
+    let call = |(words, name): (u16, &str)| {
+        let table: Vec<u16> = points.iter().map(|point| point % words).collect();
+        Call::new(name, table_spectrum(&table)).beside(vec![
+            Call::new("our table method", table_method(&table, 12)),
+            Call::every_t("our single values", table_value(&table)),
+        ])
+    };
+    let words = [
+        (2, "2 words"),
+        (16, "16 words"),
+        (256, "256 words"),
+        (4_096, "4,096 words"),
+    ];
+    Table {
+        title: "R at every t of a table of 12 inputs, by its spectrum",
+        calls: words.map(call).into(),
     }
 }
 
@@ -364,6 +391,17 @@ fn table_method(table: &[u16], w: usize) -> Case {
         smaller: vec![0; table.len()],
         columns: vec![0; 12],
         sigma: vec![0; 12],
+    }
+}
+
+fn table_spectrum(table: &[u16]) -> Case {
+    Case::TableSpectrum {
+        n: 12,
+        k: 12,
+        block_type: FR,
+        table: table.to_vec(),
+        values: vec![0; table.len()],
+        working: vec![0; table.len()],
     }
 }
 

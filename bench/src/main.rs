@@ -36,12 +36,14 @@ fn main() -> ExitCode {
     ExitCode::SUCCESS
 }
 
-/// The times of a call, the product's and Rust's.
+/// The times of a call, the product's and Rust's, and the product's of those beside it.
 fn line(call: &Call, runs: usize) -> Line {
     let [rust, ours] = call.compare::<Fast, Product>(runs);
+    let time = |call: &Call| (call.name.clone(), call.time::<Fast, Product>(runs));
     Line {
         name: call.name.clone(),
         ours,
         rust,
+        beside: call.beside.iter().map(time).collect(),
     }
 }

@@ -7,23 +7,37 @@ pub struct Line {
     pub name: String,
     pub ours: Duration,
     pub rust: Duration,
+    /// Our times of other calls, each under its name.
+    pub beside: Vec<(String, Duration)>,
 }
 
-/// A table under its title: name, our time, Rust's time, and how many times as
-/// long ours is.
+/// A table under its title: name, our time, Rust's time, how many times as long ours
+/// is, and our times of the calls beside, which have the same names in every line.
 pub fn table(title: &str, lines: &[Line]) -> String {
     let names = lines.iter().map(|line| line.name.as_str());
     let width = names.chain([title]).map(str::len).max().unwrap_or(0);
-    let row = |name: &str, ours: &str, rust: &str, ratio: &str| {
-        format!("{name:width$}  {ours:>10}  {rust:>10}  {ratio:>6}\n")
+    let row = |name: &str, ours: &str, rust: &str, ratio: &str, beside: &str| {
+        format!("{name:width$}  {ours:>10}  {rust:>10}  {ratio:>6}{beside}\n")
     };
-    let mut table = row(title, "ours", "Rust", "ratio");
+    let first = lines.first().map_or(&[][..], |line| &line.beside);
+    let names: String = first.iter().map(|(name, _)| column(name, name)).collect();
+    let mut table = row(title, "ours", "Rust", "ratio", &names);
     for line in lines {
         let ratio = line.ours.as_secs_f64() / line.rust.as_secs_f64();
         let [ours, rust] = [shown(line.ours), shown(line.rust)];
-        table += &row(&line.name, &ours, &rust, &format!("{ratio:.2}"));
+        let times = line.beside.iter();
+        let times: String = times
+            .map(|(name, time)| column(name, &shown(*time)))
+            .collect();
+        table += &row(&line.name, &ours, &rust, &format!("{ratio:.2}"), &times);
     }
     table
+}
+
+/// A text in the column of this name.
+fn column(name: &str, text: &str) -> String {
+    let width = name.len().max(10);
+    format!("  {text:>width$}")
 }
 
 /// A time in the unit that suits it.
