@@ -220,15 +220,17 @@ fn restore(
 // What the working numbers hold before a call: none of them is 0.
 const HELD_SIGNED: i32 = -559038737;
 
-// Whether R at t is a result: t is a point, and the working number there ended at 0.
-fn is_worked(t: usize, size: usize, left: i32) -> bool {
-    if size <= t {
-        return false;
-    }
-    left == 0
+// What a working number is due to end as: 0 at a point of the table, and else what it held.
+fn working_due(is_point: bool) -> i32 {
+    if is_point { 0 } else { HELD_SIGNED }
 }
 
-// R at every t. Where a working number was left standing a value is missing, and the case is answered otherwise.
+// R, where the working number ended as it is due to; and else a number that no R is.
+fn worked(value: u32, left: i32, due: i32) -> u32 {
+    if left == due { value } else { 4294967295 }
+}
+
+// R at every t, and any beyond that does not hold what it held.
 fn put_values(
     got: &mut [u64; NUMBERS],
     at: usize,
@@ -241,7 +243,8 @@ fn put_values(
 {
     let mut to = at;
     for t in 0..NUMBERS {
-        to = put_number(got, to, is_worked(t, size, working[t]), values[t]);
+        let value = worked(values[t], working[t], working_due(t < size));
+        to = put_number(got, to, t < size, value);
     }
     to
 }

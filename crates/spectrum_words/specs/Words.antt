@@ -1,7 +1,7 @@
 -- One output word's points, the next word, and numbers that 2^n divides. Not here: laws. Assumes nothing.
 use mathlib.Core.Path.{_≡_}
 use mathlib.Core.List.{List}
-use Prim.Native.Nat.{ℕ, _%_, _≤_, _<_, _^_}
+use Prim.Native.Nat.{ℕ, _%_, _≤_, _<_}
 use lib.Dec.{eqb}
 use lib.IntN.{ℤ, pos, natAbs}
 use lib.ListN.{length}
@@ -26,8 +26,8 @@ pub record Next (table : List ℕ) (u r : ℕ) : Type 0 where
   pub most : r ≤ 65535
   pub least : (x : ℕ) → x < length table → u ≤ at table x → r ≤ at table x
 
--- numbers that are not negative, multiples of 2^n, and within 2^24
-pub record Exact (l : List ℤ) (n : ℕ) : Type 0 where
-  pub whole : (x : ℕ) → x < 2 ^ n → val l x ≡ pos (natAbs (val l x))
-  pub divides : (x : ℕ) → x < 2 ^ n → natAbs (val l x) % 2 ^ n ≡ 0
-  pub small : (x : ℕ) → x < 2 ^ n → natAbs (val l x) ≤ mostNumber
+-- m numbers that are not negative, multiples of m, and within 2^24
+pub record Exact (l : List ℤ) (m : ℕ) : Type 0 where
+  pub whole : (x : ℕ) → x < m → val l x ≡ pos (natAbs (val l x))
+  pub divides : (x : ℕ) → x < m → natAbs (val l x) % m ≡ 0
+  pub small : (x : ℕ) → x < m → natAbs (val l x) ≤ mostNumber

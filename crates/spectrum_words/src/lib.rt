@@ -64,17 +64,35 @@ fn exact_quotient(a: i32, d: i32) -> u32
     (a / d) as u32
 }
 
-// Each number divided by 2^n, which divides it, and added to the result; the numbers end at 0.
-pub fn add_quotients(s: &mut [i32], n: usize, out: &mut [u32])
-    requires { ⌜ (length (now s) ≡ 2 ^ n) × (length (now out) ≡ 2 ^ n) × (n ≤ tableInputs) × Exact (now s) n × ((t : ℕ) → t < 2 ^ n → at (now out) t ≤ mostPoints) ⌝ }
-    ensures { λ _. ⌜ (now (s .exit) ≡ tab (2 ^ n) (λ _. pos 0)) × (now (out .exit) ≡ tab (2 ^ n) (λ t. at (now (out .entry)) t + natAbs (val (now (s .entry)) t) / 2 ^ n)) ⌝ }
+// Each number divided by d, which is how many there are and divides each, and added to the result; the numbers end at 0.
+fn divide_by(s: &mut [i32], d: i32, out: &mut [u32])
+    requires { ⌜ (d ≡ pos (length (now s))) × (length (now out) ≡ length (now s)) × (length (now s) ≤ mostPoints) × Exact (now s) (length (now s))
+        × ((t : ℕ) → t < length (now s) → at (now out) t ≤ mostPoints) ⌝ }
+    ensures { λ _. ⌜ (now (s .exit) ≡ tab (length (now (s .entry))) (λ _. pos 0))
+        × (now (out .exit) ≡ tab (length (now (s .entry))) (λ t. at (now (out .entry)) t + natAbs (val (now (s .entry)) t) / length (now (s .entry)))) ⌝ }
 {
-    let size = s.len() as i32;
     let mut t: usize = 0;
     while t < s.len() {
         let a = s[t];
-        out[t] += exact_quotient(a, size);
+        out[t] += exact_quotient(a, d);
         s[t] = 0;
         t += 1;
+    }
+}
+
+// Each number divided by 2^n, which divides it, and added to the result; the numbers end at 0. Of many numbers 2^n is given as a number, so
+// that the compiler divides by shifting.
+pub fn add_quotients(s: &mut [i32], n: usize, out: &mut [u32])
+    requires { ⌜ (length (now s) ≡ 2 ^ n) × (length (now out) ≡ 2 ^ n) × (n ≤ tableInputs) × Exact (now s) (2 ^ n) × ((t : ℕ) → t < 2 ^ n → at (now out) t ≤ mostPoints) ⌝ }
+    ensures { λ _. ⌜ (now (s .exit) ≡ tab (2 ^ n) (λ _. pos 0)) × (now (out .exit) ≡ tab (2 ^ n) (λ t. at (now (out .entry)) t + natAbs (val (now (s .entry)) t) / 2 ^ n)) ⌝ }
+{
+    let size = s.len() as i32;
+    match n {
+        12 => divide_by(s, 4096, out),
+        11 => divide_by(s, 2048, out),
+        10 => divide_by(s, 1024, out),
+        9 => divide_by(s, 512, out),
+        8 => divide_by(s, 256, out),
+        _ => divide_by(s, size, out),
     }
 }

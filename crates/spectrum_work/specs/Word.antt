@@ -51,7 +51,7 @@ module _ (f : ℕ → ℕ) (n : ℕ) (few : n ≤ 12) (bits : (x : ℕ) → f x 
   pub correlated : tab (2 ^ n) (spectrum (power f n) n) ≡ naturals n (λ t. auto f n t * 2 ^ n)
   correlated = tab-cong (2 ^ n) _ _ (λ t h. wiener-khinchin f n t h)
 
-  pub exact : Exact (naturals n (λ t. auto f n t * 2 ^ n)) n
+  pub exact : Exact (naturals n (λ t. auto f n t * 2 ^ n)) (2 ^ n)
   exact =
       record {
         whole = λ t h. subst (λ z. z ≡ pos (natAbs z)) (sym (naturals-at n _ t h)) refl;

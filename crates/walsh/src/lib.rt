@@ -24,8 +24,8 @@ fn cross_block(s: &mut [i32], at: usize, h: usize)
     }
 }
 
-// One stage: the butterflies of all m blocks.
-fn wide_pass(s: &mut [i32], h: usize, m: usize)
+// The butterflies of all m blocks of 2 h numbers.
+fn cross_blocks(s: &mut [i32], h: usize, m: usize)
     requires { ⌜ (m * (h + h) ≡ length (now s)) × Small (now s) 0 ⌝ }
     ensures { λ _. ⌜ Passed (now (s .entry)) (now (s .exit)) h m ⌝ }
 {
@@ -36,44 +36,18 @@ fn wide_pass(s: &mut [i32], h: usize, m: usize)
     }
 }
 
-// The stage with blocks of two numbers. The width is a number so that the compiler takes many blocks at once.
-fn pass_by_twos(s: &mut [i32], m: usize)
-    requires { ⌜ (m * 2 ≡ length (now s)) × Small (now s) 0 ⌝ }
-    ensures { λ _. ⌜ Passed (now (s .entry)) (now (s .exit)) 1 m ⌝ }
-{
-    let mut b: usize = 0;
-    while b < m {
-        cross_block(s, b * 2, 1);
-        b += 1;
-    }
-}
-
-// The stage with blocks of four numbers.
-fn pass_by_fours(s: &mut [i32], m: usize)
-    requires { ⌜ (m * 4 ≡ length (now s)) × Small (now s) 0 ⌝ }
-    ensures { λ _. ⌜ Passed (now (s .entry)) (now (s .exit)) 2 m ⌝ }
-{
-    let mut b: usize = 0;
-    while b < m {
-        cross_block(s, b * 4, 2);
-        b += 1;
-    }
-}
-
-// One stage, by its width.
+// One stage. Of short blocks the width is given as a number, so that the compiler takes many of them at once.
 fn pass(s: &mut [i32], h: usize, m: usize)
     requires { ⌜ (m * (h + h) ≡ length (now s)) × Small (now s) 0 ⌝ }
     ensures { λ _. ⌜ Passed (now (s .entry)) (now (s .exit)) h m ⌝ }
 {
-    if h == 1 {
-        pass_by_twos(s, m);
-        return;
+    match h {
+        1 => cross_blocks(s, 1, m),
+        2 => cross_blocks(s, 2, m),
+        4 => cross_blocks(s, 4, m),
+        8 => cross_blocks(s, 8, m),
+        _ => cross_blocks(s, h, m),
     }
-    if h == 2 {
-        pass_by_fours(s, m);
-        return;
-    }
-    wide_pass(s, h, m);
 }
 
 // The transform of numbers that are not negative and add up to at most 2^24.

@@ -79,25 +79,22 @@ module _ (a d : ℤ) (fa : SFits w32 a) (fd : SFits w32 d) (ea : a ≡ pos (natA
       → natAbs (toZ w32 (ofZ w32 (quotZ (toZ w32 (ofZ w32 a)) (toZ w32 (ofZ w32 d))))) * natAbs d ≡ natAbs a
   quotient-exact e = rw quotient-back (omega (arith, div-add-mod' (natAbs a) (natAbs d)))
 
--- what the quotient of a number read by 2^n asks, and what its answer is
-module _ (a : ℤ) (m : ℕ) (sa : natAbs a ≤ mostNumber) (sm : m ≤ mostPoints) (some : 0 < m) where
-  first : toZ w32 (ofZ w32 a) ≡ a
-  first = back a (omega arith)
-
-  second : toZ w32 m ≡ pos m
-  second = back (pos m) (omega arith)
+-- what the quotient of a number read by d, which is m, asks, and what its answer is
+module _ (a d : ℤ) (m : ℕ) (sa : natAbs a ≤ mostNumber) (ed : d ≡ pos m) (some : 0 < m) where
+  read : toZ w32 (ofZ w32 a) ≡ a
+  read = back a (omega arith)
 
   pub quotient-asks : a ≡ pos (natAbs a) → natAbs a % m ≡ 0
-      → (toZ w32 (ofZ w32 a) ≡ pos (natAbs (toZ w32 (ofZ w32 a)))) × (toZ w32 m ≡ pos (natAbs (toZ w32 m)))
-      × (0 < natAbs (toZ w32 m)) × (natAbs (toZ w32 (ofZ w32 a)) % natAbs (toZ w32 m) ≡ 0)
+      → (toZ w32 (ofZ w32 a) ≡ pos (natAbs (toZ w32 (ofZ w32 a)))) × (d ≡ pos (natAbs d)) × (0 < natAbs d)
+      × (natAbs (toZ w32 (ofZ w32 a)) % natAbs d ≡ 0)
   quotient-asks e h = (
-    first ∙ e ∙ ap (λ z. pos (natAbs z)) (sym first),
-    second ∙ ap (λ z. pos (natAbs z)) (sym second),
-    rw second some,
-    rw (first, second) h,
+    read ∙ e ∙ ap (λ z. pos (natAbs z)) (sym read),
+    ed ∙ ap (λ z. pos (natAbs z)) (sym ed),
+    rw ed some,
+    rw (read, ed) h,
   )
 
-  pub quotient-gives : (r : ℕ) → r * natAbs (toZ w32 m) ≡ natAbs (toZ w32 (ofZ w32 a)) → r ≡ natAbs a / m
+  pub quotient-gives : (r : ℕ) → r * natAbs d ≡ natAbs (toZ w32 (ofZ w32 a)) → r ≡ natAbs a / m
   quotient-gives r e =
-      let g : r * m ≡ natAbs a = rw (first, second) at e in
+      let g : r * m ≡ natAbs a = rw (read, ed) at e in
       sym (mul-div-cancel r some) ∙ ap (λ (x : ℕ). x / m) g

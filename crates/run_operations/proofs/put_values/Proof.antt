@@ -14,20 +14,23 @@ abbrev μ-loop : tie.MeasureT-loop
 loop-holds : tie.Need-loop-holds Inv-loop μ-loop
 loop-holds c = search needs
 
-mul-is-worked : tie.Need-mul-is-worked Inv-loop μ-loop
-mul-is-worked c = search needs
+mul-worked : tie.Need-mul-worked Inv-loop μ-loop
+mul-worked c = search needs
 
-element-copy-out-is-worked : tie.Need-element-copy-out-is-worked Inv-loop μ-loop
-element-copy-out-is-worked c = search needs
+element-copy-out-worked : tie.Need-element-copy-out-worked Inv-loop μ-loop
+element-copy-out-worked c = search needs
 
-is-worked-requires : tie.Need-is-worked-requires Inv-loop μ-loop
-is-worked-requires c κs = search needs
+mul-worked-2 : tie.Need-mul-worked-2 Inv-loop μ-loop
+mul-worked-2 c = search needs
 
-mul-put-number : tie.Need-mul-put-number Inv-loop μ-loop
-mul-put-number c = search needs
+element-copy-out-worked-2 : tie.Need-element-copy-out-worked-2 Inv-loop μ-loop
+element-copy-out-worked-2 c = search needs
 
-element-copy-out-put-number : tie.Need-element-copy-out-put-number Inv-loop μ-loop
-element-copy-out-put-number c = search needs
+working-due-requires : tie.Need-working-due-requires Inv-loop μ-loop
+working-due-requires c κs = search needs
+
+worked-requires : tie.Need-worked-requires Inv-loop μ-loop
+worked-requires c κs = search needs
 
 put-number-requires : tie.Need-put-number-requires Inv-loop μ-loop
 put-number-requires c κs = search needs
@@ -51,11 +54,12 @@ put-values-spec =
     Inv-loop
     μ-loop
     loop-holds
-    mul-is-worked
-    element-copy-out-is-worked
-    is-worked-requires
-    mul-put-number
-    element-copy-out-put-number
+    mul-worked
+    element-copy-out-worked
+    mul-worked-2
+    element-copy-out-worked-2
+    working-due-requires
+    worked-requires
     put-number-requires
     add-t
     loop-less

@@ -1,156 +1,174 @@
--- `spectrum_words::add_quotients` meets its contract. The loop's invariant: the first t quotients are added. The measure is what is left.
--- Assumes nothing.
-use mathlib.Core.Path.{_≡_, refl, _∙_, sym, ap, ap₂, subst}
-use Prim.Native.Nat.{ℕ, _+_, _-_, _/_, _%_, _≤_, _<_, _^_}
-use native.Mathlib.Nat.{div-le-self}
+-- `spectrum_words::add_quotients` meets its contract: it divides by the same number whether that is given as a number or not. Assumes
+-- nothing.
+use mathlib.Core.Path.{_≡_, sym, ap, subst, _∙_}
+use mathlib.Core.List.{List}
+use Prim.Native.Nat.{ℕ, _+_, _/_, _≤_, _<_, _^_}
 use native.Mathlib.Omega.{arith}
 use lib.IntN.{ℤ, pos, natAbs}
-use lib.ListN.{length, length-set}
+use lib.ListN.{length}
 use lib.Pow.{pow-mono}
-use Rattle.walsh_laws.specs.Machine.{quotient-asks, quotient-gives}
 use denote.Ref.{now}
-use Rattle.slices.specs.Places.{at, tab, over}
-use Rattle.slices.specs.Filled.{over-none, over-more, over-beyond, over-whole}
-use Rattle.walsh_laws.specs.Walsh.{mostPoints, mostNumber}
+use Rattle.slices.specs.Places.{at, tab}
+use Rattle.block.specs.Limits.{tableInputs}
+use Rattle.walsh_laws.specs.Walsh.{mostPoints}
 use Rattle.walsh_laws.specs.Passes.{val}
+use Rattle.walsh_laws.specs.Machine.{back}
+use Rattle.spectrum_words.specs.Words.{Exact}
 use borrow.Author.Needs.{needs}
 use Rattle.spectrum_words.proofs.add_quotients.Statement.{statement}
 use Rattle.spectrum_words.proofs.add_quotients.Tie as tie
 
-abbrev Inv-loop : tie.InvT-loop
-Inv-loop s₀ n out₀ size t₀ s out t = (t ≤ length s₀) × (length s ≡ length s₀) × (length out ≡ length out₀) × (s ≡ over (tab t (λ _. pos 0)) s₀) × (out ≡ over (tab t (λ t. at out₀ t + natAbs (val s₀ t) / 2 ^ n)) out₀)
+-- what the loop asks, where d is 2^n
+asked : (l : List ℤ) (k : List ℕ) (n : ℕ) {d : ℤ}
+    → (length l ≡ 2 ^ n) × (length k ≡ 2 ^ n) × (n ≤ tableInputs) × Exact l (2 ^ n) × ((t : ℕ) → t < 2 ^ n → at k t ≤ mostPoints) → d ≡ pos (2 ^ n)
+    → (d ≡ pos (length l)) × (length k ≡ length l) × (length l ≤ mostPoints) × Exact l (length l) × ((t : ℕ) → t < length l → at k t ≤ mostPoints)
+asked l k n p e = (
+  e ∙ ap pos (sym (p .0)),
+  p .1 ∙ sym (p .0),
+  omega (arith, p .0, pow-mono (p .2)),
+  subst (Exact l) (sym (p .0)) (p .3),
+  λ t h. p .4 t (omega (arith, p .0)),
+)
 
-abbrev μ-loop : tie.MeasureT-loop
-μ-loop s₀ n out₀ size t₀ s out t = length s₀ - t
+-- what it gives
+given : (l : List ℤ) (k : List ℕ) {m : ℕ} {l₁ : List ℤ} {k₁ : List ℕ} → length l ≡ m
+    → (l₁ ≡ tab (length l) (λ _. pos 0)) × (k₁ ≡ tab (length l) (λ t. at k t + natAbs (val l t) / length l))
+    → (l₁ ≡ tab m (λ _. pos 0)) × (k₁ ≡ tab m (λ t. at k t + natAbs (val l t) / m))
+given l k e p =
+    (p .0 ∙ ap (λ (m : ℕ). tab m (λ _. pos 0)) e, p .1 ∙ ap (λ (m : ℕ). tab m (λ t. at k t + natAbs (val l t) / m)) e)
 
-cast-size : tie.Need-cast-size Inv-loop μ-loop
+cast-size : tie.Need-cast-size
 cast-size c = record { sfits = omega (arith, pow-mono (c .before .pre .2)) }
 
--- the number and the result's entry are those that stood there
-abbrev here : tie.In-loop Inv-loop μ-loop → ℤ
-here c = val (c .before .loop .s) (c .before .loop .t)
+divide-by-requires : tie.Need-divide-by-requires
+divide-by-requires c κs =
+    let s = c .before .before .before .before in
+    asked (now (s .args .s)) (now (s .args .out)) (s .args .n) (s .pre) (ap (λ (n : ℕ). pos (2 ^ n)) (sym (c .before .before .match .keys1)))
 
-kept : (c : tie.In-loop Inv-loop μ-loop) → here c ≡ val (now (c .before .before .before .args .s)) (c .before .loop .t)
-kept c =
-    ap (λ l. val l (c .before .loop .t)) (c .before .loop .inv .3)
-    ∙ over-beyond (c .before .loop .t) _ (now (c .before .before .before .args .s)) (pos 0) (c .before .loop .t) (omega arith)
+divide-by-requires-2 : tie.Need-divide-by-requires-2
+divide-by-requires-2 c κs =
+    let s = c .before .before .before .before in
+    asked (now (s .args .s)) (now (s .args .out)) (s .args .n) (s .pre) (ap (λ (n : ℕ). pos (2 ^ n)) (sym (c .before .before .match .keys2)))
 
-stood : (c : tie.In-loop Inv-loop μ-loop)
-    → at (c .before .loop .out) (c .before .loop .t) ≡ at (now (c .before .before .before .args .out)) (c .before .loop .t)
-stood c =
-    ap (λ l. at l (c .before .loop .t)) (c .before .loop .inv .4)
-    ∙ over-beyond (c .before .loop .t) _ (now (c .before .before .before .args .out)) 0 (c .before .loop .t) (omega arith)
+divide-by-requires-3 : tie.Need-divide-by-requires-3
+divide-by-requires-3 c κs =
+    let s = c .before .before .before .before in
+    asked (now (s .args .s)) (now (s .args .out)) (s .args .n) (s .pre) (ap (λ (n : ℕ). pos (2 ^ n)) (sym (c .before .before .match .keys3)))
 
-within : (c : tie.In-loop Inv-loop μ-loop) → c .before .loop .t < 2 ^ c .before .before .before .args .n
-within c = omega (arith, c .before .before .before .pre .0)
+divide-by-requires-4 : tie.Need-divide-by-requires-4
+divide-by-requires-4 c κs =
+    let s = c .before .before .before .before in
+    asked (now (s .args .s)) (now (s .args .out)) (s .args .n) (s .pre) (ap (λ (n : ℕ). pos (2 ^ n)) (sym (c .before .before .match .keys4)))
 
-few : (c : tie.In-loop Inv-loop μ-loop) → length (now (c .before .before .before .args .s)) ≤ mostPoints
-few c = omega (arith, c .before .before .before .pre .0, pow-mono (c .before .before .before .pre .2))
+divide-by-requires-5 : tie.Need-divide-by-requires-5
+divide-by-requires-5 c κs =
+    let s = c .before .before .before .before in
+    asked (now (s .args .s)) (now (s .args .out)) (s .args .n) (s .pre) (ap (λ (n : ℕ). pos (2 ^ n)) (sym (c .before .before .match .keys5)))
 
-small : (c : tie.In-loop Inv-loop μ-loop) → natAbs (here c) ≤ mostNumber
-small c = subst (λ z. natAbs z ≤ mostNumber) (sym (kept c)) (c .before .before .before .pre .3 .small _ (within c))
+divide-by-requires-6 : tie.Need-divide-by-requires-6
+divide-by-requires-6 c κs =
+    let s = c .before .before .before .before in
+    let size = back (pos (length (now (s .args .s)))) (omega (arith, s .pre .0, pow-mono (s .pre .2))) in
+    asked (now (s .args .s)) (now (s .args .out)) (s .args .n) (s .pre) (size ∙ ap pos (s .pre .0))
 
--- what the division gives
-given : (c : tie.After-exact-quotient Inv-loop μ-loop)
-    → c .exact-quotient .result ≡ natAbs (val (now (c .before .before .before .before .before .args .s)) (c .before .before .before .loop .t)) / 2 ^ c .before .before .before .before .before .args .n
-given c =
-    let s = c .before .before in
-    quotient-gives (here s) (length (now (s .before .before .before .args .s))) (small s) (few s) (omega arith) _ (c .exact-quotient .ensures)
-    ∙ ap₂ (λ (z : ℤ) (m : ℕ). natAbs z / m) (kept s) (s .before .before .before .pre .0)
-
-loop-holds : tie.Need-loop-holds Inv-loop μ-loop
-loop-holds c = (search needs, search needs, search needs, over-none _ _, over-none _ _)
-
-mul-a : tie.Need-mul-a Inv-loop μ-loop
-mul-a c = search needs
-
-slice-copy-out-a : tie.Need-slice-copy-out-a Inv-loop μ-loop
-slice-copy-out-a c = search needs
-
-exact-quotient-requires : tie.Need-exact-quotient-requires Inv-loop μ-loop
-exact-quotient-requires c κs =
-    let s = c .before in
-    quotient-asks (here s) (length (now (s .before .before .before .args .s))) (small s) (few s) (omega arith)
-    (subst (λ z. z ≡ pos (natAbs z)) (sym (kept s)) (s .before .before .before .pre .3 .whole _ (within s)))
-    (ap₂ (λ (z : ℤ) (m : ℕ). natAbs z % m) (kept s) (s .before .before .before .pre .0) ∙ s .before .before .before .pre .3 .divides _ (within s))
-
-mul-out : tie.Need-mul-out Inv-loop μ-loop
-mul-out c = search needs
-
-slice-read-out : tie.Need-slice-read-out Inv-loop μ-loop
-slice-read-out c = search needs
-
-add-out : tie.Need-add-out Inv-loop μ-loop
-add-out c =
-    let s = c .before .before .before in
-    omega (
-      arith,
-      stood s,
-      given (c .before),
-      s .before .before .before .pre .4 _ (within s),
-      s .before .before .before .pre .3 .small _ (within s),
-      div-le-self (natAbs (val (now (s .before .before .before .args .s)) (s .before .loop .t))) (2 ^ s .before .before .before .args .n),
-    )
-
-slice-write-out : tie.Need-slice-write-out Inv-loop μ-loop
-slice-write-out c = search needs
-
-mul-s : tie.Need-mul-s Inv-loop μ-loop
-mul-s c = search needs
-
-slice-set-of-s : tie.Need-slice-set-of-s Inv-loop μ-loop
-slice-set-of-s c = search needs
-
-add-t : tie.Need-add-t Inv-loop μ-loop
-add-t c = search needs
-
-loop-less : tie.Need-loop-less Inv-loop μ-loop
-loop-less c = search needs
-
-loop-again : tie.Need-loop-again Inv-loop μ-loop
-loop-again c =
-    let s = c .before .before .before in (
-      search needs,
-      simp length-set (omega arith),
-      simp length-set (omega arith),
-      over-more _ _ _ _ _ (s .before .loop .inv .3) refl (omega arith),
-      over-more _ _ _ _ _ (s .before .loop .inv .4) (ap₂ _+_ (stood s) (given (c .before))) (omega arith),
-    )
-
-same-length : tie.Need-same-length Inv-loop μ-loop
+same-length : tie.Need-same-length
 same-length c = search needs
 
-same-length-2 : tie.Need-same-length-2 Inv-loop μ-loop
+same-length-2 : tie.Need-same-length-2
 same-length-2 c = search needs
 
-returns : tie.Need-returns Inv-loop μ-loop
+returns : tie.Need-returns
 returns c =
-    let a = c .before .before .before .args in
-    let end : c .before .loop .t ≡ 2 ^ a .n = omega arith in (
-      (rw end at (c .before .loop .inv .3)) ∙ over-whole (2 ^ a .n) (λ _. pos 0) (now (a .s)) (c .before .before .before .pre .0),
-      (rw end at (c .before .loop .inv .4)) ∙ over-whole (2 ^ a .n) (λ t. at (now (a .out)) t + natAbs (val (now (a .s)) t) / 2 ^ a .n) (now (a .out)) (c .before .before .before .pre .1),
-    )
+    let done = c .before .before .before in
+    let s = done .before .before .before .before .before in
+    given (now (s .args .s)) (now (s .args .out)) (s .pre .0) (done .divide-by .ensures)
+
+same-length-3 : tie.Need-same-length-3
+same-length-3 c = search needs
+
+same-length-4 : tie.Need-same-length-4
+same-length-4 c = search needs
+
+returns-2 : tie.Need-returns-2
+returns-2 c =
+    let done = c .before .before .before in
+    let s = done .before .before .before .before .before in
+    given (now (s .args .s)) (now (s .args .out)) (s .pre .0) (done .divide-by2 .ensures)
+
+same-length-5 : tie.Need-same-length-5
+same-length-5 c = search needs
+
+same-length-6 : tie.Need-same-length-6
+same-length-6 c = search needs
+
+returns-3 : tie.Need-returns-3
+returns-3 c =
+    let done = c .before .before .before in
+    let s = done .before .before .before .before .before in
+    given (now (s .args .s)) (now (s .args .out)) (s .pre .0) (done .divide-by3 .ensures)
+
+same-length-7 : tie.Need-same-length-7
+same-length-7 c = search needs
+
+same-length-8 : tie.Need-same-length-8
+same-length-8 c = search needs
+
+returns-4 : tie.Need-returns-4
+returns-4 c =
+    let done = c .before .before .before in
+    let s = done .before .before .before .before .before in
+    given (now (s .args .s)) (now (s .args .out)) (s .pre .0) (done .divide-by4 .ensures)
+
+same-length-9 : tie.Need-same-length-9
+same-length-9 c = search needs
+
+same-length-10 : tie.Need-same-length-10
+same-length-10 c = search needs
+
+returns-5 : tie.Need-returns-5
+returns-5 c =
+    let done = c .before .before .before in
+    let s = done .before .before .before .before .before in
+    given (now (s .args .s)) (now (s .args .out)) (s .pre .0) (done .divide-by5 .ensures)
+
+same-length-11 : tie.Need-same-length-11
+same-length-11 c = search needs
+
+same-length-12 : tie.Need-same-length-12
+same-length-12 c = search needs
+
+returns-6 : tie.Need-returns-6
+returns-6 c =
+    let done = c .before .before .before in
+    let s = done .before .before .before .before .before in
+    given (now (s .args .s)) (now (s .args .out)) (s .pre .0) (done .divide-by6 .ensures)
 
 pub add-quotients-spec : {M : Type 1} → statement M
 add-quotients-spec =
     tie.close
     (tie.spec
-    Inv-loop
-    μ-loop
     cast-size
-    loop-holds
-    mul-a
-    slice-copy-out-a
-    exact-quotient-requires
-    mul-out
-    slice-read-out
-    add-out
-    slice-write-out
-    mul-s
-    slice-set-of-s
-    add-t
-    loop-less
-    loop-again
+    divide-by-requires
+    divide-by-requires-2
+    divide-by-requires-3
+    divide-by-requires-4
+    divide-by-requires-5
+    divide-by-requires-6
     same-length
     same-length-2
-    returns)
+    returns
+    same-length-3
+    same-length-4
+    returns-2
+    same-length-5
+    same-length-6
+    returns-3
+    same-length-7
+    same-length-8
+    returns-4
+    same-length-9
+    same-length-10
+    returns-5
+    same-length-11
+    same-length-12
+    returns-6)

@@ -68,7 +68,7 @@ add-quotients-requires c κs =
       ap length (multiples (c .before .before .before)) ∙ length-tab (2 ^ n) (λ t. pos (auto (points s) n t * 2 ^ n)),
       s .pre .2,
       s .pre .3,
-      subst (λ l. Exact l n) (sym (multiples (c .before .before .before))) (exact (points s) n (s .pre .3) (bits s)),
+      subst (λ l. Exact l (2 ^ n)) (sym (multiples (c .before .before .before))) (exact (points s) n (s .pre .3) (bits s)),
       s .pre .4,
     )
 

@@ -1,4 +1,4 @@
--- `walsh::wide_pass` meets its contract. The loop's invariant: the first b blocks are done. The measure is what is left. Assumes nothing.
+-- `walsh::cross_blocks` meets its contract. The loop's invariant: the first b blocks are done. The measure is what is left. Assumes nothing.
 use mathlib.Core.Path.{_≡_}
 use Prim.Native.Nat.{_+_, _*_, _-_, _≤_}
 use native.Mathlib.Nat.{mul-le-mul-right}
@@ -7,8 +7,8 @@ use lib.ListN.{length}
 use denote.Ref.{now}
 use Rattle.walsh_laws.specs.Passes.{Passed, passed-none, passed-more, passed-small}
 use borrow.Author.Needs.{needs}
-use Rattle.walsh.proofs.wide_pass.Statement.{statement}
-use Rattle.walsh.proofs.wide_pass.Tie as tie
+use Rattle.walsh.proofs.cross_blocks.Statement.{statement}
+use Rattle.walsh.proofs.cross_blocks.Tie as tie
 
 abbrev Inv-loop : tie.InvT-loop
 Inv-loop s₀ h m b₀ s b = (b ≤ m) × Passed s₀ s h b
@@ -55,8 +55,8 @@ returns c =
     let end : c .before .loop .b ≡ c .before .before .args .m = omega arith in
     rw end at (c .before .loop .inv .1)
 
-pub wide-pass-spec : {M : Type 1} → statement M
-wide-pass-spec =
+pub cross-blocks-spec : {M : Type 1} → statement M
+cross-blocks-spec =
     tie.close
     (tie.spec
     Inv-loop
