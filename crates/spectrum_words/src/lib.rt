@@ -12,16 +12,19 @@ ghost use Rattle.walsh_laws.specs.Walsh.{mostPoints};
 ghost use Rattle.walsh_laws.specs.Passes.{val};
 ghost use Rattle.spectrum_words.specs.Words.{marks, Exact, Nearer, Next};
 
-// Of r and w the smaller one, but r where w is below u.
+// w, or 65,535 where it is below u.
+fn not_below(w: u16, u: u16) -> u16
+    ensures { λ z. ⌜ (u ≤ z) × (u ≤ w → z ≡ w) ⌝ }
+{
+    if w < u { 65535 } else { w }
+}
+
+// Of r and w the smaller one, but r where w is below u. It is the smaller of two numbers, of which the compiler takes many at once.
 fn nearer(w: u16, u: u16, r: u16) -> u16
     ensures { λ z. ⌜ Nearer w u r z ⌝ }
 {
-    if u <= w {
-        if w < r {
-            return w;
-        }
-    }
-    r
+    let next = not_below(w, u);
+    if next < r { next } else { r }
 }
 
 // The least entry that is not below u, 65,535 where there is none.

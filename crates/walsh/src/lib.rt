@@ -45,7 +45,6 @@ fn pass(s: &mut [i32], h: usize, m: usize)
         1 => cross_blocks(s, 1, m),
         2 => cross_blocks(s, 2, m),
         4 => cross_blocks(s, 4, m),
-        8 => cross_blocks(s, 8, m),
         _ => cross_blocks(s, h, m),
     }
 }

@@ -33,12 +33,7 @@ cross-blocks-requires-3 c κs =
     (filled (now (s .args .s)) (s .args .m) (c .before .match .keys3) (s .pre .0), s .pre .1)
 
 cross-blocks-requires-4 : tie.Need-cross-blocks-requires-4
-cross-blocks-requires-4 c κs =
-    let s = c .before .before in
-    (filled (now (s .args .s)) (s .args .m) (c .before .match .keys4) (s .pre .0), s .pre .1)
-
-cross-blocks-requires-5 : tie.Need-cross-blocks-requires-5
-cross-blocks-requires-5 c κs = search needs
+cross-blocks-requires-4 c κs = search needs
 
 same-length : tie.Need-same-length
 same-length c = search needs
@@ -71,16 +66,7 @@ same-length-4 : tie.Need-same-length-4
 same-length-4 c = search needs
 
 returns-4 : tie.Need-returns-4
-returns-4 c =
-    let k = c .before .before .before in
-    let s = k .before in
-    passed (now (s .args .s)) (c .before .cross-blocks4 .last .0) (s .args .m) (k .match .keys4) (c .before .cross-blocks4 .ensures)
-
-same-length-5 : tie.Need-same-length-5
-same-length-5 c = search needs
-
-returns-5 : tie.Need-returns-5
-returns-5 c = search needs
+returns-4 c = search needs
 
 pub pass-spec : {M : Type 1} → statement M
 pass-spec =
@@ -90,7 +76,6 @@ pass-spec =
     cross-blocks-requires-2
     cross-blocks-requires-3
     cross-blocks-requires-4
-    cross-blocks-requires-5
     same-length
     returns
     same-length-2
@@ -98,6 +83,4 @@ pass-spec =
     same-length-3
     returns-3
     same-length-4
-    returns-4
-    same-length-5
-    returns-5)
+    returns-4)
