@@ -6,7 +6,7 @@ ghost use lib.ListN.{length};
 ghost use lib.IntN.{pos, natAbs};
 ghost use Rattle.slices.specs.Places.{tab};
 ghost use Rattle.walsh_laws.specs.Walsh.{walsh, mostPoints};
-ghost use Rattle.walsh_laws.specs.Passes.{val, Small, Crossed, Passed};
+ghost use Rattle.walsh_laws.specs.Passes.{val, Small, Crossed, CrossedTwice, PassedTwice};
 ghost use Rattle.walsh.specs.Numbers.{Ready};
 
 // The butterflies of the block of 2 h numbers from `at` on.
@@ -24,32 +24,60 @@ fn cross_block(s: &mut [i32], at: usize, h: usize)
     }
 }
 
-// The butterflies of all m blocks of 2 h numbers.
-fn cross_blocks(s: &mut [i32], h: usize, m: usize)
-    requires { ⌜ (m * (h + h) ≡ length (now s)) × Small (now s) 0 ⌝ }
-    ensures { λ _. ⌜ Passed (now (s .entry)) (now (s .exit)) h m ⌝ }
+// The butterflies of two stages, in the block of 4 h numbers from `at` on: those of its halves and then its own.
+fn cross_quad(s: &mut [i32], at: usize, h: usize)
+    requires { ⌜ (at + 4 * h ≤ length (now s)) × Small (now s) at ⌝ }
+    ensures { λ _. ⌜ CrossedTwice (now (s .entry)) (now (s .exit)) at h h ⌝ }
+{
+    let mut j: usize = 0;
+    while j < h {
+        let first = at + j;
+        let second = first + h;
+        let third = second + h;
+        let fourth = third + h;
+        let a = s[first];
+        let b = s[second];
+        let c = s[third];
+        let d = s[fourth];
+        let left_sum = a + b;
+        let left_difference = a - b;
+        let right_sum = c + d;
+        let right_difference = c - d;
+        s[first] = left_sum + right_sum;
+        s[second] = left_difference + right_difference;
+        s[third] = left_sum - right_sum;
+        s[fourth] = left_difference - right_difference;
+        j += 1;
+    }
+}
+
+// The butterflies of two stages in all m blocks of 4 h numbers.
+fn cross_quads(s: &mut [i32], h: usize, m: usize)
+    requires { ⌜ (m * (4 * h) ≡ length (now s)) × Small (now s) 0 ⌝ }
+    ensures { λ _. ⌜ PassedTwice (now (s .entry)) (now (s .exit)) h m ⌝ }
 {
     let mut b: usize = 0;
     while b < m {
-        cross_block(s, b * (h + h), h);
+        cross_quad(s, b * (4 * h), h);
         b += 1;
     }
 }
 
-// One stage. Of short blocks the width is given as a number, so that the compiler takes many of them at once.
-fn pass(s: &mut [i32], h: usize, m: usize)
-    requires { ⌜ (m * (h + h) ≡ length (now s)) × Small (now s) 0 ⌝ }
-    ensures { λ _. ⌜ Passed (now (s .entry)) (now (s .exit)) h m ⌝ }
+// Two stages, so that each number is loaded and stored once for both. Of short blocks the width is given as a number, so that the
+// compiler takes many numbers at once.
+fn two_stages(s: &mut [i32], h: usize, m: usize)
+    requires { ⌜ (m * (4 * h) ≡ length (now s)) × Small (now s) 0 ⌝ }
+    ensures { λ _. ⌜ PassedTwice (now (s .entry)) (now (s .exit)) h m ⌝ }
 {
     match h {
-        1 => cross_blocks(s, 1, m),
-        2 => cross_blocks(s, 2, m),
-        4 => cross_blocks(s, 4, m),
-        _ => cross_blocks(s, h, m),
+        1 => cross_quads(s, 1, m),
+        4 => cross_quads(s, 4, m),
+        16 => cross_quads(s, 16, m),
+        _ => cross_quads(s, h, m),
     }
 }
 
-// The transform of numbers that are not negative and add up to at most 2^24.
+// The transform of numbers that are not negative and add up to at most 2^24: its stages two at a time, and the last by itself where n is odd.
 pub fn transform(s: &mut [i32], n: usize)
     requires { ⌜ Ready (now s) n ⌝ }
     ensures { λ _. ⌜ now (s .exit) ≡ tab (2 ^ n) (walsh (val (now (s .entry))) n) ⌝ }
@@ -57,10 +85,13 @@ pub fn transform(s: &mut [i32], n: usize)
     let size = s.len();
     let mut h: usize = 1;
     let mut i: usize = 0;
-    while i < n {
-        pass(s, h, size / (h + h));
-        h *= 2;
-        i += 1;
+    while i + 1 < n {
+        two_stages(s, h, size / (4 * h));
+        h *= 4;
+        i += 2;
+    }
+    if i < n {
+        cross_block(s, 0, h);
     }
 }
 

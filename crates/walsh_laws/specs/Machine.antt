@@ -1,7 +1,7 @@
 -- Signed numbers of 32 bits: what an operation of the code gives, where its operands are small enough. The machine reads each number back
 -- from its bits, `toZ w32 (ofZ w32 z)`, which is z where z fits. Assumes nothing.
 use mathlib.Core.Path.{_≡_, sym, ap, ap₂, _∙_}
-use Prim.Native.Nat.{ℕ, _*_, _/_, _%_, _≤_, _<_}
+use Prim.Native.Nat.{ℕ, _+_, _*_, _/_, _%_, _≤_, _<_}
 use native.Mathlib.Nat.{mul-le-mul, div-le-self, div-add-mod', mul-div-cancel}
 use native.Mathlib.Omega.{arith}
 use lib.IntN.{ℤ, pos, natAbs, _+ℤ_, _-ℤ_, _*ℤ_}
@@ -13,31 +13,76 @@ use mir.ValLaws.{toZ-ofZ}
 use Rattle.walsh_laws.specs.Walsh.{mostPoints, mostNumber}
 use Rattle.walsh_laws.specs.Differences.{mag-abs, abs-add, abs-sub, square-pos}
 
-pub fits : (z : ℤ) → natAbs z ≤ 2 * mostNumber → SFits w32 z
+pub fits : (z : ℤ) → natAbs z ≤ 4 * mostNumber → SFits w32 z
 fits z h = record { sfits = omega (arith, mag-abs z) }
 
-pub back : (z : ℤ) → natAbs z ≤ 2 * mostNumber → toZ w32 (ofZ w32 z) ≡ z
+pub back : (z : ℤ) → natAbs z ≤ 4 * mostNumber → toZ w32 (ofZ w32 z) ≡ z
 back z h = toZ-ofZ w32 z (fits z h)
 
-pub sum-fits : (a b : ℤ) → natAbs a ≤ mostNumber → natAbs b ≤ mostNumber → SFits w32 (toZ w32 (ofZ w32 a) +ℤ toZ w32 (ofZ w32 b))
-sum-fits a b h k =
-    rw (back a (omega arith), back b (omega arith)) (fits (a +ℤ b) (omega (arith, abs-add a b)))
+-- ---- a sum and a difference of x, which is a, and y, which is b
 
-pub sum-back : (a b : ℤ) → natAbs a ≤ mostNumber → natAbs b ≤ mostNumber
-    → toZ w32 (ofZ w32 (toZ w32 (ofZ w32 a) +ℤ toZ w32 (ofZ w32 b))) ≡ a +ℤ b
-sum-back a b h k =
-    ap₂ (λ x y. toZ w32 (ofZ w32 (x +ℤ y))) (back a (omega arith)) (back b (omega arith)) ∙ back (a +ℤ b) (omega (arith, abs-add a b))
+module _ {x y a b : ℤ} (ex : x ≡ a) (ey : y ≡ b) (h : natAbs a + natAbs b ≤ 4 * mostNumber) where
+  pub sum-fits : SFits w32 (x +ℤ y)
+  sum-fits = rw (ex, ey) (fits (a +ℤ b) (omega (arith, abs-add a b)))
 
-pub difference-fits : (a b : ℤ) → natAbs a ≤ mostNumber → natAbs b ≤ mostNumber → SFits w32 (toZ w32 (ofZ w32 a) -ℤ toZ w32 (ofZ w32 b))
-difference-fits a b h k =
-    rw (back a (omega arith), back b (omega arith)) (fits (a -ℤ b) (omega (arith, abs-sub a b)))
+  pub sum-back : toZ w32 (ofZ w32 (x +ℤ y)) ≡ a +ℤ b
+  sum-back = rw (ex, ey) (back (a +ℤ b) (omega (arith, abs-add a b)))
 
-pub difference-back : (a b : ℤ) → natAbs a ≤ mostNumber → natAbs b ≤ mostNumber
-    → toZ w32 (ofZ w32 (toZ w32 (ofZ w32 a) -ℤ toZ w32 (ofZ w32 b))) ≡ a -ℤ b
-difference-back a b h k =
-    ap₂ (λ x y. toZ w32 (ofZ w32 (x -ℤ y))) (back a (omega arith)) (back b (omega arith)) ∙ back (a -ℤ b) (omega (arith, abs-sub a b))
+  pub difference-fits : SFits w32 (x -ℤ y)
+  difference-fits = rw (ex, ey) (fits (a -ℤ b) (omega (arith, abs-sub a b)))
 
-square-small : (z : ℤ) → natAbs z ≤ mostPoints → natAbs (z *ℤ z) ≤ 2 * mostNumber
+  pub difference-back : toZ w32 (ofZ w32 (x -ℤ y)) ≡ a -ℤ b
+  difference-back = rw (ex, ey) (back (a -ℤ b) (omega (arith, abs-sub a b)))
+
+-- ---- the butterflies of two stages on four numbers
+
+module _ {x y z w a b c d : ℤ} (ex : x ≡ a) (ey : y ≡ b) (ez : z ≡ c) (ew : w ≡ d)
+    (h : natAbs a + natAbs b + (natAbs c + natAbs d) ≤ 4 * mostNumber) where
+  left-sum : toZ w32 (ofZ w32 (x +ℤ y)) ≡ a +ℤ b
+  left-sum = sum-back ex ey (omega arith)
+
+  left-difference : toZ w32 (ofZ w32 (x -ℤ y)) ≡ a -ℤ b
+  left-difference = difference-back ex ey (omega arith)
+
+  right-sum : toZ w32 (ofZ w32 (z +ℤ w)) ≡ c +ℤ d
+  right-sum = sum-back ez ew (omega arith)
+
+  right-difference : toZ w32 (ofZ w32 (z -ℤ w)) ≡ c -ℤ d
+  right-difference = difference-back ez ew (omega arith)
+
+  sums : natAbs (a +ℤ b) + natAbs (c +ℤ d) ≤ 4 * mostNumber
+  sums = omega (arith, abs-add a b, abs-add c d)
+
+  differences : natAbs (a -ℤ b) + natAbs (c -ℤ d) ≤ 4 * mostNumber
+  differences = omega (arith, abs-sub a b, abs-sub c d)
+
+  pub first-fits : SFits w32 (toZ w32 (ofZ w32 (x +ℤ y)) +ℤ toZ w32 (ofZ w32 (z +ℤ w)))
+  first-fits = sum-fits left-sum right-sum sums
+
+  pub first-back : toZ w32 (ofZ w32 (toZ w32 (ofZ w32 (x +ℤ y)) +ℤ toZ w32 (ofZ w32 (z +ℤ w)))) ≡ (a +ℤ b) +ℤ (c +ℤ d)
+  first-back = sum-back left-sum right-sum sums
+
+  pub second-fits : SFits w32 (toZ w32 (ofZ w32 (x -ℤ y)) +ℤ toZ w32 (ofZ w32 (z -ℤ w)))
+  second-fits = sum-fits left-difference right-difference differences
+
+  pub second-back : toZ w32 (ofZ w32 (toZ w32 (ofZ w32 (x -ℤ y)) +ℤ toZ w32 (ofZ w32 (z -ℤ w)))) ≡ (a -ℤ b) +ℤ (c -ℤ d)
+  second-back = sum-back left-difference right-difference differences
+
+  pub third-fits : SFits w32 (toZ w32 (ofZ w32 (x +ℤ y)) -ℤ toZ w32 (ofZ w32 (z +ℤ w)))
+  third-fits = difference-fits left-sum right-sum sums
+
+  pub third-back : toZ w32 (ofZ w32 (toZ w32 (ofZ w32 (x +ℤ y)) -ℤ toZ w32 (ofZ w32 (z +ℤ w)))) ≡ (a +ℤ b) -ℤ (c +ℤ d)
+  third-back = difference-back left-sum right-sum sums
+
+  pub fourth-fits : SFits w32 (toZ w32 (ofZ w32 (x -ℤ y)) -ℤ toZ w32 (ofZ w32 (z -ℤ w)))
+  fourth-fits = difference-fits left-difference right-difference differences
+
+  pub fourth-back : toZ w32 (ofZ w32 (toZ w32 (ofZ w32 (x -ℤ y)) -ℤ toZ w32 (ofZ w32 (z -ℤ w)))) ≡ (a -ℤ b) -ℤ (c -ℤ d)
+  fourth-back = difference-back left-difference right-difference differences
+
+-- ---- a square
+
+square-small : (z : ℤ) → natAbs z ≤ mostPoints → natAbs (z *ℤ z) ≤ 4 * mostNumber
 square-small z h = rw (square-pos z) (omega (arith, mul-le-mul h h))
 
 pub square-fits : (a : ℤ) → natAbs a ≤ mostPoints → SFits w32 (toZ w32 (ofZ w32 a) *ℤ toZ w32 (ofZ w32 a))

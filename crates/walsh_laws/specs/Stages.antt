@@ -78,6 +78,24 @@ part-high f i a r h =
     (sum-cong _ _ (2 ^ i) (λ y k. ap (λ (x : ℕ). f ((a * 2 + 1) * 2 ^ i + y) * x) (odd-tops i r y h k))))
     ∙ sym (sub-sub (plus f i (a * 2) r) (minus f i (a * 2) r) (plus f i (a * 2 + 1) r) (minus f i (a * 2 + 1) r))
 
+-- two stages: the four quarters of a block of four times the size
+module _ (f : ℕ → ℕ) (i a r : ℕ) (h : r < 2 ^ i) where
+  pub part-quarter-1 : part f (suc (suc i)) a r
+      ≡ (part f i (a * 2 * 2) r +ℤ part f i (a * 2 * 2 + 1) r) +ℤ (part f i ((a * 2 + 1) * 2) r +ℤ part f i ((a * 2 + 1) * 2 + 1) r)
+  part-quarter-1 = part-low f (suc i) a r (omega arith) ∙ ap₂ _+ℤ_ (part-low f i (a * 2) r h) (part-low f i (a * 2 + 1) r h)
+
+  pub part-quarter-2 : part f (suc (suc i)) a (2 ^ i + r)
+      ≡ (part f i (a * 2 * 2) r -ℤ part f i (a * 2 * 2 + 1) r) +ℤ (part f i ((a * 2 + 1) * 2) r -ℤ part f i ((a * 2 + 1) * 2 + 1) r)
+  part-quarter-2 = part-low f (suc i) a (2 ^ i + r) (omega arith) ∙ ap₂ _+ℤ_ (part-high f i (a * 2) r h) (part-high f i (a * 2 + 1) r h)
+
+  pub part-quarter-3 : part f (suc (suc i)) a (2 ^ suc i + r)
+      ≡ (part f i (a * 2 * 2) r +ℤ part f i (a * 2 * 2 + 1) r) -ℤ (part f i ((a * 2 + 1) * 2) r +ℤ part f i ((a * 2 + 1) * 2 + 1) r)
+  part-quarter-3 = part-high f (suc i) a r (omega arith) ∙ ap₂ _-ℤ_ (part-low f i (a * 2) r h) (part-low f i (a * 2 + 1) r h)
+
+  pub part-quarter-4 : part f (suc (suc i)) a (2 ^ suc i + (2 ^ i + r))
+      ≡ (part f i (a * 2 * 2) r -ℤ part f i (a * 2 * 2 + 1) r) -ℤ (part f i ((a * 2 + 1) * 2) r -ℤ part f i ((a * 2 + 1) * 2 + 1) r)
+  part-quarter-4 = part-high f (suc i) a (2 ^ i + r) (omega arith) ∙ ap₂ _-ℤ_ (part-high f i (a * 2) r h) (part-high f i (a * 2 + 1) r h)
+
 -- the two signs' values together are the block's
 both : (f : ℕ → ℕ) (i a r : ℕ) → plus f i a r + minus f i a r ≡ sum (λ y. f (a * 2 ^ i + y)) (2 ^ i)
 unfolding plus minus

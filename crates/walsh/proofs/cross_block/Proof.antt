@@ -1,14 +1,16 @@
 -- `walsh::cross_block` meets its contract. The loop's invariant: the first j butterflies are done. The measure is what is left.
 -- Assumes nothing.
 use mathlib.Core.Path.{_≡_}
-use Prim.Native.Nat.{_+_, _-_, _≤_}
+use Prim.Native.Nat.{_+_, _*_, _-_, _≤_}
 use native.Mathlib.Omega.{arith}
 use lib.IntN.{ℤ, natAbs}
 use lib.ListN.{length-set}
+use mir.Syntax.{w32}
+use mir.Val.{toZ, ofZ}
 use denote.Ref.{now}
 use Rattle.walsh_laws.specs.Walsh.{mostNumber}
 use Rattle.walsh_laws.specs.Passes.{val, Crossed, crossed-none, crossed-more, crossed-small}
-use Rattle.walsh_laws.specs.Machine.{sum-fits, sum-back, difference-fits, difference-back}
+use Rattle.walsh_laws.specs.Machine.{back, sum-fits, sum-back, difference-fits, difference-back}
 use borrow.Author.Needs.{needs}
 use Rattle.walsh.proofs.cross_block.Statement.{statement}
 use Rattle.walsh.proofs.cross_block.Tie as tie
@@ -26,9 +28,20 @@ upper c = val (c .before .loop .s) (c .before .before .args .at + c .before .loo
 abbrev lower : tie.In-loop Inv-loop μ-loop → ℤ
 lower c = val (c .before .loop .s) (c .before .before .args .at + c .before .before .args .h + c .before .loop .j)
 
-small : (c : tie.In-loop Inv-loop μ-loop) → (natAbs (upper c) ≤ mostNumber) × (natAbs (lower c) ≤ mostNumber)
-small c =
-    crossed-small (now (c .before .before .args .s)) _ _ _ _ (c .before .before .pre .0) (c .loop-test .taken) (c .before .loop .inv .1) (c .before .before .pre .1)
+-- the machine has both as they are, and their sum and difference fit
+module _ (c : tie.In-loop Inv-loop μ-loop) where
+  small : (natAbs (upper c) ≤ mostNumber) × (natAbs (lower c) ≤ mostNumber)
+  small =
+      crossed-small (now (c .before .before .args .s)) _ _ _ _ (c .before .before .pre .0) (c .loop-test .taken) (c .before .loop .inv .1) (c .before .before .pre .1)
+
+  read-upper : toZ w32 (ofZ w32 (upper c)) ≡ upper c
+  read-upper = back (upper c) (omega (arith, small .0))
+
+  read-lower : toZ w32 (ofZ w32 (lower c)) ≡ lower c
+  read-lower = back (lower c) (omega (arith, small .1))
+
+  both : natAbs (upper c) + natAbs (lower c) ≤ 4 * mostNumber
+  both = omega (arith, small .0, small .1)
 
 loop-holds : tie.Need-loop-holds Inv-loop μ-loop
 loop-holds c = (search needs, crossed-none _ _ _)
@@ -55,7 +68,7 @@ slice-copy-out-b : tie.Need-slice-copy-out-b Inv-loop μ-loop
 slice-copy-out-b c = omega (arith, c .before .before .loop .inv .1 .long)
 
 add-s : tie.Need-add-s Inv-loop μ-loop
-add-s c = sum-fits (upper (c .before .before)) (lower (c .before .before)) (small (c .before .before) .0) (small (c .before .before) .1)
+add-s c = sum-fits (read-upper (c .before .before)) (read-lower (c .before .before)) (both (c .before .before))
 
 add-s-2 : tie.Need-add-s-2 Inv-loop μ-loop
 add-s-2 c = search needs
@@ -67,7 +80,7 @@ slice-set-from-s : tie.Need-slice-set-from-s Inv-loop μ-loop
 slice-set-from-s c = omega (arith, c .before .before .before .loop .inv .1 .long)
 
 sub-s : tie.Need-sub-s Inv-loop μ-loop
-sub-s c = difference-fits (upper (c .before .before)) (lower (c .before .before)) (small (c .before .before) .0) (small (c .before .before) .1)
+sub-s c = difference-fits (read-upper (c .before .before)) (read-lower (c .before .before)) (both (c .before .before))
 
 add-t9 : tie.Need-add-t9 Inv-loop μ-loop
 add-t9 c = search needs
@@ -92,8 +105,8 @@ loop-again c =
     let a = c .before .before .before .before .args in (
       search needs,
       crossed-more (now (a .s)) _ _ _ _ _ _ (c .before .before .before .before .pre .0) (c .before .before .loop-test .taken) (c .before .before .before .loop .inv .1)
-          (sum-back (upper (c .before .before)) (lower (c .before .before)) (small (c .before .before) .0) (small (c .before .before) .1))
-          (difference-back (upper (c .before .before)) (lower (c .before .before)) (small (c .before .before) .0) (small (c .before .before) .1)),
+          (sum-back (read-upper (c .before .before)) (read-lower (c .before .before)) (both (c .before .before)))
+          (difference-back (read-upper (c .before .before)) (read-lower (c .before .before)) (both (c .before .before))),
     )
 
 same-length : tie.Need-same-length Inv-loop μ-loop
