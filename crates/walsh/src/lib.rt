@@ -63,8 +63,8 @@ fn cross_quads(s: &mut [i32], h: usize, m: usize)
     }
 }
 
-// Two stages, so that each number is loaded and stored once for both. Of short blocks the width is given as a number, so that the
-// compiler takes many numbers at once.
+// Two stages, so that each number is loaded and stored once for both. The widths that occur with many blocks are given as numbers: only
+// then does the compiler see that the four quarters lie apart, and takes four numbers at once.
 fn two_stages(s: &mut [i32], h: usize, m: usize)
     requires { ⌜ (m * (4 * h) ≡ length (now s)) × Small (now s) 0 ⌝ }
     ensures { λ _. ⌜ PassedTwice (now (s .entry)) (now (s .exit)) h m ⌝ }
@@ -73,6 +73,8 @@ fn two_stages(s: &mut [i32], h: usize, m: usize)
         1 => cross_quads(s, 1, m),
         4 => cross_quads(s, 4, m),
         16 => cross_quads(s, 16, m),
+        64 => cross_quads(s, 64, m),
+        256 => cross_quads(s, 256, m),
         _ => cross_quads(s, h, m),
     }
 }

@@ -1,11 +1,10 @@
--- What the butterflies do to a list of signed numbers: to one block (`Crossed`), to all of them (`Passed`), and what the list then holds
--- of the transform (`Stage`). Assumes nothing.
+-- What the butterflies do to a list of signed numbers: of one stage to a block (`Crossed`), of two stages to four numbers (`Quad`), to a
+-- block (`CrossedTwice`) and to all of them (`PassedTwice`), and what the list then holds of the transform (`Stage`). Assumes nothing.
 use mathlib.Core.Path.{_≡_, refl, sym, ap, ap₂, _∙_, subst}
 use mathlib.Core.List.{List}
 use Prim.Native.Nat.{ℕ, suc, _+_, _*_, _-_, _/_, _%_, _^_, _≤_, _<_}
 use native.Mathlib.Decide.{decLt}
 use native.Mathlib.Nat.{mul-le-mul-right, mod-lt}
-use native.Mathlib.Numerals.{add-one}
 use native.Mathlib.Omega.{arith}
 use lib.IntN.{ℤ, pos, natAbs, _+ℤ_, _-ℤ_}
 use lib.ListN.{length, getD, set, length-set}
@@ -105,12 +104,25 @@ Same l m p h =
     (val m p ≡ val l p) × (val m (p + h) ≡ val l (p + h)) × (val m (p + h + h) ≡ val l (p + h + h))
     × (val m (p + h + h + h) ≡ val l (p + h + h + h))
 
--- the butterflies of the four numbers from p on, h apart: those of the first two and of the last two, and then those of the two pairs
+-- what two stages make of the four numbers from p on, h apart: the butterflies of the first two and of the last two, then those of both pairs
+abbrev pub firstOf : (l : List ℤ) (p h : ℕ) → ℤ
+firstOf l p h = (val l p +ℤ val l (p + h)) +ℤ (val l (p + h + h) +ℤ val l (p + h + h + h))
+
+abbrev pub secondOf : (l : List ℤ) (p h : ℕ) → ℤ
+secondOf l p h = (val l p -ℤ val l (p + h)) +ℤ (val l (p + h + h) -ℤ val l (p + h + h + h))
+
+abbrev pub thirdOf : (l : List ℤ) (p h : ℕ) → ℤ
+thirdOf l p h = (val l p +ℤ val l (p + h)) -ℤ (val l (p + h + h) +ℤ val l (p + h + h + h))
+
+abbrev pub fourthOf : (l : List ℤ) (p h : ℕ) → ℤ
+fourthOf l p h = (val l p -ℤ val l (p + h)) -ℤ (val l (p + h + h) -ℤ val l (p + h + h + h))
+
+-- m has what two stages make of the four
 pub record Quad (l m : List ℤ) (p h : ℕ) : Type 0 where
-  pub first : val m p ≡ (val l p +ℤ val l (p + h)) +ℤ (val l (p + h + h) +ℤ val l (p + h + h + h))
-  pub second : val m (p + h) ≡ (val l p -ℤ val l (p + h)) +ℤ (val l (p + h + h) -ℤ val l (p + h + h + h))
-  pub third : val m (p + h + h) ≡ (val l p +ℤ val l (p + h)) -ℤ (val l (p + h + h) +ℤ val l (p + h + h + h))
-  pub fourth : val m (p + h + h + h) ≡ (val l p -ℤ val l (p + h)) -ℤ (val l (p + h + h) -ℤ val l (p + h + h + h))
+  pub first : val m p ≡ firstOf l p h
+  pub second : val m (p + h) ≡ secondOf l p h
+  pub third : val m (p + h + h) ≡ thirdOf l p h
+  pub fourth : val m (p + h + h + h) ≡ fourthOf l p h
 
 -- what came before and what comes after leaves the four as they are
 quad-after : (l m k : List ℤ) (p h : ℕ) → Same l m p h → Quad m k p h → Quad l k p h
@@ -149,11 +161,7 @@ module _ (m : List ℤ) (p h : ℕ) (a b c d : ℤ) where
       ∙ getD-set-other (set m p a) (p + h) x b (pos 0) f ∙ getD-set-other m p x a (pos 0) e
 
   stored-quad : (l : List ℤ) → 0 < h → p + h + h + h < length m
-      → a ≡ (val l p +ℤ val l (p + h)) +ℤ (val l (p + h + h) +ℤ val l (p + h + h + h))
-      → b ≡ (val l p -ℤ val l (p + h)) +ℤ (val l (p + h + h) -ℤ val l (p + h + h + h))
-      → c ≡ (val l p +ℤ val l (p + h)) -ℤ (val l (p + h + h) +ℤ val l (p + h + h + h))
-      → d ≡ (val l p -ℤ val l (p + h)) -ℤ (val l (p + h + h) -ℤ val l (p + h + h + h))
-      → Quad l stored p h
+      → a ≡ firstOf l p h → b ≡ secondOf l p h → c ≡ thirdOf l p h → d ≡ fourthOf l p h → Quad l stored p h
   stored-quad l some room ea eb ec ed =
       record {
         first =
@@ -181,10 +189,7 @@ module _ (l m : List ℤ) (at h k : ℕ) (room : at + 4 * h ≤ length l) (hk : 
   )
 
   pub crossed-twice-more : (a b c d : ℤ)
-      → a ≡ (val l (at + k) +ℤ val l (at + k + h)) +ℤ (val l (at + k + h + h) +ℤ val l (at + k + h + h + h))
-      → b ≡ (val l (at + k) -ℤ val l (at + k + h)) +ℤ (val l (at + k + h + h) -ℤ val l (at + k + h + h + h))
-      → c ≡ (val l (at + k) +ℤ val l (at + k + h)) -ℤ (val l (at + k + h + h) +ℤ val l (at + k + h + h + h))
-      → d ≡ (val l (at + k) -ℤ val l (at + k + h)) -ℤ (val l (at + k + h + h) -ℤ val l (at + k + h + h + h))
+      → a ≡ firstOf l (at + k) h → b ≡ secondOf l (at + k) h → c ≡ thirdOf l (at + k) h → d ≡ fourthOf l (at + k) h
       → CrossedTwice l (stored m (at + k) h a b c d) at h (k + 1)
   crossed-twice-more a b c d ea eb ec ed =
       record {
@@ -425,12 +430,12 @@ blocks n i h =
         parts = omega arith
 
 -- a turn of the loop over the stages, in the code's terms: h is 2^i and size is 2^n
-module _ (f : ℕ → ℕ) (n i h size : ℕ) (eh : h ≡ 2 ^ i) (es : size ≡ 2 ^ n) (b : i + 1 < n) where
+module _ (n i h size : ℕ) (eh : h ≡ 2 ^ i) (es : size ≡ 2 ^ n) (b : i + 1 < n) where
   pub turn-blocks : size / (4 * h) * (4 * h) ≡ size
   turn-blocks = rw (eh, es) (blocks n i b)
 
-  pub turn-next : (l m : List ℤ) → Stage f n i l → PassedTwice l m h (size / (4 * h)) → (h * 4 ≡ 2 ^ (i + 2)) × Stage f n (i + 2) m
-  turn-next l m s p =
+  pub turn-next : (f : ℕ → ℕ) (l m : List ℤ) → Stage f n i l → PassedTwice l m h (size / (4 * h)) → (h * 4 ≡ 2 ^ (i + 2)) × Stage f n (i + 2) m
+  turn-next f l m s p =
       let next : i + 2 ≡ suc (suc i) = omega arith in (
         rw (eh, next) (omega arith),
         rw next (stage-more f n i (size / (4 * 2 ^ i)) l m (rw es (blocks n i b)) s (rw eh at p)),

@@ -49,7 +49,7 @@ two-stages-requires : tie.Need-two-stages-requires Inv-loop μ-loop
 two-stages-requires c κs =
     let a = c .before .before .before .args in
     let i = c .before .before .loop .inv in (
-      turn-blocks (λ x. natAbs (val (now (a .s)) x)) (a .n) (c .before .before .loop .i) (c .before .before .loop .h) _ (i .1) (c .before .before .before .pre .long) (c .before .loop-test .taken)
+      turn-blocks (a .n) (c .before .before .loop .i) (c .before .before .loop .h) _ (i .1) (c .before .before .before .pre .long) (c .before .loop-test .taken)
           ∙ c .before .before .before .pre .long ∙ sym (i .2 .long),
       stage-small (λ x. natAbs (val (now (a .s)) x)) (a .n) (c .before .before .loop .i) _ (omega arith) (c .before .before .before .pre .within) (i .2),
     )
@@ -66,7 +66,7 @@ loop-less c = search needs
 loop-again : tie.Need-loop-again Inv-loop μ-loop
 loop-again c =
     let i = c .before .before .before .before .loop .inv in
-    let t = turn-next _ _ _ _ _ (i .1) (c .before .before .before .before .before .pre .long) (c .before .before .before .loop-test .taken) _ _ (i .2) (c .before .two-stages .ensures) in
+    let t = turn-next _ _ _ _ (i .1) (c .before .before .before .before .before .pre .long) (c .before .before .before .loop-test .taken) _ _ _ (i .2) (c .before .two-stages .ensures) in
     (search needs, t .0, t .1)
 
 cross-block-requires : tie.Need-cross-block-requires Inv-loop μ-loop

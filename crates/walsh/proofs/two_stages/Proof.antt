@@ -33,7 +33,17 @@ cross-quads-requires-3 c κs =
     (filled (now (s .args .s)) (s .args .m) (c .before .match .keys3) (s .pre .0), s .pre .1)
 
 cross-quads-requires-4 : tie.Need-cross-quads-requires-4
-cross-quads-requires-4 c κs = search needs
+cross-quads-requires-4 c κs =
+    let s = c .before .before in
+    (filled (now (s .args .s)) (s .args .m) (c .before .match .keys4) (s .pre .0), s .pre .1)
+
+cross-quads-requires-5 : tie.Need-cross-quads-requires-5
+cross-quads-requires-5 c κs =
+    let s = c .before .before in
+    (filled (now (s .args .s)) (s .args .m) (c .before .match .keys5) (s .pre .0), s .pre .1)
+
+cross-quads-requires-6 : tie.Need-cross-quads-requires-6
+cross-quads-requires-6 c κs = search needs
 
 same-length : tie.Need-same-length
 same-length c = search needs
@@ -66,7 +76,25 @@ same-length-4 : tie.Need-same-length-4
 same-length-4 c = search needs
 
 returns-4 : tie.Need-returns-4
-returns-4 c = search needs
+returns-4 c =
+    let k = c .before .before .before in
+    let s = k .before in
+    passed (now (s .args .s)) (c .before .cross-quads4 .last .0) (s .args .m) (k .match .keys4) (c .before .cross-quads4 .ensures)
+
+same-length-5 : tie.Need-same-length-5
+same-length-5 c = search needs
+
+returns-5 : tie.Need-returns-5
+returns-5 c =
+    let k = c .before .before .before in
+    let s = k .before in
+    passed (now (s .args .s)) (c .before .cross-quads5 .last .0) (s .args .m) (k .match .keys5) (c .before .cross-quads5 .ensures)
+
+same-length-6 : tie.Need-same-length-6
+same-length-6 c = search needs
+
+returns-6 : tie.Need-returns-6
+returns-6 c = search needs
 
 pub two-stages-spec : {M : Type 1} → statement M
 two-stages-spec =
@@ -76,6 +104,8 @@ two-stages-spec =
     cross-quads-requires-2
     cross-quads-requires-3
     cross-quads-requires-4
+    cross-quads-requires-5
+    cross-quads-requires-6
     same-length
     returns
     same-length-2
@@ -83,4 +113,8 @@ two-stages-spec =
     same-length-3
     returns-3
     same-length-4
-    returns-4)
+    returns-4
+    same-length-5
+    returns-5
+    same-length-6
+    returns-6)
