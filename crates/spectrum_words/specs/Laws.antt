@@ -19,11 +19,11 @@ pub mark-back : (z : ℤ) (b : Bool) → z ≡ pos (one b) → toZ w32 (ofZ w32 
 mark-back z b e = ap (λ z. toZ w32 (ofZ w32 z)) e ∙ back (pos (one b)) (omega (arith, one-le b))
 
 -- one entry more
-pub least-more : (table : List ℕ) (u r x z : ℕ) → ((y : ℕ) → y < x → u ≤ at table y → r ≤ at table y) → Nearer (at table x) u r z
-    → (y : ℕ) → y < x + 1 → u ≤ at table y → z ≤ at table y
-least-more table u r x z h n y b d = go (decLt y x)
+pub nearer-more : (table : List ℕ) (u far x z : ℕ) → ((y : ℕ) → y < x → u ≤ at table y → u + far ≤ at table y) → Nearer (at table x) u far z
+    → (y : ℕ) → y < x + 1 → u ≤ at table y → u + z ≤ at table y
+nearer-more table u far x z h n y b d = go (decLt y x)
   where
-    go : Dec (y < x) → z ≤ at table y
+    go : Dec (y < x) → u + z ≤ at table y
     go (yes c) = omega (arith, h y c d, n .most)
     go (no c) =
         let e : y ≡ x = omega arith in

@@ -1,7 +1,7 @@
 -- One output word's points, the next word, and numbers that 2^n divides. Not here: laws. Assumes nothing.
 use mathlib.Core.Path.{_≡_}
 use mathlib.Core.List.{List}
-use Prim.Native.Nat.{ℕ, _%_, _≤_, _<_}
+use Prim.Native.Nat.{ℕ, _+_, _%_, _≤_, _<_}
 use lib.Dec.{eqb}
 use lib.IntN.{ℤ, pos, natAbs}
 use lib.ListN.{length}
@@ -14,11 +14,10 @@ use Rattle.walsh_laws.specs.Passes.{val}
 abbrev pub marks : (ℕ → ℕ) → ℕ → ℕ → ℕ
 marks f u x = one (eqb (f x) u)
 
--- z is the smaller of r and w, or r where w is below u
-pub record Nearer (w u r z : ℕ) : Type 0 where
-  pub most : z ≤ r
-  pub least : u ≤ w → z ≤ w
-  pub from : u ≤ r → u ≤ z
+-- z is at most `far`, and leads from u no further than to w, where w is not below u
+pub record Nearer (w u far z : ℕ) : Type 0 where
+  pub most : z ≤ far
+  pub least : u ≤ w → u + z ≤ w
 
 -- r is at least u, and no entry lies between the two; 65,535 where there is none
 pub record Next (table : List ℕ) (u r : ℕ) : Type 0 where

@@ -12,32 +12,36 @@ ghost use Rattle.walsh_laws.specs.Walsh.{mostPoints};
 ghost use Rattle.walsh_laws.specs.Passes.{val};
 ghost use Rattle.spectrum_words.specs.Words.{marks, Exact, Nearer, Next};
 
-// w, or 65,535 where it is below u.
-fn not_below(w: u16, u: u16) -> u16
-    ensures { λ z. ⌜ (u ≤ z) × (u ≤ w → z ≡ w) ⌝ }
+// Of `far` and the way from u up to w the smaller one; to a w below u the way leads round past 65,535. No step depends on another, so
+// that the compiler takes many entries at once.
+fn nearer(w: u16, u: u16, far: u16) -> u16
+    ensures { λ z. ⌜ Nearer w u far z ⌝ }
 {
-    if w < u { 65535 } else { w }
+    let way = std::num::wrapping_sub_u16(w, u);
+    if way < far { way } else { far }
 }
 
-// Of r and w the smaller one, but r where w is below u. It is the smaller of two numbers, of which the compiler takes many at once.
-fn nearer(w: u16, u: u16, r: u16) -> u16
-    ensures { λ z. ⌜ Nearer w u r z ⌝ }
+// Where a way from u leads, 65,535 where it leads past that.
+fn reached(u: u16, far: u16) -> u16
+    ensures { λ r. ⌜ (u ≤ r) × (r ≤ 65535) × (u + far ≤ 65535 → r ≡ u + far) ⌝ }
 {
-    let next = not_below(w, u);
-    if next < r { next } else { r }
+    if 65535 - u < far {
+        return 65535;
+    }
+    u + far
 }
 
 // The least entry that is not below u, 65,535 where there is none.
 pub fn next_word(table: &[u16], u: u16) -> u16
     ensures { λ r. ⌜ Next (now (table .entry)) u r ⌝ }
 {
-    let mut r: u16 = 65535;
+    let mut far: u16 = 65535;
     let mut x: usize = 0;
     while x < table.len() {
-        r = nearer(table[x], u, r);
+        far = nearer(table[x], u, far);
         x += 1;
     }
-    r
+    reached(u, far)
 }
 
 // 1 where the two words are equal, and else 0.

@@ -1,23 +1,23 @@
--- `spectrum_words::next_word` meets its contract. The loop's invariant: r is at least u, and at most each entry passed that is not below u. The
+-- `spectrum_words::next_word` meets its contract. The loop's invariant: the way from u leads past no entry passed that is not below u. The
 -- measure is what is left. Assumes nothing.
-use Prim.Native.Nat.{ℕ, _-_, _≤_, _<_}
+use Prim.Native.Nat.{ℕ, _+_, _-_, _≤_, _<_}
 use native.Mathlib.Omega.{arith}
 use lib.ListN.{length}
 use denote.Ref.{now}
 use Rattle.slices.specs.Places.{at}
-use Rattle.spectrum_words.specs.Laws.{least-more}
+use Rattle.spectrum_words.specs.Laws.{nearer-more}
 use borrow.Author.Needs.{needs}
 use Rattle.spectrum_words.proofs.next_word.Statement.{statement}
 use Rattle.spectrum_words.proofs.next_word.Tie as tie
 
 abbrev Inv-loop : tie.InvT-loop
-Inv-loop table u r₀ x₀ r x = (x ≤ length table) × (u ≤ r) × (r ≤ 65535) × ((y : ℕ) → y < x → u ≤ at table y → r ≤ at table y)
+Inv-loop table u far₀ x₀ far x = (x ≤ length table) × ((y : ℕ) → y < x → u ≤ at table y → u + far ≤ at table y)
 
 abbrev μ-loop : tie.MeasureT-loop
-μ-loop table u r₀ x₀ r x = length table - x
+μ-loop table u far₀ x₀ far x = length table - x
 
 loop-holds : tie.Need-loop-holds Inv-loop μ-loop
-loop-holds c = (search needs, omega (arith, c .before .fits .u), search needs, λ y b d. absurd (omega arith))
+loop-holds c = (search needs, λ y b d. absurd (omega arith))
 
 mul-nearer : tie.Need-mul-nearer Inv-loop μ-loop
 mul-nearer c = search needs
@@ -37,15 +37,22 @@ loop-less c = search needs
 loop-again : tie.Need-loop-again Inv-loop μ-loop
 loop-again c =
     let i = c .before .before .before .loop .inv in
-    (search needs, c .nearer .ensures .from (i .1), omega (arith, c .nearer .ensures .most), least-more (now (c .before .before .before .before .before .args .table)) _ _ _ _ (i .3) (c .nearer .ensures))
+    (search needs, nearer-more (now (c .before .before .before .before .before .args .table)) _ _ _ _ (i .1) (c .nearer .ensures))
+
+reached-requires : tie.Need-reached-requires Inv-loop μ-loop
+reached-requires c κs = search needs
 
 returns : tie.Need-returns Inv-loop μ-loop
 returns c =
-    let i = c .before .loop .inv in
+    let given = c .before .before .before .shared-slice-known .given in
+    let i = c .before .before .loop .inv in
+    let r = c .reached .ensures in
     record {
-      from = i .1;
-      most = i .2;
-      least = λ x b. i .3 x (omega arith);
+      from = r .0;
+      most = r .1;
+      least = λ x b d.
+          let e = i .1 x (omega arith) d in
+          omega (arith, e, r .2 (omega (arith, e, given x)));
     }
 
 pub next-word-spec : {M : Type 1} → statement M
@@ -61,4 +68,5 @@ next-word-spec =
     add-x
     loop-less
     loop-again
+    reached-requires
     returns)
