@@ -22,7 +22,7 @@ pub fn say_refused(number: u32, a: usize, b: usize) {
     say(b"\n");
 }
 
-// Says the lowest bits of a number, as many as asked for but at most 64, the highest first.
+// Says as many of a number's bits as are asked for, from the lowest on, the highest of them first; nothing where they are more than 64.
 pub fn say_bits(count: usize, bits: u64) {
     let mut digits = [48u8; 64];
     let mut rest = bits;

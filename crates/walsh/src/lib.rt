@@ -1,5 +1,5 @@
-// The signed Walsh transform in place (02, Ticket 5): stages of butterflies over a lent slice of signed numbers; and their squares.
-// Every function here is inner.
+// The signed Walsh transform in place (02, Ticket 5): stages of butterflies over a lent slice of signed numbers, two at a time; and their
+// squares. Every function here is inner.
 ghost use mathlib.Core.Path.{_≡_};
 ghost use Prim.Native.Nat.{ℕ, _+_, _*_, _≤_, _<_, _^_};
 ghost use lib.ListN.{length};
