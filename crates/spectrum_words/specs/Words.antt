@@ -19,7 +19,7 @@ pub record Nearer (w u far z : ℕ) : Type 0 where
   pub most : z ≤ far
   pub least : u ≤ w → u + z ≤ w
 
--- r is at least u, and no entry lies between the two; 65,535 where there is none
+-- r is from u to 65,535, and no entry from u on lies before it
 pub record Next (table : List ℕ) (u r : ℕ) : Type 0 where
   pub from : u ≤ r
   pub most : r ≤ 65535

@@ -12,8 +12,8 @@ ghost use Rattle.walsh_laws.specs.Walsh.{mostPoints};
 ghost use Rattle.walsh_laws.specs.Passes.{val};
 ghost use Rattle.spectrum_words.specs.Words.{marks, Exact, Nearer, Next};
 
-// Of `far` and the way from u up to w the smaller one; to a w below u the way leads round past 65,535. No step depends on another, so
-// that the compiler takes many entries at once.
+// At most `far`, and from u no further than to w, where w is not below u. It is the smaller of `far` and the way from u up to w, which to a
+// w below u leads round past 65,535, so that the compiler takes many entries at once; how far it leads is for speed alone.
 fn nearer(w: u16, u: u16, far: u16) -> u16
     ensures { λ z. ⌜ Nearer w u far z ⌝ }
 {
@@ -21,7 +21,7 @@ fn nearer(w: u16, u: u16, far: u16) -> u16
     if way < far { way } else { far }
 }
 
-// Where a way from u leads, 65,535 where it leads past that.
+// Where a way from u leads, where that is at most 65,535, and else some number from u on.
 fn reached(u: u16, far: u16) -> u16
     ensures { λ r. ⌜ (u ≤ r) × (r ≤ 65535) × (u + far ≤ 65535 → r ≡ u + far) ⌝ }
 {
@@ -31,7 +31,8 @@ fn reached(u: u16, far: u16) -> u16
     u + far
 }
 
-// The least entry that is not below u, 65,535 where there is none.
+// A number from u on, at most 65,535, that no entry from u on lies before. It is the least such entry, so that no word is worked on which the
+// table does not have; that is for speed alone, since such a word would add nothing.
 pub fn next_word(table: &[u16], u: u16) -> u16
     ensures { λ r. ⌜ Next (now (table .entry)) u r ⌝ }
 {
