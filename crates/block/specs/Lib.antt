@@ -1,5 +1,5 @@
--- The meaning of 01, one file for each of its sections, in their order, and of models in BLIF (02, Ticket 4): `Covers`, `Model`, `ModelRead`.
--- Laws about it stand in other crates.
+-- The meaning of 01, one file for each of its sections, in their order, of models in BLIF (02, Ticket 4): `Covers`, `Model`, `ModelRead`, and
+-- of symmetric blocks (02, Ticket 6): `Symmetric`. Laws about it stand in other crates.
 pub mod Limits
 pub mod Words
 pub mod Measure
@@ -14,3 +14,4 @@ pub mod Said
 pub mod Covers
 pub mod Model
 pub mod ModelRead
+pub mod Symmetric

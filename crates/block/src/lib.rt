@@ -53,7 +53,7 @@ pub struct Answer {
     pub b: usize,
 }
 
-// The answer to a single shift value.
+// The answer to a single shift value, and whether a table is symmetric, 1 or 0.
 #[repr(C)]
 pub struct ValueAnswer {
     pub number: u32,
@@ -62,7 +62,13 @@ pub struct ValueAnswer {
     pub value: u64,
 }
 
-// The answer of the table method: the measure of the block and of the smaller block.
+// The measures of a block and of its smaller block, where the work hands them on.
+pub struct Measures {
+    pub before: u64,
+    pub after: u64,
+}
+
+// The answer of the table method and of a symmetric block: the measure of the block and of the smaller block.
 #[repr(C)]
 pub struct TableMethodAnswer {
     pub number: u32,

@@ -17,7 +17,7 @@ use Rattle.matrix_laws.specs.Candidate.{pick-ones, basis-independent}
 use Rattle.matrix_laws.specs.Inverse.{sigma-tab}
 use Rattle.matrix_laws.specs.Smaller.{measure-smaller}
 use Rattle.choosing.specs.Steps.{ChosenBasis}
-use Rattle.choosing.specs.declared.Measures.{Measures}
+use Rattle.block.specs.declared.Measures.{Measures}
 
 -- of a block f: T and sigma lie at the front of what was lent, and both measures come back
 pub record Found (f : ℕ → ℕ) (n w : ℕ) (t s t′ s′ : List ℕ) (r : Measures) : Type 0 where

@@ -18,7 +18,7 @@ use Rattle.matrix_laws.specs.Linear.{apply-cong}
 use Rattle.matrix_laws.specs.Reach.{reachRows, candidate-rows}
 use Rattle.matrix_laws.specs.Candidate.{pick-independent}
 use Rattle.matrix_steps.specs.Steps.{held}
-use Rattle.choosing.specs.declared.Measures.{Measures}
+use Rattle.block.specs.declared.Measures.{Measures}
 
 -- 1 to w one-bits, and coordinates from 2^k on
 unfoldable pub candidateBy : (ℕ → ℕ) → ℕ → ℕ → ℕ → ℕ → Bool

@@ -1,5 +1,6 @@
 // The choice of the basis by R: at each step the candidate that stands before the others, by the walk and the values at its places, and
 // the matrix reached; T, sigma and both measures. Every function here is inner.
+use block::Measures;
 ghost use mathlib.Core.Path.{_≡_};
 ghost use Prim.Native.Nat.{_≤_, _<_, _^_};
 ghost use lib.ListN.{length};
@@ -64,12 +65,6 @@ pub fn choose_all(
         matrix_steps::advance(sigma, n, k, t);
         k += 1;
     }
-}
-
-// The measures of the block and of the smaller block.
-pub struct Measures {
-    pub before: u64,
-    pub after: u64,
 }
 
 // T, the matrix that sends its columns to 1, 2, 4, .., and the sums of the values at the units and at the chosen numbers.

@@ -3,31 +3,18 @@
 -- Assumes nothing.
 use mathlib.Core.Path.{_≡_, sym, ap, _∙_}
 use Prim.Native.Nat.{ℕ, _^_, _≤_, _<_}
-use lib.Bits.{bitXor, xor-lt}
 use lib.ListN.{length}
-use lib.Pow.{pow-lt}
 use Rattle.slices.specs.Places.{at}
 use Rattle.slices.specs.Filled.{tab-at, length-tab}
 use Rattle.sums.specs.Sums.{sum}
-use Rattle.sums.specs.Laws.{sum-cong, count-cong}
 use Rattle.block.specs.Words.{none, ofTable}
-use Rattle.block.specs.Measure.{same, shift, measure}
+use Rattle.block.specs.Measure.{shift, measure}
 use Rattle.block.specs.Basis.{columns, apply, basisOf, sigmaOf, smallerOf}
 use Rattle.block.specs.Tables.{smallerTable}
 use Rattle.matrix_laws.specs.Linear.{apply-lt}
 use Rattle.matrix_laws.specs.Candidate.{basis-independent}
-use Rattle.matrix_laws.specs.Smaller.{shift-smaller, measure-smaller}
+use Rattle.matrix_laws.specs.Smaller.{shift-points, measure-points, shift-smaller, measure-smaller}
 use Rattle.demands.specs.Matrix.{basis-after-sigma}
-
--- R goes by the block's points alone
-pub shift-points : (f g : ℕ → ℕ) (n t : ℕ) → t < 2 ^ n → ((x : ℕ) → x < 2 ^ n → f x ≡ g x) → shift f n t ≡ shift g n t
-unfolding shift same
-shift-points f g n t h e = count-cong (same f t) (same g t) (2 ^ n) (λ x l. rw (e x l, e (bitXor x t) (xor-lt n x t l h)))
-
--- and so does the measure
-pub measure-points : (f g : ℕ → ℕ) (n : ℕ) → ((x : ℕ) → x < 2 ^ n → f x ≡ g x) → measure f n ≡ measure g n
-unfolding measure
-measure-points f g n e = sum-cong _ _ n (λ i h. shift-points f g n (2 ^ i) (pow-lt h) e)
 
 module _ (f : ℕ → ℕ) (n w : ℕ) where
   -- the smaller table at z is the block at T z

@@ -26,11 +26,11 @@ use Rattle.shared_checks.specs.Sizes.{within}
 use Rattle.choice_laws.specs.Chosen.{basis-tab, pick-cong}
 use Rattle.matrix_laws.specs.Linear.{columns-lt}
 use Rattle.matrix_laws.specs.Candidate.{basis-independent}
+use Rattle.matrix_laws.specs.Smaller.{shift-points, measure-points}
 use Rattle.pair_laws.specs.Theorem.{Every, Apart}
 use Rattle.pair_laws.specs.Share.{good-word}
 use Rattle.answered_laws.specs.Passed.{Passed, MethodAnswered, method-answered, fill-answers}
 use Rattle.step_laws.specs.Smaller as M
-use Rattle.demands.specs.Blocks.{shift-points, measure-points}
 use Rattle.demands.specs.Restoring.{restoring-answers}
 
 -- the basis goes by the block's points alone, and so do sigma and the smaller block

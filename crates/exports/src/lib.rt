@@ -16,6 +16,7 @@ ghost use Rattle.block.specs.Words.{rowsOf};
 ghost use Rattle.block.specs.ModelRead.{patternsFlat};
 ghost use Rattle.promises.specs.Lent.{lentFlat, lentRecords};
 ghost use Rattle.promises.specs.Tables.{TableValuePromise, TableMethodPromise, RestorePromise, SpectrumPromise};
+ghost use Rattle.promises.specs.Symmetric.{SymmetricBlockPromise, TableSymmetricPromise};
 ghost use Rattle.promises.specs.Lists.{RowValuePromise, RowMethodPromise, FillPromise};
 ghost use Rattle.promises.specs.Texts.{WritePromise, ReadPromise};
 ghost use Rattle.promises.specs.Sheets.{SheetPromise, PrintPromise};
@@ -81,6 +82,33 @@ pub extern "C" fn irwystl_table_spectrum(
         (now (values .exit)) (now (working .exit)) ⌝ }
 {
     spectrum::table_spectrum(n, k, block_type, table, values, working)
+}
+
+#[no_mangle]
+pub extern "C" fn irwystl_symmetric_block(
+    n: usize,
+    k: usize,
+    block_type: usize,
+    words: &[u16],
+    table: &mut [u16],
+    smaller: &mut [u16],
+) -> TableMethodAnswer
+    ensures { λ r. ⌜ SymmetricBlockPromise n k «block_type» (now (words .entry)) (now (table .entry)) (now (smaller .entry)) r
+        (now (table .exit)) (now (smaller .exit)) ⌝ }
+{
+    symmetric::symmetric_block(n, k, block_type, words, table, smaller)
+}
+
+#[no_mangle]
+pub extern "C" fn irwystl_table_symmetric(
+    n: usize,
+    k: usize,
+    block_type: usize,
+    table: &[u16],
+) -> ValueAnswer
+    ensures { λ r. ⌜ TableSymmetricPromise n k «block_type» (now (table .entry)) r ⌝ }
+{
+    symmetric::table_symmetric(n, k, block_type, table)
 }
 
 // ---- rows in three flat slices

@@ -1,23 +1,28 @@
 -- Sigma is the inverse of T, and the only one: for n independent columns the inverse by rows is the matrix that the n steps reach,
--- it undoes T and T undoes it, and any rows that do either are these. Not here: the block at T z (`Smaller`). Assumes nothing.
-use mathlib.Core.Path.{_≡_, sym, ap, _∙_}
-use Prim.Native.Nat.{ℕ, _*_, _^_, _≤_, _<_}
+-- it undoes T and T undoes it, any rows that do either are these, and none of them is an XOR of earlier ones. Not here: the block at T z
+-- (`Smaller`). Assumes nothing.
+use mathlib.Core.Path.{_≡_, refl, sym, ap, _∙_}
+use mathlib.Core.Bool.{Bool, true, false, false≢true, _||_}
+use Prim.Native.Nat.{ℕ, zero, suc, _*_, _^_, _≤_, _<_}
 use native.Mathlib.Omega.{arith}
-use borrow.Author.Tests.{eq-eqb, ne-eqb}
+use borrow.Author.Tests.{eqb-true, eq-eqb, ne-eqb}
+use lib.Bits.{bitAnd, bitXor}
 use lib.Dec.{eqb}
 use lib.ListN.{length}
 use lib.Pow.{pow-lt}
-use Rattle.bits.specs.Digits.{bit}
-use Rattle.bits.specs.Bit.{bit-lt, bit-ext}
+use Rattle.bits.specs.Digits.{bit, parity}
+use Rattle.bits.specs.Parity.{parity-0, parity-xor-and, parity-lt}
+use Rattle.bits.specs.Bit.{bit-lt, bit-ext, bit-pow-same, bit-pow-other}
 use Rattle.sums.specs.Sums.{sum}
 use Rattle.slices.specs.Places.{at, tab, first}
 use Rattle.slices.specs.Filled.{length-tab, tab-at, tab-cong}
 use Rattle.slices.specs.Least.{first-is}
 use Rattle.block.specs.Measure.{shift}
-use Rattle.block.specs.Basis.{columns, apply, inverse, basisOf, sigmaOf}
+use Rattle.block.specs.Basis.{span, columns, apply, inverse, basisOf, sigmaOf}
 use Rattle.block.specs.Rows.{reached}
+use Rattle.block.specs.Refusals.{dependent}
 use Rattle.choice_laws.specs.Chosen.{pick, basis-at, length-chosen}
-use Rattle.matrix_laws.specs.Linear.{digits-below, digits-bit, linear-zero, linear-undoes, apply-lt, apply-cong, apply-unit, rows-unique, columns-lt}
+use Rattle.matrix_laws.specs.Linear.{digits-below, digits-bit, linear-zero, linear-undoes, apply-lt, apply-bit, apply-cong, apply-unit, rows-unique, columns-lt}
 use Rattle.matrix_laws.specs.Reached.{Independent, Coordinates, reached-linear, returned, reaches}
 use Rattle.matrix_laws.specs.Reach.{reachRows, reach-apply, reach-cong, reach-lt}
 use Rattle.matrix_laws.specs.Candidate.{basis-independent}
@@ -35,6 +40,24 @@ length-basis f n w = length-chosen (shift f n) n w n
 pub length-sigma : (f : ℕ → ℕ) (n w : ℕ) → length (sigmaOf f n w) ≡ n
 unfolding sigmaOf
 length-sigma f n w = length-inverse (at (basisOf f n w)) n
+
+-- a row that is an XOR of earlier rows has parity 0 wherever they all have
+span-parity : (s : ℕ → ℕ) (k t x : ℕ) → span s k t ≡ true → ((i : ℕ) → i < k → parity (bitAnd (s i) x) ≡ 0) → parity (bitAnd t x) ≡ 0
+unfolding span
+span-parity s zero t x e h = ap (λ (y : ℕ). parity (bitAnd y x)) (eqb-true t 0 e) ∙ parity-0
+span-parity s (suc k) t x e h =
+    go (span s k t) (span s k (bitXor t (s k))) e
+    (λ d. span-parity s k t x d (λ i l. h i (omega arith)))
+    (λ d. span-parity s k (bitXor t (s k)) x d (λ i l. h i (omega arith)))
+  where
+    both : parity (bitAnd (bitXor t (s k)) x) ≡ 0 → parity (bitAnd t x) ≡ 0
+    both z = omega (arith, parity-xor-and t (s k) x, h k (omega arith), parity-lt (bitAnd t x))
+
+    go : (p q : Bool) → p || q ≡ true → (p ≡ true → parity (bitAnd t x) ≡ 0)
+        → (q ≡ true → parity (bitAnd (bitXor t (s k)) x) ≡ 0) → parity (bitAnd t x) ≡ 0
+    go true q e a b = a refl
+    go false true e a b = both (b refl)
+    go false false e a b = absurd (false≢true e)
 
 module _ (c : ℕ → ℕ) (n : ℕ) (i : Independent c n n) where
   all : Coordinates n c n
@@ -122,6 +145,33 @@ module _ (c : ℕ → ℕ) (n : ℕ) (i : Independent c n n) where
       rows-unique s (at (inverse c n)) n hs inverse-lt
       (λ x l.
       sym (sigma-columns (apply s n x) (apply-lt s n x)) ∙ ap (apply (at (inverse c n)) n) (h x l))
+
+  -- no row of the inverse is the XOR of some set of earlier rows
+  pub inverse-independent : dependent n (at (inverse c n)) ≡ n
+  unfolding dependent
+  inverse-independent =
+      first-is n _ n (omega arith) (λ j l. go j l (span s j (s j)) refl) (λ l. absurd (omega arith))
+    where
+      s : ℕ → ℕ
+      s = at (inverse c n)
+
+      -- the point that sigma sends to 2^j
+      x : ℕ → ℕ
+      x j = columns c n (2 ^ j)
+
+      row : (j h : ℕ) → j < n → h < n → parity (bitAnd (s h) (x j)) ≡ bit (2 ^ j) h
+      row j h l m = sym (apply-bit s n (x j) h m) ∙ ap (λ (y : ℕ). bit y h) (sigma-columns (2 ^ j) (pow-lt l))
+
+      go : (j : ℕ) → j < n → (b : Bool) → span s j (s j) ≡ b → span s j (s j) ≡ false
+      go j l true e =
+          absurd
+          (omega (
+            arith,
+            row j j l l,
+            bit-pow-same j,
+            span-parity s j (s j) (x j) e (λ h m. row j h l (omega arith) ∙ bit-pow-other j h (λ d. omega arith)),
+          ))
+      go j l false e = e
 
 -- sigma of a block lists the rows that the steps reach with its chosen numbers
 pub sigma-tab : (f : ℕ → ℕ) (n w : ℕ) → 1 ≤ w → sigmaOf f n w ≡ tab n (reachRows n (pick (shift f n) n w) n)

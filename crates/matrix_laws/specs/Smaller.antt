@@ -1,8 +1,10 @@
--- The smaller block (01, The basis and the matrix): its R at z is R of the block at T z, its measure is the sum of R at the columns
--- of T, and at sigma x it is the block at x. Not here: its rows. Assumes nothing.
+-- R and the measure go by a block's points alone. The smaller block (01, The basis and the matrix): its R at z is R of the block at T z, and
+-- its measure is the sum of R at the columns of T. Not here: its rows. Assumes nothing.
 use mathlib.Core.Path.{_≡_, ap, _∙_}
-use Prim.Native.Nat.{ℕ, _^_}
+use Prim.Native.Nat.{ℕ, _^_, _<_}
 use native.Mathlib.Omega.{arith}
+use lib.Bits.{bitXor, xor-lt}
+use lib.Pow.{pow-lt}
 use Rattle.sums.specs.Sums.{sum, one, count}
 use Rattle.sums.specs.Laws.{sum-cong, sum-moved, count-cong}
 use Rattle.block.specs.Measure.{same, shift, measure}
@@ -11,6 +13,16 @@ use Rattle.block.specs.Rows.{reached}
 use Rattle.matrix_laws.specs.Linear.{columns-lt, columns-xor, columns-unit}
 use Rattle.matrix_laws.specs.Reached.{Independent, reaches}
 use Rattle.matrix_laws.specs.Inverse.{reached-columns, columns-reached}
+
+-- R goes by the block's points alone
+pub shift-points : (f g : ℕ → ℕ) (n t : ℕ) → t < 2 ^ n → ((x : ℕ) → x < 2 ^ n → f x ≡ g x) → shift f n t ≡ shift g n t
+unfolding shift same
+shift-points f g n t h e = count-cong (same f t) (same g t) (2 ^ n) (λ x l. rw (e x l, e (bitXor x t) (xor-lt n x t l h)))
+
+-- and so does the measure
+pub measure-points : (f g : ℕ → ℕ) (n : ℕ) → ((x : ℕ) → x < 2 ^ n → f x ≡ g x) → measure f n ≡ measure g n
+unfolding measure
+measure-points f g n e = sum-cong _ _ n (λ i h. shift-points f g n (2 ^ i) (pow-lt h) e)
 
 -- at z and x the smaller block is the same where the block is at T z and T x
 same-smaller : (f c : ℕ → ℕ) (n z x : ℕ) → same (smaller f c n) z x ≡ same f (columns c n z) (columns c n x)

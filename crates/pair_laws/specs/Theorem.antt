@@ -19,7 +19,7 @@ use lib.ListN.{length}
 use lib.Pow.{pow-pos}
 use Rattle.bits.specs.Xor.{xor-cancel-r, eqb-turn}
 use Rattle.sums.specs.Sums.{sum, one, count}
-use Rattle.sums.specs.Laws.{sum-one, sum-none, sum-swap, sum-cong, sum-mul, sum-add, sum-le, one-le, count-le, count-none, count-cong, count-moved}
+use Rattle.sums.specs.Laws.{sum-one, sum-none, sum-swap, sum-cong, sum-mul, sum-const, sum-add, sum-le, one-le, count-le, count-none, count-cong, count-moved}
 use Rattle.block.specs.Words.{none, under, ofRows}
 use Rattle.block.specs.Measure.{same, shift}
 use Rattle.block.specs.Refusals.{rowAt}
@@ -301,11 +301,6 @@ module _ (m n : ℕ) (rs : List Row) (d : Disjoint n rs) where
       go (inr f) = absurd (d .outputs (f .0) (f .1) (sym (f .3) ∙ h))
 
 -- ---- rows that cover every point
-
-sum-const : (k m : ℕ) → sum (λ _. k) m ≡ m * k
-unfolding sum
-sum-const k zero = omega arith
-sum-const k (suc m) = omega (arith, sum-const k m)
 
 -- a count of all numbers says that each passes
 count-all : (p : ℕ → Bool) (m : ℕ) → count p m ≡ m → (x : ℕ) → x < m → p x ≡ true

@@ -1,9 +1,9 @@
 // T, sigma and both measures of a list of rows, where a missing point has the word `missing`: R of every number in the walk, the quicker way,
 // and the choice. Every function here is inner.
 use block::LIST_POINTS;
+use block::Measures;
 use candidate_list::PRINTED_LIMIT;
 use candidate_list::PRINTED_NUMBERS;
-use choosing::Measures;
 ghost use mathlib.Core.Path.{_≡_};
 ghost use mathlib.Core.Bool.{true};
 ghost use Prim.Native.Nat.{ℕ, _≤_, _<_, _^_};

@@ -17,9 +17,9 @@ use Rattle.block.specs.declared.Row.{Row}
 use Rattle.answered_laws.specs.Passed.{MethodAnswered, method-answered}
 use Rattle.matrix_laws.specs.Candidate.{basis-independent}
 use Rattle.matrix_laws.specs.Inverse.{length-basis, length-sigma}
+use Rattle.matrix_laws.specs.Smaller.{measure-points}
 use Rattle.pair_laws.specs.Theorem.{Apart}
 use Rattle.step_laws.specs.Smaller.{smaller-good, smaller-disjoint, smaller-word, smaller-rows}
-use Rattle.demands.specs.Blocks.{measure-points}
 use Rattle.demands.specs.Matrix.{sigma-lt, sigma-after-basis, basis-after-sigma}
 use Rattle.sheet_laws.specs.Said.{Writable, said-written}
 use Rattle.sheet_work.specs.Made.{measure-le}

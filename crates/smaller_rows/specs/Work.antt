@@ -23,7 +23,7 @@ use Rattle.matrix_laws.specs.Candidate.{basis-independent}
 use Rattle.matrix_laws.specs.Inverse.{length-inverse}
 use Rattle.step_laws.specs.Moved.{moved-cong}
 use Rattle.choosing.specs.Found.{Found}
-use Rattle.choosing.specs.declared.Measures.{Measures}
+use Rattle.block.specs.declared.Measures.{Measures}
 use Rattle.row_adding.specs.Held.{rows-copied}
 use Rattle.row_steps.specs.Passed.{passingBy, Replayed}
 use Rattle.row_steps.specs.declared.Replay.{Replay}

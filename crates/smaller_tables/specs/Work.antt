@@ -14,7 +14,7 @@ use Rattle.table_shifts.specs.Light.{LightValues}
 use Rattle.walks.specs.Walk.{Walked, valueAt, value-agree}
 use Rattle.choosing.specs.Steps.{ChosenBasis}
 use Rattle.choosing.specs.Found.{found-column, found}
-use Rattle.choosing.specs.declared.Measures.{Measures}
+use Rattle.block.specs.declared.Measures.{Measures}
 
 -- of a block f: T, sigma and the smaller table lie at the front of what was lent, and both measures come back
 pub record Worked (f : ℕ → ℕ) (n w : ℕ) (t s z t′ s′ z′ : List ℕ) (r : Measures) : Type 0 where

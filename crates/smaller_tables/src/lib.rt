@@ -1,6 +1,6 @@
 // The work of the table method, once the checks have passed. Every function here is inner.
+use block::Measures;
 use block::TABLE_POINTS;
-use choosing::Measures;
 ghost use mathlib.Core.Path.{_≡_};
 ghost use Prim.Native.Nat.{ℕ, _≤_, _<_, _^_};
 ghost use lib.ListN.{length};

@@ -42,6 +42,17 @@ unfolding sum
 sum-le f b zero h = omega arith
 sum-le f b (suc m) h = omega (arith, sum-le f b m (λ i hi. h i (omega arith)), h m (omega arith))
 
+pub sum-const : (k m : ℕ) → sum (λ _. k) m ≡ m * k
+unfolding sum
+sum-const k zero = omega arith
+sum-const k (suc m) = omega (arith, sum-const k m)
+
+-- terms no greater add no more
+pub sum-terms : (f g : ℕ → ℕ) (m : ℕ) → ((i : ℕ) → i < m → f i ≤ g i) → sum f m ≤ sum g m
+unfolding sum
+sum-terms f g zero h = omega arith
+sum-terms f g (suc m) h = omega (arith, sum-terms f g m (λ i hi. h i (omega arith)), h m (omega arith))
+
 pub sum-add : (f g : ℕ → ℕ) (m : ℕ) → sum (λ i. f i + g i) m ≡ sum f m + sum g m
 unfolding sum
 sum-add f g zero = refl

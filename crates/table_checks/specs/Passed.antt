@@ -2,7 +2,7 @@
 use mathlib.Core.Path.{_≡_, refl}
 use mathlib.Core.Bool.{false, not}
 use mathlib.Core.List.{List}
-use Prim.Native.Nat.{ℕ, _≤_, _<_, _^_}
+use Prim.Native.Nat.{ℕ, _+_, _≤_, _<_, _^_}
 use native.Mathlib.Omega.{arith}
 use borrow.Author.Tests.{ltb-true, ltb-false, eqb-true, not-false}
 use lib.Dec.{eqb, ltb}
@@ -12,6 +12,7 @@ use Rattle.block.specs.Limits.{tableInputs, outputs}
 use Rattle.block.specs.Words.{fr, fd, missing}
 use Rattle.block.specs.Refusals.{verdict, outside, badEntry, badNumber}
 use Rattle.block.specs.Tables.{tableValueVerdict, tableMethodVerdict, spectrumVerdict}
+use Rattle.block.specs.Symmetric.{symmetricVerdict, tableSymmetricVerdict}
 use Rattle.block.specs.declared.Answer.{Answer}
 use Rattle.shared_checks.specs.Sizes.{inside, or-left, or-right, long-enough, sizes-pass}
 use Rattle.table_checks.specs.Restoring.{restoreChecked}
@@ -101,6 +102,56 @@ spectrum-passed n k y table roomValues roomWorking v e h =
       entries = eqb-true (length table) (2 ^ n) (not-false (eqb (length table) (2 ^ n)) (whole .0));
       values = ltb-false roomValues (2 ^ n) (or-left (ltb roomValues (2 ^ n)) (ltb roomWorking (2 ^ n)) (lent .0));
       working = ltb-false roomWorking (2 ^ n) (or-right (ltb roomValues (2 ^ n)) (ltb roomWorking (2 ^ n)) (lent .0));
+    }
+
+pub record SymmetricPassed (n k y : ℕ) (words : List ℕ) (roomTable roomSmaller : ℕ) : Type 0 where
+  pub sizes : (outside 1 tableInputs n ≡ false) × (outside 1 outputs k ≡ false) × (outside fr fd y ≡ false)
+  pub least : 1 ≤ n
+  pub inputs : n ≤ tableInputs
+  pub counts : length words ≡ n + 1
+  pub table : 2 ^ n ≤ roomTable
+  pub smaller : 2 ^ n ≤ roomSmaller
+  pub good : (i : ℕ) → i < length words → badEntry (missing y) k (at words i) ≡ false
+
+pub symmetric-passed : (n k y : ℕ) (words : List ℕ) (roomTable roomSmaller : ℕ) (v : Answer)
+    → v ≡ symmetricVerdict n k y words roomTable roomSmaller → v .number ≡ 0 → SymmetricPassed n k y words roomTable roomSmaller
+unfolding symmetricVerdict
+symmetric-passed n k y words roomTable roomSmaller v e h =
+    let one = passes _ _ refl (zero-too e h) in
+    let two = passes _ _ refl (one .1) in
+    let three = passes _ _ refl (two .1) in
+    let whole = passes _ _ refl (three .1) in
+    let lent = passes _ _ refl (whole .1) in
+    let range = inside 1 tableInputs n (one .0) in
+    record {
+      sizes = (one .0, two .0, three .0);
+      least = range .0;
+      inputs = range .1;
+      counts = eqb-true (length words) (n + 1) (not-false (eqb (length words) (n + 1)) (whole .0));
+      table = ltb-false roomTable (2 ^ n) (or-left (ltb roomTable (2 ^ n)) (ltb roomSmaller (2 ^ n)) (lent .0));
+      smaller = ltb-false roomSmaller (2 ^ n) (or-right (ltb roomTable (2 ^ n)) (ltb roomSmaller (2 ^ n)) (lent .0));
+      good = passes-none (length words) (λ i. badEntry (missing y) k (at words i)) (passes _ _ refl (lent .1) .0);
+    }
+
+pub record TableSymmetricPassed (n k y : ℕ) (table : List ℕ) : Type 0 where
+  pub sizes : (outside 1 tableInputs n ≡ false) × (outside 1 outputs k ≡ false) × (outside fr fd y ≡ false)
+  pub inputs : n ≤ tableInputs
+  pub entries : length table ≡ 2 ^ n
+  pub good : (i : ℕ) → i < length table → badEntry (missing y) k (at table i) ≡ false
+
+pub table-symmetric-passed : (n k y : ℕ) (table : List ℕ) (v : Answer) → v ≡ tableSymmetricVerdict n k y table → v .number ≡ 0
+    → TableSymmetricPassed n k y table
+unfolding tableSymmetricVerdict
+table-symmetric-passed n k y table v e h =
+    let one = passes _ _ refl (zero-too e h) in
+    let two = passes _ _ refl (one .1) in
+    let three = passes _ _ refl (two .1) in
+    let whole = passes _ _ refl (three .1) in
+    record {
+      sizes = (one .0, two .0, three .0);
+      inputs = inside 1 tableInputs n (one .0) .1;
+      entries = eqb-true (length table) (2 ^ n) (not-false (eqb (length table) (2 ^ n)) (whole .0));
+      good = passes-none (length table) (λ i. badEntry (missing y) k (at table i)) (passes _ _ refl (whole .1) .0);
     }
 
 pub record RestorePassed (n : ℕ) (sigma table : List ℕ) (room : ℕ) : Type 0 where

@@ -11,7 +11,8 @@ use Rattle.slices.specs.Places.{at, first}
 use Rattle.block.specs.Limits.{listInputs, tableInputs, outputs}
 use Rattle.block.specs.Words.{missing}
 use Rattle.block.specs.Refusals.{Check, check, verdict, andThen, outside, typedChecks, badEntry, badNumber, malformed}
-use Rattle.block.specs.Tables.{tableValueVerdict, tableMethodVerdict, spectrumVerdict}
+use Rattle.block.specs.Tables.{tableValueVerdict, tableMethodVerdict}
+use Rattle.block.specs.Symmetric.{tableSymmetricVerdict}
 use Rattle.block.specs.declared.Answer.{Answer}
 use Rattle.refusal_laws.specs.Verdicts.{zero-too, then-answered, Asked, asked-then, asked-where}
 use Rattle.shared_checks.specs.Sizes.{asked-sizes, sizes-pass}
@@ -81,32 +82,48 @@ module _ (n k y size : ℕ) (table : List ℕ) (power : n ≤ listInputs → siz
     unfolding tableMethodVerdict
     method-verdict v e = asked-then (malformed 0 (badEntry (missing y) k) table ∷ []) v method-asked (refl, tt) e .told
 
-  -- ---- the spectrum; `short` is the test of the rooms
+  -- ---- 4, two rooms of 2^n entries and 6: the spectrum, and a symmetric block, whose list is that of its words; `off` is the test of the
+  -- length, and `short` that of the rooms
 
-  module _ (roomValues roomWorking : ℕ) (short : Bool) (rooms : short ≡ ltb roomValues size || ltb roomWorking size) (sizes whole lent : Answer)
-      (first : sizes ≡ verdict (typedChecks tableInputs n k y []))
-      (second : whole ≡ andThen sizes (verdict (check (not (eqb (length table) size)) 4 0 0 ∷ [])))
-      (third : lent ≡ andThen whole (verdict (check short 5 0 0 ∷ []))) where
-    spectrum-asked :
-        Asked
-        (typedChecks tableInputs n k y (
-        check (not (eqb (length table) (2 ^ n))) 4 0 0
-        ∷ check (ltb roomValues (2 ^ n) || ltb roomWorking (2 ^ n)) 5 0 0
-        ∷ [])) lent
-    spectrum-asked =
-        asked-where short (ltb roomValues (2 ^ n) || ltb roomWorking (2 ^ n)) 5 0 0 lent
-        (asked-where _ (not (eqb (length table) (2 ^ n))) 4 0 0 whole
+  module _ (off wrong : Bool) (fits : size ≡ 2 ^ n → off ≡ wrong) (roomA roomB : ℕ) (short : Bool)
+      (rooms : short ≡ ltb roomA size || ltb roomB size) (sizes whole lent : Answer) (first : sizes ≡ verdict (typedChecks tableInputs n k y []))
+      (second : whole ≡ andThen sizes (verdict (check off 4 0 0 ∷ []))) (third : lent ≡ andThen whole (verdict (check short 5 0 0 ∷ []))) where
+    rooms-asked :
+        Asked (typedChecks tableInputs n k y (check wrong 4 0 0 ∷ check (ltb roomA (2 ^ n) || ltb roomB (2 ^ n)) 5 0 0 ∷ [])) lent
+    rooms-asked =
+        asked-where short (ltb roomA (2 ^ n) || ltb roomB (2 ^ n)) 5 0 0 lent
+        (asked-where off wrong 4 0 0 whole (asked-sizes tableInputs n k y sizes first) refl second (λ h. fits (same-size [] h)))
+        refl third (λ h. rooms ∙ ap (λ (p : ℕ). ltb roomA p || ltb roomB p) (same-size _ h))
+
+    pub rooms-outputs : lent .number ≡ 0 → k ≤ outputs
+    rooms-outputs = few-outputs _ lent rooms-asked
+
+    pub rooms-verdict : (v : Answer) → v ≡ andThen lent (verdict (malformed 0 (badEntry (missing y) k) table ∷ []))
+        → v
+        ≡ verdict (typedChecks tableInputs n k y (
+        check wrong 4 0 0
+        ∷ check (ltb roomA (2 ^ n) || ltb roomB (2 ^ n)) 5 0 0
+        ∷ malformed 0 (badEntry (missing y) k) table
+        ∷ []))
+    rooms-verdict v e = asked-then (malformed 0 (badEntry (missing y) k) table ∷ []) v rooms-asked (refl, tt) e .told
+
+  -- ---- whether a table is symmetric
+
+  module _ (sizes whole : Answer) (first : sizes ≡ verdict (typedChecks tableInputs n k y []))
+      (second : whole ≡ andThen sizes (verdict (check (not (eqb (length table) size)) 4 0 0 ∷ []))) where
+    symmetric-asked : Asked (typedChecks tableInputs n k y (check (not (eqb (length table) (2 ^ n))) 4 0 0 ∷ [])) whole
+    symmetric-asked =
+        asked-where _ (not (eqb (length table) (2 ^ n))) 4 0 0 whole
         (asked-sizes tableInputs n k y sizes first) refl second
-        (λ h. ap (λ (p : ℕ). not (eqb (length table) p)) (same-size [] h)))
-        refl third (λ h. rooms ∙ ap (λ (p : ℕ). ltb roomValues p || ltb roomWorking p) (same-size _ h))
+        (λ h. ap (λ (p : ℕ). not (eqb (length table) p)) (same-size [] h))
 
-    pub spectrum-outputs : lent .number ≡ 0 → k ≤ outputs
-    spectrum-outputs = few-outputs _ lent spectrum-asked
+    pub symmetric-outputs : whole .number ≡ 0 → k ≤ outputs
+    symmetric-outputs = few-outputs _ whole symmetric-asked
 
-    pub spectrum-verdict : (v : Answer) → v ≡ andThen lent (verdict (malformed 0 (badEntry (missing y) k) table ∷ []))
-        → v ≡ spectrumVerdict n k y table roomValues roomWorking
-    unfolding spectrumVerdict
-    spectrum-verdict v e = asked-then (malformed 0 (badEntry (missing y) k) table ∷ []) v spectrum-asked (refl, tt) e .told
+    pub symmetric-verdict : (v : Answer) → v ≡ andThen whole (verdict (malformed 0 (badEntry (missing y) k) table ∷ []))
+        → v ≡ tableSymmetricVerdict n k y table
+    unfolding tableSymmetricVerdict
+    symmetric-verdict v e = asked-then (malformed 0 (badEntry (missing y) k) table ∷ []) v symmetric-asked (refl, tt) e .told
 
   -- ---- restoring before 8; `unfit` is the test of the two lengths
 

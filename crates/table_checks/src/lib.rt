@@ -5,7 +5,7 @@ use block::TABLE_INPUTS;
 ghost use mathlib.Core.Path.{_≡_};
 ghost use mathlib.Core.Bool.{not, _||_};
 ghost use mathlib.Core.List.{[], _∷_};
-ghost use Prim.Native.Nat.{_≤_};
+ghost use Prim.Native.Nat.{_+_, _≤_};
 ghost use lib.Dec.{eqb, ltb};
 ghost use lib.ListN.{length};
 ghost use Rattle.slices.specs.Places.{at, first};
@@ -13,6 +13,7 @@ ghost use Rattle.block.specs.Limits.{listInputs, outputs};
 ghost use Rattle.block.specs.Words.{missing};
 ghost use Rattle.block.specs.Refusals.{verdict, andThen, badEntry, badNumber, malformed};
 ghost use Rattle.block.specs.Tables.{tableValueVerdict, tableMethodVerdict, spectrumVerdict};
+ghost use Rattle.block.specs.Symmetric.{symmetricVerdict, tableSymmetricVerdict};
 ghost use Rattle.table_checks.specs.Restoring.{restoreChecked};
 
 // Whether a table entry is neither below 2^k nor the word of a missing point.
@@ -151,6 +152,46 @@ pub fn spectrum_verdict(
     let short = is_either_short(size, room_values, room_working);
     let lent = shared_checks::then_where(whole, short, 5, 0, 0);
     then_entries(lent, k, block_type, table)
+}
+
+// Whether there is another number of words than one for each count of one-bits, n + 1. That n + 1 may be no number of its type.
+pub fn is_other_count(words: usize, n: usize) -> bool
+    ensures { λ r. ⌜ r ≡ not (eqb words (n + 1)) ⌝ }
+{
+    if words == 0 {
+        return true;
+    }
+    words - 1 != n
+}
+
+// The verdict on a symmetric block of these words.
+pub fn symmetric_verdict(
+    n: usize,
+    k: usize,
+    block_type: usize,
+    words: &[u16],
+    room_table: usize,
+    room_smaller: usize,
+) -> Answer
+    ensures { λ r. ⌜ r ≡ symmetricVerdict n k «block_type» (now (words .entry)) «room_table» «room_smaller» ⌝ }
+{
+    let sizes = shared_checks::sizes(TABLE_INPUTS, n, k, block_type);
+    let size = shared_checks::size_of(n);
+    let other = is_other_count(words.len(), n);
+    let whole = shared_checks::then_where(sizes, other, 4, 0, 0);
+    let short = is_either_short(size, room_table, room_smaller);
+    let lent = shared_checks::then_where(whole, short, 5, 0, 0);
+    then_entries(lent, k, block_type, words)
+}
+
+// The verdict on whether a table is symmetric.
+pub fn table_symmetric_verdict(n: usize, k: usize, block_type: usize, table: &[u16]) -> Answer
+    ensures { λ r. ⌜ r ≡ tableSymmetricVerdict n k «block_type» (now (table .entry)) ⌝ }
+{
+    let sizes = shared_checks::sizes(TABLE_INPUTS, n, k, block_type);
+    let size = shared_checks::size_of(n);
+    let whole = shared_checks::then_where(sizes, table.len() != size, 4, 0, 0);
+    then_entries(whole, k, block_type, table)
 }
 
 // Whether one of two lengths is not what it should be.

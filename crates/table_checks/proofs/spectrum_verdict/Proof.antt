@@ -1,6 +1,12 @@
 -- `table_checks::spectrum_verdict` meets its contract: its checks step by step. Assumes nothing.
+use mathlib.Core.Path.{ap}
+use mathlib.Core.Bool.{not}
+use Prim.Native.Nat.{ℕ}
+use lib.Dec.{eqb}
+use lib.ListN.{length}
 use denote.Ref.{now}
-use Rattle.table_checks.specs.Steps.{spectrum-outputs, spectrum-verdict}
+use Rattle.block.specs.Tables.{spectrumVerdict}
+use Rattle.table_checks.specs.Steps.{rooms-outputs, rooms-verdict}
 use borrow.Author.Needs.{needs}
 use Rattle.table_checks.proofs.spectrum_verdict.Statement.{statement}
 use Rattle.table_checks.proofs.spectrum_verdict.Tie as tie
@@ -27,10 +33,12 @@ then-entries-requires c κs =
     let size = whole .before in
     let sizes = size .before in
     let a = sizes .before .before .args in
-    spectrum-outputs (a .n) (a .k) (a .block-type) _ (now (a .table)) (size .size-of .ensures) (a .room-values) (a .room-working) _
+    rooms-outputs (a .n) (a .k) (a .block-type) _ (now (a .table)) (size .size-of .ensures) _ _ (ap (λ (p : ℕ). not (eqb (length (now (a .table))) p)))
+    (a .room-values) (a .room-working) _
     (short .is-either-short .ensures) _ _ _ (sizes .sizes .ensures) (whole .then-where .ensures) (c .then-where2 .ensures)
 
 returns : tie.Need-returns
+unfolding spectrumVerdict
 returns c =
     let lent = c .before in
     let short = lent .before in
@@ -38,7 +46,8 @@ returns c =
     let size = whole .before in
     let sizes = size .before in
     let a = sizes .before .before .args in
-    spectrum-verdict (a .n) (a .k) (a .block-type) _ (now (a .table)) (size .size-of .ensures) (a .room-values) (a .room-working) _
+    rooms-verdict (a .n) (a .k) (a .block-type) _ (now (a .table)) (size .size-of .ensures) _ _ (ap (λ (p : ℕ). not (eqb (length (now (a .table))) p)))
+    (a .room-values) (a .room-working) _
     (short .is-either-short .ensures) _ _ _ (sizes .sizes .ensures) (whole .then-where .ensures) (lent .then-where2 .ensures) _
     (c .then-entries .ensures)
 
