@@ -1,6 +1,6 @@
--- The blocks that 01 marks P (01, Blocks to try by hand), read as fr, and blocks with missing points under both types (02, Ticket 2), as
--- one statement over a table: each question has the numbers that stand beside it. Every question goes through the answer that an
--- operation's contract cites. Assumes nothing.
+-- The blocks that 01 marks P (01, Blocks to try by hand), read as fr, blocks with missing points under both types (02, Ticket 2) and
+-- symmetric blocks (02, Ticket 6), as one statement over a table: each question has the numbers that stand beside it. Every question goes
+-- through the answer that an operation's contract cites. Assumes nothing.
 use mathlib.Core.Path.{_≡_, refl, ap₂}
 use mathlib.Core.Bool.{Bool, true, cond, _&&_}
 use mathlib.Core.List.{List, [], _∷_, _++_}
@@ -19,6 +19,16 @@ use Rattle.block.specs.Refusals.{verdict, answered, badRow, share, second, shar
 use Rattle.block.specs.Tables.{tableValueVerdict, tableValue, tableMethodVerdict, tableMethod, smallerTable, restoreVerdict, restored}
 use Rattle.block.specs.Lists.{rowValueVerdict, rowValue, rowsAfter, passing, methodChecks, rowMethodVerdict, rowMethod, smallerList, fillVerdict, filled}
 use Rattle.block.specs.Text.{equal}
+use Rattle.block.specs.Symmetric.{
+  symmetricTable,
+  grayColumn,
+  grayTable,
+  isSymmetric,
+  symmetricVerdict,
+  symmetricBlock,
+  tableSymmetricVerdict,
+  tableSymmetric,
+}
 use Rattle.block.specs.declared.Row.{Row}
 use Rattle.block.specs.declared.Answer.{Answer}
 
@@ -39,6 +49,8 @@ pub data Question : Type 0 where
   rowMethods : ℕ → ℕ → ℕ → ℕ → List Row → Question
   fills : ℕ → ℕ → ℕ → List Row → Question
   restores : ℕ → ℕ → ℕ → List ℕ → List ℕ → Question
+  symmetricBlocks : ℕ → ℕ → ℕ → List ℕ → Question
+  tableSymmetrics : ℕ → ℕ → ℕ → List ℕ → Question
 
 -- a result beside an answer, nothing beside a refusal
 abbrev pub with : Answer → List ℕ → List ℕ
@@ -50,7 +62,7 @@ flat [] = []
 flat (r ∷ rs) = r .mask ∷ r .values ∷ r .word ∷ flat rs
 
 -- number, A, B; then the value; or the measures, T, sigma and the smaller table; or the measures, the count, T, sigma and the smaller
--- rows; or the filled table; or the restored one
+-- rows; or the filled table; or the restored one; or the measures and both tables of a symmetric block; or whether a table is one
 pub ask : Question → List ℕ
 ask (tableValues n k y t table) = let r = tableValue n k y t table in r .number ∷ r .a ∷ r .b ∷ r .value ∷ []
 ask (tableMethods n k y w table) =
@@ -70,6 +82,11 @@ ask (fills n k y rs) =
 ask (restores n k y sigma table) =
     let v = restoreVerdict n k y sigma table (2 ^ n) in
     v .number ∷ v .a ∷ v .b ∷ with v (restored n sigma table)
+ask (symmetricBlocks n k y words) =
+    let r = symmetricBlock n k y words (2 ^ n) (2 ^ n) in
+    r .number ∷ r .a ∷ r .b ∷ r .before ∷ r .after
+    ∷ with (symmetricVerdict n k y words (2 ^ n) (2 ^ n)) (symmetricTable words n ++ grayTable words n)
+ask (tableSymmetrics n k y table) = let r = tableSymmetric n k y table in r .number ∷ r .a ∷ r .b ∷ r .value ∷ []
 
 pub record Case : Type 0 where
   pub question : Question
@@ -113,7 +130,8 @@ rowsM = row 3 0 1 ∷ row 3 3 2 ∷ []
 pub tableM : List ℕ
 tableM = 0 ∷ 65535 ∷ 1 ∷ 0 ∷ []
 
--- the cases a to j, read as fr; then missing points under both types, and a number that is no type
+-- the cases a to j, read as fr; then missing points under both types, and a number that is no type; then symmetric blocks: the parity of two,
+-- 2 of 3, at least 2 of 3, whose measures are equal, 3 of 5, the block of the README, and one without an output at two one-bits
 pub table : List Case
 table =
     case (tableValues 2 1 fr 0 tableA) (0 ∷ 0 ∷ 0 ∷ 4 ∷ [])
@@ -146,6 +164,32 @@ table =
     ∷ case (tableMethods 2 1 fd 2 tableM) (6 ∷ 0 ∷ 1 ∷ 0 ∷ 0 ∷ [])
     ∷ case (restores 2 1 fd (1 ∷ 2 ∷ []) tableM) (6 ∷ 0 ∷ 1 ∷ [])
     ∷ case (rowValues 2 2 0 3 rowsM) (3 ∷ 0 ∷ 0 ∷ 0 ∷ [])
+    ∷ case (symmetricBlocks 2 1 fr (0 ∷ 1 ∷ 0 ∷ []))
+    (0 ∷ 0 ∷ 0 ∷ 0 ∷ 4
+    ∷ 0 ∷ 1 ∷ 1 ∷ 0
+    ∷ 0 ∷ 1 ∷ 0 ∷ 1 ∷ [])
+    ∷ case (symmetricBlocks 3 1 fd (0 ∷ 0 ∷ 1 ∷ 0 ∷ []))
+    (0 ∷ 0 ∷ 0 ∷ 6 ∷ 14
+    ∷ 0 ∷ 0 ∷ 0 ∷ 1 ∷ 0 ∷ 1 ∷ 1 ∷ 0
+    ∷ 0 ∷ 0 ∷ 1 ∷ 0 ∷ 1 ∷ 0 ∷ 1 ∷ 0 ∷ [])
+    ∷ case (symmetricBlocks 3 1 fr (0 ∷ 0 ∷ 1 ∷ 1 ∷ []))
+    (0 ∷ 0 ∷ 0 ∷ 12 ∷ 12
+    ∷ 0 ∷ 0 ∷ 0 ∷ 1 ∷ 0 ∷ 1 ∷ 1 ∷ 1
+    ∷ 0 ∷ 0 ∷ 1 ∷ 0 ∷ 1 ∷ 1 ∷ 1 ∷ 0 ∷ [])
+    ∷ case (symmetricBlocks 5 1 fd (0 ∷ 0 ∷ 0 ∷ 1 ∷ 0 ∷ 0 ∷ []))
+    (0 ∷ 0 ∷ 0 ∷ 60 ∷ 108
+    ∷ 0 ∷ 0 ∷ 0 ∷ 0 ∷ 0 ∷ 0 ∷ 0 ∷ 1 ∷ 0 ∷ 0 ∷ 0 ∷ 1 ∷ 0 ∷ 1 ∷ 1 ∷ 0 ∷ 0 ∷ 0 ∷ 0 ∷ 1 ∷ 0 ∷ 1 ∷ 1 ∷ 0 ∷ 0 ∷ 1 ∷ 1 ∷ 0 ∷ 1 ∷ 0 ∷ 0 ∷ 0
+    ∷ 0 ∷ 0 ∷ 0 ∷ 0 ∷ 0 ∷ 1 ∷ 0 ∷ 0 ∷ 0 ∷ 1 ∷ 0 ∷ 1 ∷ 0 ∷ 1 ∷ 0 ∷ 0 ∷ 0 ∷ 1 ∷ 0 ∷ 1 ∷ 0 ∷ 0 ∷ 0 ∷ 1 ∷ 0 ∷ 1 ∷ 0 ∷ 1 ∷ 0 ∷ 1 ∷ 0 ∷ 0 ∷ [])
+    ∷ case (symmetricBlocks 3 1 fr (1 ∷ 0 ∷ 65535 ∷ 1 ∷ []))
+    (0 ∷ 0 ∷ 0 ∷ 0 ∷ 4
+    ∷ 1 ∷ 0 ∷ 0 ∷ 65535 ∷ 0 ∷ 65535 ∷ 65535 ∷ 1
+    ∷ 1 ∷ 0 ∷ 65535 ∷ 0 ∷ 65535 ∷ 1 ∷ 65535 ∷ 0 ∷ [])
+    ∷ case (symmetricBlocks 3 1 fd (1 ∷ 0 ∷ 65535 ∷ 1 ∷ [])) (6 ∷ 0 ∷ 2 ∷ 0 ∷ 0 ∷ [])
+    ∷ case (symmetricBlocks 2 1 fd (0 ∷ 1 ∷ [])) (4 ∷ 0 ∷ 0 ∷ 0 ∷ 0 ∷ [])
+    ∷ case (tableSymmetrics 2 1 fd tableA) (0 ∷ 0 ∷ 0 ∷ 1 ∷ [])
+    ∷ case (tableSymmetrics 2 1 fr tableM) (0 ∷ 0 ∷ 0 ∷ 0 ∷ [])
+    ∷ case (tableSymmetrics 2 1 fr (0 ∷ 65535 ∷ 65535 ∷ 1 ∷ [])) (0 ∷ 0 ∷ 0 ∷ 1 ∷ [])
+    ∷ case (tableSymmetrics 2 1 fd tableM) (6 ∷ 0 ∷ 1 ∷ 0 ∷ [])
     ∷ []
 
 -- the test of a table of cases, which antt computes
@@ -172,5 +216,6 @@ unfolding
     span candidate before better best next chosen columns apply inverse basisOf sigmaOf smallerOf highest partner exchange rest shear
     reached splitRow splitRows moved verdict badRow share second sharing dependent tableValueVerdict tableValue tableMethodVerdict
     tableMethod smallerTable restoreVerdict restored rowValueVerdict rowValue rowsAfter passing methodChecks rowMethodVerdict
-    rowMethod smallerList fillVerdict filled equal
+    rowMethod smallerList fillVerdict filled equal symmetricTable grayColumn grayTable isSymmetric symmetricVerdict symmetricBlock
+    tableSymmetricVerdict tableSymmetric
 cases = right-all table tt
