@@ -4,20 +4,22 @@
 use mathlib.Core.Path.{_≡_, refl, sym, ap, ap₂, _∙_}
 use mathlib.Core.List.{List}
 use Prim.Native.Nat.{ℕ, zero, suc, _+_, _-_, _*_, _^_, _≤_, _<_}
-use native.Mathlib.Numerals.{one-add}
+use native.Mathlib.Numerals.{one-add, add-one}
 use native.Mathlib.Omega.{arith}
 use lib.Bits.{bitXor, xor-lt}
 use lib.Count.{ones, onesIn, ones-le, ones-ones, ones-cat}
+use lib.ListN.{getD}
 use lib.Pow.{pow-pos, pow-lt, pow-mono}
 use Rattle.bits.specs.Parity.{ones-pow}
 use Rattle.sums.specs.Sums.{sum, count}
 use Rattle.sums.specs.Laws.{sum-split, sum-cong, sum-const, sum-terms}
+use Rattle.block.specs.Words.{none}
 use Rattle.block.specs.Measure.{same, shift, measure}
 use Rattle.block.specs.Basis.{smaller}
 use Rattle.matrix_laws.specs.Smaller.{measure-smaller}
 use Rattle.block.specs.Symmetric.{ofCounts, grayColumn, leastOf, Symmetric}
 use Rattle.symmetric_laws.specs.Columns.{gray-independent, column-lt}
-use Rattle.symmetric_laws.specs.Weights.{weighed, sum-weighed, equal, weighed-one-two}
+use Rattle.symmetric_laws.specs.Weights.{changed, weighed, sum-weighed, folded, weighed-folded, equal, weighed-one-two}
 
 -- the least number with c one-bits is one of n inputs
 pub least-lt : (n c : ℕ) → c ≤ n → leastOf c < 2 ^ n
@@ -49,6 +51,33 @@ column-first = refl
 column-second : grayColumn 1 ≡ 3
 unfolding grayColumn
 column-second = refl
+
+-- R of a block of words from the words alone, at a number of one one-bit and at one of two
+module _ (words : List ℕ) where
+  -- the word for c one-bits
+  abbrev pub wordFor : ℕ → ℕ
+  wordFor c = getD words c none
+
+  shift-counts : (n t : ℕ) → t < 2 ^ n → shift (ofCounts words) n t ≡ weighed (equal wordFor) n (ones t)
+  unfolding shift count same
+  shift-counts n t h = sum-weighed (equal wordFor) n t h
+
+  pub shift-one : (m : ℕ) → shift (ofCounts words) (m + 1) 1 ≡ folded (λ c. changed (equal wordFor) c c) m 0
+  unfolding weighed
+  shift-one m =
+      let b : 1 < 2 ^ suc m = omega (arith, pow-pos m) in
+      rw (add-one m)
+      (shift-counts (suc m) 1 b ∙ ap (weighed (equal wordFor) (suc m)) (ones-pow 0)
+      ∙ weighed-folded (changed (equal wordFor)) m)
+
+  pub shift-two : (m : ℕ) → shift (ofCounts words) (m + 2) 3 ≡ folded (λ c. changed (changed (equal wordFor)) c c) m 0
+  unfolding weighed
+  shift-two m =
+      let e : m + 2 ≡ suc (suc m) = omega arith in
+      let b : 3 < 2 ^ suc (suc m) = omega (arith, pow-pos m) in
+      rw e
+      (shift-counts (suc (suc m)) 3 b ∙ ap (weighed (equal wordFor) (suc (suc m))) (sym (ap ones column-second) ∙ ones-three 0)
+      ∙ weighed-folded (changed (changed (equal wordFor))) m)
 
 module _ (f : ℕ → ℕ) (n : ℕ) (s : Symmetric f n) where
   least : (x : ℕ) → x < 2 ^ n → f x ≡ f (leastOf (ones x))

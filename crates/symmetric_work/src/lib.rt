@@ -1,19 +1,20 @@
-// The work on symmetric blocks (02, Ticket 6): the table of a list of words, the smaller table by the Gray columns, both measures, and
-// whether a table is symmetric. Every function here is inner.
+// The work on symmetric blocks (02, Ticket 6): the table of a list of words, the smaller table by the Gray columns, and whether a table is
+// symmetric. Every function here is inner.
 use block::Measures;
 use block::TABLE_INPUTS;
+use block::TABLE_POINTS;
 ghost use mathlib.Core.Path.{_≡_};
 ghost use mathlib.Core.Bool.{not};
 ghost use Prim.Native.Nat.{ℕ, _+_, _≤_, _<_, _^_};
-ghost use lib.Count.{ones};
 ghost use lib.ListN.{length};
 ghost use Rattle.sums.specs.Sums.{one};
 ghost use Rattle.slices.specs.Places.{tab, over};
 ghost use Rattle.block.specs.Limits.{tableInputs};
 ghost use Rattle.block.specs.Words.{ofTable};
 ghost use Rattle.block.specs.Basis.{smaller};
-ghost use Rattle.block.specs.Symmetric.{ofCounts, symmetricTable, grayColumn, alike, isSymmetric, Symmetric};
-ghost use Rattle.symmetric_work.specs.Work.{Measured, Made};
+ghost use Rattle.block.specs.Symmetric.{symmetricTable, grayColumn, alike, isSymmetric};
+ghost use Rattle.symmetric_laws.specs.Counts.{Counted};
+ghost use Rattle.symmetric_work.specs.Work.{Made};
 
 // The Gray columns of up to 12 inputs: 1, and then 3 times 1, 2, 4, ..
 const COLUMNS: [u32; TABLE_INPUTS] = [1, 3, 6, 12, 24, 48, 96, 192, 384, 768, 1536, 3072];
@@ -25,20 +26,30 @@ fn gray_columns() -> [u32; TABLE_INPUTS]
     COLUMNS
 }
 
-// The number of one-bits of x.
-fn ones_of(x: usize) -> usize
-    requires { ⌜ x < 4096 ⌝ }
-    ensures { λ r. ⌜ r ≡ ones x ⌝ }
+// Doubles the numbers of one-bits that are there: those of each z below 2^i become those below 2^(i + 1).
+fn double_counts(n: usize, i: usize, counts: &mut [u8])
+    requires { ⌜ (i < n) × (n ≤ tableInputs) × (2 ^ n ≤ length (now counts)) × Counted (2 ^ i) (now counts) ⌝ }
+    ensures { λ _. ⌜ Counted (2 ^ (i + 1)) (now (counts .exit)) ⌝ }
 {
-    u32::count_ones(x as u32) as usize
+    let size = bit_work::size(i);
+    let mut z: usize = 0;
+    while z < size {
+        counts[size + z] = counts[z] + 1;
+        z += 1;
+    }
 }
 
-// The word of a symmetric block at x.
-fn word_at(words: &[u16], n: usize, x: usize) -> u16
-    requires { ⌜ (length (now words) ≡ n + 1) × (n ≤ tableInputs) × (x < 2 ^ n) ⌝ }
-    ensures { λ r. ⌜ r ≡ ofCounts (now (words .entry)) x ⌝ }
+// How many one-bits each number below 2^n has. Each is one more than another: that is quicker than to count them.
+fn put_counts(n: usize, counts: &mut [u8])
+    requires { ⌜ (n ≤ tableInputs) × (2 ^ n ≤ length (now counts)) ⌝ }
+    ensures { λ _. ⌜ Counted (2 ^ n) (now (counts .exit)) ⌝ }
 {
-    words[ones_of(x)]
+    counts[0] = 0;
+    let mut i: usize = 0;
+    while i < n {
+        double_counts(n, i, counts);
+        i += 1;
+    }
 }
 
 // The table of a symmetric block.
@@ -46,10 +57,12 @@ pub fn put_symmetric(words: &[u16], n: usize, out: &mut [u16])
     requires { ⌜ (length (now words) ≡ n + 1) × (n ≤ tableInputs) × (2 ^ n ≤ length (now out)) ⌝ }
     ensures { λ _. ⌜ now (out .exit) ≡ over (symmetricTable (now (words .entry)) n) (now (out .entry)) ⌝ }
 {
+    let mut counts = [0u8; TABLE_POINTS];
+    put_counts(n, &mut counts);
     let size = bit_work::size(n);
     let mut x: usize = 0;
     while x < size {
-        out[x] = word_at(words, n, x);
+        out[x] = words[counts[x] as usize];
         x += 1;
     }
 }
@@ -63,32 +76,12 @@ pub fn put_gray(table: &[u16], n: usize, out: &mut [u16])
     restoring::put_through(table, &columns, n, out);
 }
 
-// Both measures of a symmetric table: R at 1 stands for every unit number, and R at 3 for every Gray column but the first.
-pub fn symmetric_measures(table: &[u16], n: usize) -> Measures
-    requires { ⌜ (length (now table) ≡ 2 ^ n) × (1 ≤ n) × (n ≤ tableInputs) × Symmetric (ofTable (now table)) n ⌝ }
-    ensures { λ r. ⌜ Measured (ofTable (now (table .entry))) n r ⌝ }
-{
-    let one = table_values::shift_at(table, n, 1) as u64;
-    if n < 2 {
-        return Measures {
-            before: one,
-            after: one,
-        };
-    }
-    let two = table_values::shift_at(table, n, 3) as u64;
-    let inputs = n as u64;
-    Measures {
-        before: inputs * one,
-        after: one + (inputs - 1) * two,
-    }
-}
-
 // Whether the entry at x differs from the one at the least number with as many one-bits.
-fn is_unlike(table: &[u16], n: usize, x: usize) -> bool
-    requires { ⌜ (length (now table) ≡ 2 ^ n) × (n ≤ tableInputs) × (x < 2 ^ n) ⌝ }
+fn is_unlike(table: &[u16], n: usize, counts: &[u8], x: usize) -> bool
+    requires { ⌜ (length (now table) ≡ 2 ^ n) × (n ≤ tableInputs) × Counted (2 ^ n) (now counts) × (2 ^ n ≤ length (now counts)) × (x < 2 ^ n) ⌝ }
     ensures { λ r. ⌜ r ≡ not (alike (now (table .entry)) x) ⌝ }
 {
-    let least = bit_work::size(ones_of(x)) - 1;
+    let least = bit_work::size(counts[x] as usize) - 1;
     table[x] != table[least]
 }
 
@@ -97,9 +90,11 @@ pub fn is_symmetric(table: &[u16], n: usize) -> bool
     requires { ⌜ (length (now table) ≡ 2 ^ n) × (n ≤ tableInputs) ⌝ }
     ensures { λ r. ⌜ r ≡ isSymmetric (now (table .entry)) n ⌝ }
 {
+    let mut counts = [0u8; TABLE_POINTS];
+    put_counts(n, &mut counts);
     let mut x: usize = 0;
     while x < table.len() {
-        if is_unlike(table, n, x) {
+        if is_unlike(table, n, &counts, x) {
             return false;
         }
         x += 1;
@@ -123,5 +118,5 @@ pub fn make_symmetric(words: &[u16], n: usize, table: &mut [u16], out: &mut [u16
     put_symmetric(words, n, table);
     let size = bit_work::size(n);
     put_gray(&table[..size], n, out);
-    symmetric_measures(&table[..size], n)
+    symmetric_values::symmetric_measures(words, n)
 }

@@ -5,7 +5,7 @@ use native.Mathlib.Omega.{arith}
 use lib.ListN.{take}
 use denote.Ref.{now}
 use Rattle.block.specs.Symmetric.{symmetricTable}
-use Rattle.symmetric_work.specs.Work.{front-table, front-length, front-symmetric, made}
+use Rattle.symmetric_work.specs.Work.{front-table, front-length, made}
 use borrow.Author.Needs.{needs}
 use Rattle.symmetric_work.proofs.make_symmetric.Statement.{statement}
 use Rattle.symmetric_work.proofs.make_symmetric.Tie as tie
@@ -35,19 +35,8 @@ put-gray-requires c κs =
     let s = c .before .before .before .before .before .before .before .before .before .before in
     (front-length _ _ _ (front (c .before .before)), s .pre .2, search needs)
 
-slice-reshare-prefix-symmetric-measures : tie.Need-slice-reshare-prefix-symmetric-measures
-slice-reshare-prefix-symmetric-measures c = search needs
-
-slice-aggregate-symmetric-measures : tie.Need-slice-aggregate-symmetric-measures
-slice-aggregate-symmetric-measures c =
-    let d = c .before .before .before .before .before .before in
-    omega (arith, d .size .ensures, front-length _ _ _ (front d))
-
 symmetric-measures-requires : tie.Need-symmetric-measures-requires
-symmetric-measures-requires c κs =
-    let d = c .before .before .before .before .before .before in
-    let s = d .before .before .before .before .before .before .before .before in
-    (front-length _ _ _ (front d), s .pre .1, s .pre .2, front-symmetric _ _ _ (front d))
+symmetric-measures-requires c κs = search needs
 
 same-length : tie.Need-same-length
 same-length c = search needs
@@ -57,10 +46,10 @@ same-length-2 c = search needs
 
 returns : tie.Need-returns
 returns c =
-    let d = c .before .before .before .before .before .before .before in
+    let d = c .before .before .before .before .before .before in
     let s = d .before .before .before .before .before .before .before .before in
     made (now (s .args .words)) (s .args .n) _ (front d) (now (s .args .table)) (now (s .args .out)) _ _ _
-    (d .before .before .before .put-symmetric .ensures) (c .before .before .before .before .put-gray .ensures) (c .symmetric-measures .ensures)
+    (d .before .before .before .put-symmetric .ensures) (c .before .before .before .put-gray .ensures) (c .symmetric-measures .ensures)
 
 pub make-symmetric-spec : {M : Type 1} → statement M
 make-symmetric-spec =
@@ -71,8 +60,6 @@ make-symmetric-spec =
     slice-reshare-prefix-put-gray
     slice-aggregate-put-gray
     put-gray-requires
-    slice-reshare-prefix-symmetric-measures
-    slice-aggregate-symmetric-measures
     symmetric-measures-requires
     same-length
     same-length-2
