@@ -51,7 +51,8 @@ pub fn rows_given(count: usize, most: usize) -> Check {
     demand((1..=most).contains(&count), 4)
 }
 
-/// 4: a table or matrix whose length is not the one due.
+/// 4: a table, a matrix or the words of a symmetric block, where there are not as
+/// many as are due.
 pub fn length(given: usize, due: usize) -> Check {
     demand(given == due, 4)
 }
@@ -75,8 +76,8 @@ pub fn records(n: usize, k: usize, rows: &[Row]) -> Check {
     }
 }
 
-/// 6: the least index of a table entry neither below 2^k nor that of a missing
-/// point, so that 65,535 is malformed under fd.
+/// 6: the least index of a table entry, or of a word of a symmetric block, neither
+/// below 2^k nor that of a missing point, so that 65,535 is malformed under fd.
 pub fn entries(k: usize, block_type: usize, table: &[u16]) -> Check {
     let malformed = |&entry: &u16| entry != missing(block_type) && entry >= 1 << k;
     match table.iter().position(malformed) {

@@ -175,6 +175,13 @@ fn answer<O: Operations>(line: &str) -> (String, Option<Vec<u8>>) {
             let entries = joined(written(&table, size, HELD_ENTRY));
             format!("{} {entries}", places(&got))
         }
+        "gray" => gray_answer::<O>(block(), &words),
+        "symmetric" => {
+            let [n, k, block_type] = block();
+            let got = O::table_symmetric(n, k, block_type, &numbers(words[4]));
+            let said = if got.results { "yes" } else { "no" };
+            format!("{} {said}", places(&got))
+        }
         "read" => read_answer::<O>(parse(words[1]), &text_of(words[2])),
         "write" => {
             let [n, k, block_type] = block();
@@ -293,6 +300,23 @@ fn spectrum_answer<O: Operations>([n, k, block_type]: [usize; 3], words: &[&str]
     assert!(worked.iter().all(|&number| number == 0));
     let entries = joined(written(&values, size, HELD));
     format!("{} {entries}", places(&got))
+}
+
+/// A symmetric block, both tables of it.
+fn gray_answer<O: Operations>([n, k, block_type]: [usize; 3], words: &[&str]) -> String {
+    let mut table = vec![HELD_ENTRY; parse(words[4])];
+    let mut smaller = vec![HELD_ENTRY; parse(words[5])];
+    let by_count = numbers(words[6]);
+    let got = O::symmetric_block(n, k, block_type, &by_count, &mut table, &mut smaller);
+    let size = if got.number == 0 { 1 << n } else { 0 };
+    format!(
+        "{} {} {} {} {}",
+        places(&got),
+        got.results.before,
+        got.results.after,
+        joined(written(&table, size, HELD_ENTRY)),
+        joined(written(&smaller, size, HELD_ENTRY)),
+    )
 }
 
 fn table_method_answer<O: Operations>([n, k, block_type]: [usize; 3], words: &[&str]) -> String {
@@ -434,7 +458,8 @@ pub fn check_operations<O: Operations>() {
         ("type_tables.txt", 80),
         ("type_texts.txt", 102),
         ("spectrum.txt", 170),
-        ("ranges.txt", 208),
+        ("symmetric.txt", 200),
+        ("ranges.txt", 252),
     ] {
         check_file::<O>("../../crates/run_operations/data", name, cases);
     }

@@ -9,7 +9,8 @@
 //! (02, Ticket 2), the points of that word stand in a bitmap, and its pairs are
 //! counted there by the one-bits of two copies of it. The steps then look for the
 //! greatest R outside the span of the chosen numbers, kept in echelon form. R of a
-//! table at every t is asked by its spectrum too, and not counted there (02, Ticket 5).
+//! table at every t is asked by its spectrum too, and not counted there (02, Ticket 5);
+//! a symmetric block's measures come from its words (02, Ticket 6).
 
 use crate::list::{answer_method, check_fill, check_value, Found};
 use crate::matrix::highest;
@@ -22,11 +23,13 @@ use std::iter::once;
 
 mod model;
 mod spectrum;
+mod symmetric;
 
 pub use crate::table::table_value;
 pub use crate::text::{read_text, write_text};
 pub use model::{model_value, print_model, read_model, write_model};
 pub use spectrum::table_spectrum;
+pub use symmetric::{symmetric_block, table_symmetric};
 
 /// The numbers below 2^16 with one to three one-bits, smallest first (02,
 /// Ticket 3).

@@ -1,5 +1,5 @@
-//! Inputs from a seed, the same for the same seed: tables, lists of disjoint
-//! rows, matrices, row texts, models ([`models`]), and all of these damaged; their
+//! Inputs from a seed, the same for the same seed: tables, words of symmetric
+//! blocks, lists of disjoint rows, matrices, row texts, models ([`models`]), and all of these damaged; their
 //! types; numbers in and out of range; rooms short, exact and long. [`Case::new`]
 //! draws a whole call of one operation with everything it is lent.
 
@@ -103,6 +103,43 @@ pub fn table(random: &mut Random, n: usize, k: usize) -> Vec<u16> {
             }
         })
         .collect()
+}
+
+/// A word for each number of one-bits from 0 to n: of a few words or of any, with or
+/// without numbers that have no output.
+pub fn words_by_ones(random: &mut Random, n: usize, k: usize) -> Vec<u16> {
+    let pool = if random.one_in(6) {
+        (0..=n).map(|_| random.word(k)).collect()
+    } else {
+        words(random, k)
+    };
+    let holes = random.pick(&[0, 0, 2, 5]);
+    (0..=n)
+        .map(|_| {
+            if holes > 0 && random.one_in(holes) {
+                NO_OUTPUT
+            } else {
+                random.pick(&pool) as u16
+            }
+        })
+        .collect()
+}
+
+/// A table for the question whether it is symmetric: one that is, one that is but for
+/// an entry, at times that of the last point, or any.
+pub fn table_asked(random: &mut Random, n: usize, k: usize) -> Vec<u16> {
+    if random.one_in(4) {
+        return table(random, n, k);
+    }
+    let by_ones = words_by_ones(random, n, k);
+    let ones = |x: usize| x.count_ones() as usize;
+    let mut table: Vec<u16> = (0..1 << n).map(|x| by_ones[ones(x)]).collect();
+    if random.one_in(2) {
+        let [any, last] = [random.below(1 << n), (1 << n) - 1];
+        let word = random.word(k) as u16;
+        table[random.pick(&[any, any, last])] = random.pick(&[word, NO_OUTPUT]);
+    }
+    table
 }
 
 /// Disjoint rows, at most `count`, in some order: the whole space split again
@@ -547,6 +584,20 @@ pub enum Case {
         smaller: Vec<u16>,
         table: Vec<u16>,
     },
+    SymmetricBlock {
+        n: usize,
+        k: usize,
+        block_type: usize,
+        words: Vec<u16>,
+        table: Vec<u16>,
+        smaller: Vec<u16>,
+    },
+    TableSymmetric {
+        n: usize,
+        k: usize,
+        block_type: usize,
+        table: Vec<u16>,
+    },
     RowValue {
         n: usize,
         k: usize,
@@ -627,7 +678,7 @@ impl Case {
     /// The case of a seed.
     pub fn new(seed: u64) -> Case {
         let random = &mut Random::new(seed);
-        match random.below(15) {
+        match random.below(17) {
             0 => {
                 let ([n, k, block_type], table) = any_table(random);
                 let t = number(random, 0, (1 << n.min(16)) - 1);
@@ -825,7 +876,7 @@ impl Case {
             13 => Case::PrintModel {
                 input: any_text(random),
             },
-            _ => {
+            14 => {
                 let ([n, k, block_type], table) = spectrum_table(random);
                 Case::TableSpectrum {
                     n,
@@ -834,6 +885,26 @@ impl Case {
                     table,
                     values: numbers(random, 1 << n.min(16)),
                     working: signed(random, 1 << n.min(16)),
+                }
+            }
+            15 => {
+                let ([n, k, block_type], words) = any_entries(random, words_by_ones);
+                Case::SymmetricBlock {
+                    n,
+                    k,
+                    block_type,
+                    words,
+                    table: entries(random, 1 << n.min(16)),
+                    smaller: entries(random, 1 << n.min(16)),
+                }
+            }
+            _ => {
+                let ([n, k, block_type], table) = any_entries(random, table_asked);
+                Case::TableSymmetric {
+                    n,
+                    k,
+                    block_type,
+                    table,
                 }
             }
         }
@@ -888,6 +959,25 @@ impl Case {
                 O::restore(*n, *k, *block_type, sigma, smaller, table),
                 |()| vec![],
             ),
+            Case::SymmetricBlock {
+                n,
+                k,
+                block_type,
+                words,
+                table,
+                smaller,
+            } => flat(
+                O::symmetric_block(*n, *k, *block_type, words, table, smaller),
+                |measures| vec![measures.before, measures.after],
+            ),
+            Case::TableSymmetric {
+                n,
+                k,
+                block_type,
+                table,
+            } => flat(O::table_symmetric(*n, *k, *block_type, table), |is| {
+                vec![u64::from(is)]
+            }),
             Case::RowValue {
                 n,
                 k,
@@ -1137,29 +1227,37 @@ fn model_results(head: ModelHead) -> Vec<u64> {
     [n, k, patterns].map(|result| result as u64).to_vec()
 }
 
-/// n, k, the type and a table, mostly within their ranges. At times it has 65,535
-/// where that is malformed.
+/// n, k, the type and a table, mostly within their ranges.
 fn any_table(random: &mut Random) -> ([usize; 3], Vec<u16>) {
+    any_entries(random, table)
+}
+
+/// The same for the entries that `draw` gives for n and k, of a table or of another
+/// kind. At times they have 65,535 where that is malformed.
+fn any_entries(
+    random: &mut Random,
+    draw: fn(&mut Random, usize, usize) -> Vec<u16>,
+) -> ([usize; 3], Vec<u16>) {
     let most = random.pick(&[4, 6, 8, TABLE_INPUTS]);
     let n = number(random, 1, most);
     let k = number(random, 1, OUTPUTS);
     let block_type = any_type(random);
-    let mut table = table(random, n.clamp(1, 13), k.clamp(1, OUTPUTS));
+    let mut entries = draw(random, n.clamp(1, 13), k.clamp(1, OUTPUTS));
     if !random.one_in(8) {
-        for entry in table.iter_mut().filter(|entry| **entry == NO_OUTPUT) {
+        for entry in entries.iter_mut().filter(|entry| **entry == NO_OUTPUT) {
             *entry = missing(block_type);
         }
     }
     if random.one_in(12) {
-        let index = random.below(table.len());
+        let index = random.below(entries.len());
         let above = 1u16.checked_shl(k as u32).unwrap_or(40_000);
         let any = random.word(16) as u16;
-        table[index] = random.pick(&[65_534, 32_768, above, any]);
+        entries[index] = random.pick(&[65_534, 32_768, above, any]);
     }
     if random.one_in(16) {
-        uneven(random, &mut table);
+        uneven(random, &mut entries);
     }
-    ([n, k, block_type], table)
+    ([n, k, block_type], entries)
 }
 
 /// The same for the spectrum. Up to 8 inputs one table in four has any words, about

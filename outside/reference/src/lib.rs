@@ -1,15 +1,15 @@
 //! The operations of 01 in plain Rust, with the requests of 02 that are met. A
 //! client gets: single values of R, R at every t of a table by its spectrum, the
-//! table method, restoring, the row method, filling, reading and writing row text,
-//! the sheet, models in BLIF, and what the program prints. Every operation takes any
-//! inputs and answers with a number, the places A and B, and its results. A type goes
-//! with every list and table.
+//! table method, restoring, symmetric blocks by Gray decoding, the row method,
+//! filling, reading and writing row text, the sheet, models in BLIF, and what the
+//! program prints. Every operation takes any inputs and answers with a number, the
+//! places A and B, and its results. A type goes with every list and table.
 //!
 //! In order: [`answer`] and [`rows`] hold what goes in and out, [`types`] what a
 //! missing point means, [`checks`] the refusals, [`matrix`] the basis and its
 //! inverse, [`table`] and [`list`] the operations on full tables and on rows,
-//! [`spectrum`] R of a table by Walsh transforms, [`text`], [`sheet`] and [`model`]
-//! the texts.
+//! [`spectrum`] R of a table by Walsh transforms, [`symmetric`] blocks that depend on
+//! the number of one-bits alone, [`text`], [`sheet`] and [`model`] the texts.
 //! These are written to be read beside 01 and take the long way wherever that
 //! is the plain one. [`fast`] has the same operations as one would write them
 //! for speed, [`operations`] both under one trait, [`inputs`] makes inputs
@@ -32,6 +32,7 @@ pub mod operations;
 pub mod rows;
 pub mod sheet;
 pub mod spectrum;
+pub mod symmetric;
 pub mod table;
 pub mod text;
 pub mod types;
@@ -48,6 +49,7 @@ mod plain {
     pub use crate::model::{model_value, print_model, read_model, write_model};
     pub use crate::sheet::{program, sheet};
     pub use crate::spectrum::table_spectrum;
+    pub use crate::symmetric::{symmetric_block, table_symmetric};
     pub use crate::table::{restore, table_method, table_value};
     pub use crate::text::{read_text, write_text};
 }
@@ -59,7 +61,7 @@ pub const NO_OUTPUT: u16 = 65_535;
 pub const ROW_INPUTS: usize = 16;
 
 /// Most inputs of the table method, its single values, its spectrum, filling,
-/// restoring.
+/// restoring, symmetric blocks.
 pub const TABLE_INPUTS: usize = 12;
 
 /// Most outputs.

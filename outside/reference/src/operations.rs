@@ -37,6 +37,17 @@ pub trait Operations {
         table: &mut [u16],
     ) -> Answer<()>;
 
+    fn symmetric_block(
+        n: usize,
+        k: usize,
+        block_type: usize,
+        words: &[u16],
+        table: &mut [u16],
+        smaller: &mut [u16],
+    ) -> Answer<Measures>;
+
+    fn table_symmetric(n: usize, k: usize, block_type: usize, table: &[u16]) -> Answer<bool>;
+
     fn row_value(n: usize, k: usize, block_type: usize, t: usize, rows: Flat) -> Answer<u64>;
 
     fn row_value_records(
@@ -217,6 +228,28 @@ macro_rules! operations_of {
             ) -> Answer<()> {
                 use $module as operations;
                 operations::restore(n, k, block_type, sigma, smaller, table)
+            }
+
+            fn symmetric_block(
+                n: usize,
+                k: usize,
+                block_type: usize,
+                words: &[u16],
+                table: &mut [u16],
+                smaller: &mut [u16],
+            ) -> Answer<Measures> {
+                use $module as operations;
+                operations::symmetric_block(n, k, block_type, words, table, smaller)
+            }
+
+            fn table_symmetric(
+                n: usize,
+                k: usize,
+                block_type: usize,
+                table: &[u16],
+            ) -> Answer<bool> {
+                use $module as operations;
+                operations::table_symmetric(n, k, block_type, table)
             }
 
             fn row_value(

@@ -1,9 +1,9 @@
 //! 01's blocks to try by hand, cases a to j and those after them, read as fr, the
 //! sheet's example, Example 2 of document 000, blocks of either type (02, Ticket 2),
-//! and the spectrum of some of these (02, Ticket 5). Each is asked of the plain and of
-//! the fast operations.
+//! the spectrum of some of these (02, Ticket 5), and symmetric blocks, document 002's
+//! among them (02, Ticket 6). Each is asked of the plain and of the fast operations.
 
-use reference::{fast, spectrum, Row, FD, FR, NO_OUTPUT};
+use reference::{fast, spectrum, symmetric, Row, FD, FR, NO_OUTPUT};
 
 /// Rows as 01 writes them: "symbols word".
 fn list(lines: &[&str]) -> Vec<Row> {
@@ -99,6 +99,45 @@ fn spectrum_in(
 /// The same in rooms a little longer than it asks for.
 fn spectrum_of(y: usize, numbers: [usize; 2], table: &[u16]) -> ([u32; 3], Vec<u32>) {
     spectrum_in(y, numbers, table, [table.len() + 1, table.len() + 2])
+}
+
+/// Number, A, B, measures, table and smaller table of a symmetric block.
+type BlockAnswer = ([u32; 3], [u64; 2], Vec<u16>, Vec<u16>);
+
+/// A symmetric block in rooms of these lengths. What lies beyond the results, and with
+/// a refusal all, holds what it held.
+fn symmetric_in(
+    y: usize,
+    [n, k]: [usize; 2],
+    words: &[u16],
+    [room, smaller_room]: [usize; 2],
+) -> BlockAnswer {
+    let mut lent = (vec![7; room], vec![9; smaller_room]);
+    let mut fast_lent = lent.clone();
+    let got = reference::symmetric_block(n, k, y, words, &mut lent.0, &mut lent.1);
+    let (table, smaller) = (&mut fast_lent.0, &mut fast_lent.1);
+    assert_eq!(got, fast::symmetric_block(n, k, y, words, table, smaller));
+    assert_eq!(lent, fast_lent);
+    let size = if got.number == 0 { 1 << n } else { 0 };
+    assert!(lent.0[size..].iter().all(|&entry| entry == 7));
+    assert!(lent.1[size..].iter().all(|&entry| entry == 9));
+    lent.0.truncate(size);
+    lent.1.truncate(size);
+    let measures = [got.results.before, got.results.after];
+    ([got.number, got.a, got.b], measures, lent.0, lent.1)
+}
+
+/// The same in rooms a little longer than it asks for, each word having one output.
+fn symmetric_of(y: usize, words: &[u16]) -> BlockAnswer {
+    let n = words.len() - 1;
+    symmetric_in(y, [n, 1], words, [(1 << n) + 1, (1 << n) + 2])
+}
+
+/// Number, A, B and whether a table is symmetric.
+fn is_symmetric(y: usize, [n, k]: [usize; 2], table: &[u16]) -> ([u32; 3], bool) {
+    let got = reference::table_symmetric(n, k, y, table);
+    assert_eq!(got, fast::table_symmetric(n, k, y, table));
+    ([got.number, got.a, got.b], got.results)
 }
 
 const ANSWERED: [u32; 3] = [0, 0, 0];
@@ -497,6 +536,104 @@ fn the_spectrum_of_twelve_inputs() {
     let due: Vec<u32> = (0..4_096).map(|t| 4_096 * (1 - (t >> 11))).collect();
     assert_eq!(spectrum_of(FR, [12, 1], &halves), (ANSWERED, due));
     assert_eq!(spectrum_of(FR, [13, 1], &[0; 8_192]).0, [1, 0, 0]);
+}
+
+/// The columns are those of document 002, and with them the smaller table has the
+/// points in the order of the Gray code.
+#[test]
+fn the_gray_columns() {
+    assert_eq!(symmetric::columns(1), [1]);
+    assert_eq!(symmetric::columns(5), [1, 3, 6, 12, 24]);
+    assert_eq!(symmetric::columns(12)[11], 3_072);
+    let (.., table, smaller) = symmetric_in(FD, [3, 2], &[0, 1, 2, 3], [8, 8]);
+    assert_eq!(table, [0, 1, 1, 2, 1, 2, 2, 3]);
+    assert_eq!(smaller, [0, 1, 2, 1, 2, 3, 2, 1]);
+}
+
+/// 3 out of 5 (document 002, Example 1): R is 12 at each of the five units. Of
+/// the columns, 1 has R 12 and each other one, with two one-bits, R 24, so that the
+/// measures are 60 and 108. At least 3 of 5 has R 20 at both, and parity 0 and 32. Two
+/// inputs of which one is 1 are case a.
+#[test]
+fn symmetric_blocks_by_hand() {
+    for y in [FR, FD] {
+        let (number, measures, ..) = symmetric_of(y, &[0, 0, 0, 1, 0, 0]);
+        assert_eq!((number, measures), (ANSWERED, [60, 108]));
+        let (number, measures, ..) = symmetric_of(y, &[0, 0, 0, 1, 1, 1]);
+        assert_eq!((number, measures), (ANSWERED, [100, 100]));
+        let (number, measures, ..) = symmetric_of(y, &[0, 1, 0, 1, 0, 1]);
+        assert_eq!((number, measures), (ANSWERED, [0, 128]));
+        let due = (ANSWERED, [0, 4], vec![0, 1, 1, 0], vec![0, 1, 0, 1]);
+        assert_eq!(symmetric_of(y, &[0, 1, 0]), due);
+        assert_eq!(symmetric_of(y, &[1, 1]).1, [2, 2]);
+        assert_eq!(symmetric_of(y, &[0, 1]).1, [0, 0]);
+    }
+    // Points without an output count in no R.
+    let open = NO_OUTPUT;
+    let tables = (vec![open, 1, 1, open], vec![open, 1, open, 1]);
+    let due = (ANSWERED, [0, 2], tables.0, tables.1);
+    assert_eq!(symmetric_of(FR, &[open, 1, open]), due);
+    assert_eq!(symmetric_of(FR, &[open; 13]).1, [0, 0]);
+    assert_eq!(symmetric_of(FD, &[1; 13]).1, [49_152, 49_152]);
+}
+
+#[test]
+fn which_tables_are_symmetric() {
+    let said = |table: &[u16]| is_symmetric(FR, [table.len().trailing_zeros() as usize, 1], table);
+    let [yes, no] = [(ANSWERED, true), (ANSWERED, false)];
+    assert_eq!(said(&[0, 1]), yes);
+    assert_eq!(said(&[0, 1, 1, 0]), yes);
+    assert_eq!(said(&[0, 1, 0, 0]), no);
+    // No output is compared like a word.
+    assert_eq!(said(&[0, NO_OUTPUT, NO_OUTPUT, 1]), yes);
+    assert_eq!(said(&[0, NO_OUTPUT, 1, 1]), no);
+    // In each of these one point differs: of one one-bit the last, of two the first.
+    assert_eq!(said(&[0, 0, 0, 1, 1, 1, 1, 0]), no);
+    assert_eq!(said(&[0, 0, 0, 0, 0, 1, 1, 0]), no);
+    assert_eq!(said(&[0, 0, 0, 1, 0, 1, 1, 0]), yes);
+    let mut last = [0; 4_096];
+    last[4_095] = 1;
+    assert_eq!(said(&last), yes);
+    last[4_094] = 1;
+    assert_eq!(said(&last), no);
+}
+
+#[test]
+fn refusals_of_symmetric_blocks() {
+    let most = usize::MAX;
+    let bad = [0, 2, NO_OUTPUT];
+    let number = |y, numbers, words: &[u16], room| symmetric_in(y, numbers, words, room).0;
+    // Each is given before those after it. 2^64 - 1 inputs would ask for no words, did
+    // one more make 0.
+    for n in [0, 13, 64, most] {
+        assert_eq!(number(0, [n, 0], &bad[..2], [0, 0]), [1, 0, 0]);
+        assert_eq!(number(FR, [n, 1], &[], [0, 0]), [1, 0, 0]);
+        assert_eq!(is_symmetric(0, [n, 0], &bad), ([1, 0, 0], false));
+    }
+    for k in [0, 16, 64, most] {
+        assert_eq!(number(0, [2, k], &bad[..2], [0, 0]), [2, 0, 0]);
+        assert_eq!(is_symmetric(0, [2, k], &bad), ([2, 0, 0], false));
+    }
+    for y in [0, 3, most] {
+        assert_eq!(number(y, [2, 1], &bad[..2], [0, 0]), [3, 0, 0]);
+        assert_eq!(is_symmetric(y, [2, 1], &bad), ([3, 0, 0], false));
+    }
+    for words in [&[][..], &bad[..2], &[0; 4]] {
+        assert_eq!(number(FR, [2, 1], words, [0, 0]), [4, 0, 0]);
+    }
+    for table in [&[][..], &bad, &[0; 5]] {
+        assert_eq!(is_symmetric(FR, [2, 1], table), ([4, 0, 0], false));
+    }
+    for room in [[0, 4], [3, 4], [4, 0], [4, 3], [3, 3]] {
+        assert_eq!(number(FR, [2, 1], &bad, room), [5, 0, 0]);
+    }
+    assert_eq!(number(FR, [2, 1], &bad, [4, 4]), [6, 0, 1]);
+    assert_eq!(number(FR, [2, 2], &bad, [4, 4]), ANSWERED);
+    assert_eq!(number(FD, [2, 2], &bad, [5, 4]), [6, 0, 2]);
+    let table = [0, 2, 2, NO_OUTPUT];
+    assert_eq!(is_symmetric(FR, [2, 1], &table), ([6, 0, 1], false));
+    assert_eq!(is_symmetric(FR, [2, 2], &table), (ANSWERED, true));
+    assert_eq!(is_symmetric(FD, [2, 2], &table), ([6, 0, 3], false));
 }
 
 #[test]
