@@ -22,7 +22,7 @@
 static irwystl_row rows[ROWS], smaller[IRWYSTL_SMALLER_ROWS];
 static uint32_t masks[ROWS], values[ROWS], words[ROWS], basis[16], sigma[16];
 static uint32_t smaller_masks[IRWYSTL_SMALLER_ROWS], smaller_values[IRWYSTL_SMALLER_ROWS], smaller_words[IRWYSTL_SMALLER_ROWS];
-static uint16_t table[POINTS], made[POINTS];
+static uint16_t table[POINTS], made[POINTS], made_smaller[POINTS];
 static uint32_t shifts[POINTS];
 static int32_t working[POINTS];
 static uint8_t text[8192], out[IRWYSTL_SHEET_ROOM], line[IRWYSTL_LINE_ROOM], model[IRWYSTL_MODEL_ROOM];
@@ -36,6 +36,10 @@ static uint32_t table_value(void) { return irwystl_table_value(12, 7, type, 5, t
 static uint32_t table_spectrum(void) { return irwystl_table_spectrum(12, 7, type, table, POINTS, shifts, POINTS, working, POINTS).number; }
 static uint32_t table_method(void) { return irwystl_table_method(12, 7, type, 12, table, POINTS, basis, 16, sigma, 16, made, POINTS).number; }
 static uint32_t restore_table(void) { return irwystl_restore_table(12, 7, type, sigma, 12, table, POINTS, made, POINTS).number; }
+static uint32_t symmetric_block(void) {
+  return irwystl_symmetric_block(12, 7, type, table, 13, made, POINTS, made_smaller, POINTS).number;
+}
+static uint32_t table_symmetric(void) { return irwystl_table_symmetric(12, 7, type, table, POINTS).number; }
 static uint32_t row_value(void) { return irwystl_row_value(16, 7, type, 5, FLAT).number; }
 static uint32_t row_method(void) {
   return irwystl_row_method(16, 7, type, 16, FLAT, basis, 16, sigma, 16, smaller_masks, IRWYSTL_SMALLER_ROWS, smaller_values,
@@ -113,6 +117,8 @@ int main(void) {
       {"table_spectrum", table_spectrum, 0},
       {"table_method", table_method, 0},
       {"restore_table", restore_table, 0},
+      {"symmetric_block", symmetric_block, 0},
+      {"table_symmetric", table_symmetric, 0},
       {"row_value", row_value, 0},
       {"row_method", row_method, 0},
       {"fill_table", fill_table, 0},

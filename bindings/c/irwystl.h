@@ -59,10 +59,10 @@ enum irwystl_number {
   IRWYSTL_INPUTS = 1,    /* n is out of range */
   IRWYSTL_OUTPUTS = 2,   /* k is out of range */
   IRWYSTL_LIMIT = 3,     /* w is not 1 to n, t or x not below 2^n, the type no type; or the line of IRWYSTL_FR is left out in writing */
-  IRWYSTL_COUNT = 4,     /* no row or too many, flat rows of unequal length, a table without 2^n entries, a matrix without n rows; not as
-                            many counts as outputs, or not as many patterns as they say */
+  IRWYSTL_COUNT = 4,     /* no row or too many, flat rows of unequal length, a table without 2^n entries, a matrix without n rows, a
+                            symmetric block without n + 1 words; not as many counts as outputs, or not as many patterns as they say */
   IRWYSTL_ROOM = 5,      /* the room lent for a result, or to work in, is too short */
-  IRWYSTL_RECORD = 6,    /* row, entry, pattern or matrix row b, counted from 0, is malformed; a is 1 for a matrix row, else 0 */
+  IRWYSTL_RECORD = 6,    /* row, entry, pattern, matrix row or word b, counted from 0, is malformed; a is 1 for a matrix row, else 0 */
   IRWYSTL_SHARED = 7,    /* rows a and b, counted from 0, share a point */
   IRWYSTL_DEPENDENT = 8, /* matrix row a, counted from 0, is the XOR of some rows before it, or 0 */
   IRWYSTL_PASSED = 9,    /* at step a, counted from 1, the smaller rows pass 512 */
@@ -88,7 +88,7 @@ typedef struct irwystl_value_answer {
   uint32_t number;
   size_t a;
   size_t b;
-  uint64_t value; /* R(t), or the word of a model */
+  uint64_t value; /* R(t), the word of a model, or 1 for yes and 0 for no */
 } irwystl_value_answer;
 
 typedef struct irwystl_table_method_answer {
@@ -173,6 +173,23 @@ irwystl_table_method_answer irwystl_table_method(size_t n, size_t k, size_t type
  */
 irwystl_answer irwystl_restore_table(size_t n, size_t k, size_t type, const uint32_t *sigma, size_t sigma_length, const uint16_t *smaller,
                                      size_t smaller_length, uint16_t *table, size_t table_length);
+
+/*
+ * A symmetric block, whose word depends only on how many inputs are 1: words has n + 1 of them, the word for a count of 0 ones, of 1, .. of
+ * n, and under IRWYSTL_FR any of them may be IRWYSTL_NO_OUTPUT. table gets the block's 2^n entries, and smaller those of the smaller block
+ * for the T with the columns 1, 3, 6, 12, 24, .., by which z decodes x as a Gray code: its entry z is the table's at z XOR (z >> 1). Each is
+ * room for at least 2^n. The second measure is never below the first. With sigma's row j = 2^n - 2^j irwystl_restore_table gives the table
+ * back from the smaller one. Refuses with 1, 2, 3 (type), 4, 5 (either room), 6 (b is the least count whose word is malformed). Promise:
+ * symmetric::symmetric_block.
+ */
+irwystl_table_method_answer irwystl_symmetric_block(size_t n, size_t k, size_t type, const uint16_t *words, size_t words_length,
+                                                    uint16_t *table, size_t table_length, uint16_t *smaller, size_t smaller_length);
+
+/*
+ * Whether a table of 2^n entries is one of a symmetric block: value is 1 where the entries at all points with as many ones are equal,
+ * IRWYSTL_NO_OUTPUT among them, and else 0. Refuses with 1, 2, 3 (type), 4, 6. Promise: symmetric::table_symmetric.
+ */
+irwystl_value_answer irwystl_table_symmetric(size_t n, size_t k, size_t type, const uint16_t *table, size_t table_length);
 
 /* ---- lists of rows as records, of 1 to 16 inputs; rows_length counts records */
 

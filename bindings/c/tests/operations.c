@@ -139,7 +139,7 @@ static void arrow(void) {
 
 static list given, second, expected;
 static irwystl_row rows[MOST], smaller_rows[MOST];
-static uint16_t table[MOST], other_table[MOST];
+static uint16_t table[MOST], other_table[MOST], smaller_table[MOST];
 static uint32_t basis[MOST], sigma[MOST], smaller[3][MOST], shifts[MOST];
 static int32_t working[MOST];
 static text given_text, expected_text;
@@ -173,7 +173,7 @@ static void lend(void) {
     working[i] = HELD_SIGNED;
     smaller[0][i] = smaller[1][i] = smaller[2][i] = HELD;
     smaller_rows[i] = held;
-    other_table[i] = HELD_ENTRY;
+    other_table[i] = smaller_table[i] = HELD_ENTRY;
   }
   memset(out, HELD_BYTE, sizeof out);
   at = due;
@@ -208,10 +208,10 @@ static void are_zeros(void) {
     if (working[i] != (i < expected.length ? 0 : HELD_SIGNED)) differs = 1;
 }
 
-static void is_table(void) {
+static void is_table(const uint16_t *lent) {
   next_list(&expected);
   for (size_t i = 0; i < MOST; i++)
-    if (other_table[i] != (i < expected.length ? expected.fields[0][i] : HELD_ENTRY)) differs = 1;
+    if (lent[i] != (i < expected.length ? expected.fields[0][i] : HELD_ENTRY)) differs = 1;
 }
 
 static void are_records(void) {
@@ -227,6 +227,13 @@ static void are_records(void) {
 static void are_flat(void) {
   next_list(&expected);
   for (size_t field = 0; field < 3; field++) are(smaller[field], field);
+}
+
+/* The word due is yes for 1 and no for 0. */
+static void is_yes(uint64_t got) {
+  uint64_t yes = (uint64_t)is_word("yes");
+  if (!yes && !is_word("no")) fail("neither yes nor no where one is due");
+  if (got != yes) differs = 1;
 }
 
 static void is_type(size_t got) {
@@ -300,7 +307,7 @@ static void table_method(void) {
   is(r.after);
   is_list(basis);
   is_list(sigma);
-  is_table();
+  is_table(other_table);
 }
 
 static void is_method(irwystl_row_method_answer r) {
@@ -329,7 +336,7 @@ static void row_method(void) {
 
 static void is_filled(irwystl_answer r) {
   answered(r.number, r.a, r.b);
-  is_table();
+  is_table(other_table);
 }
 
 static void fill(void) {
@@ -351,6 +358,31 @@ static void restore(void) {
   arrow();
   lend();
   is_filled(irwystl_restore_table(n, k, type, given.fields[0], given.length, table, second.length, other_table, table_room));
+}
+
+static void gray(void) {
+  size_t n = next(), k = next(), type = next_type(), table_room = room(), smaller_room = room();
+  next_list(&given);
+  as_table(&given, table);
+  arrow();
+  lend();
+  irwystl_table_method_answer r =
+      irwystl_symmetric_block(n, k, type, table, given.length, other_table, table_room, smaller_table, smaller_room);
+  answered(r.number, r.a, r.b);
+  is(r.before);
+  is(r.after);
+  is_table(other_table);
+  is_table(smaller_table);
+}
+
+static void symmetric(void) {
+  size_t n = next(), k = next(), type = next_type();
+  next_list(&given);
+  as_table(&given, table);
+  arrow();
+  irwystl_value_answer r = irwystl_table_symmetric(n, k, type, table, given.length);
+  answered(r.number, r.a, r.b);
+  is_yes(r.value);
 }
 
 static void is_head(irwystl_read_answer r) {
@@ -410,7 +442,7 @@ static const struct {
 } operations[] = {{"table_value", table_value}, {"row_value", row_value}, {"table_method", table_method},
                   {"row_method", row_method},   {"fill", fill},           {"restore", restore},
                   {"read", read_text},          {"write", write_text},    {"sheet", sheet},
-                  {"spectrum", spectrum}};
+                  {"spectrum", spectrum},       {"gray", gray},           {"symmetric", symmetric}};
 
 static void run_line(const char *line) {
   size_t length = strcspn(line, " ");

@@ -272,6 +272,80 @@ pub fn restore_table(
     .result()
 }
 
+/// A symmetric block, whose word depends only on how many inputs are 1. `words` has
+/// n + 1 of them, the word for a count of 0 ones, of 1, .. of n, and under [`FR`] any of
+/// them may be [`NO_OUTPUT`]. `table` is room for the block's 2^n entries, and `smaller`
+/// for those of the smaller block for the T with the columns 1, 3, 6, 12, 24, .., by
+/// which z decodes x as a Gray code: its entry z is the table's at z XOR (z >> 1). The
+/// second measure is never below the first. Refuses with 1, 2, 3 (the type), 4, 5
+/// (either room) and 6 ([`Refusal::Word`], the least count whose word is malformed).
+///
+/// ```
+/// use irwystl::{restore_table, symmetric_block, Refusal, FD, FR, NO_OUTPUT};
+/// // 3 out of 5: in the smaller table more neighbours have equal words
+/// let [mut table, mut smaller] = [[0; 32]; 2];
+/// let words = [0, 0, 0, 1, 0, 0];
+/// let measures = symmetric_block(5, 1, FD, &words, &mut table, &mut smaller)?;
+/// assert_eq!((measures.before, measures.after), (60, 108));
+/// assert_eq!((table[0b10110], table[0b10111]), (1, 0));
+/// // the inverse of T gives the table back
+/// let mut restored = [0; 32];
+/// restore_table(5, 1, FD, &[31, 30, 28, 24, 16], &smaller, &mut restored)?;
+/// assert_eq!(restored, table);
+/// let words = [0, NO_OUTPUT, 0];
+/// assert!(symmetric_block(2, 1, FR, &words, &mut table, &mut smaller).is_ok());
+/// let refused = symmetric_block(2, 1, FD, &words, &mut table, &mut smaller);
+/// assert_eq!(refused, Err(Refusal::Word { count: 1 }));
+/// # Ok::<(), irwystl::Refusal>(())
+/// ```
+pub fn symmetric_block(
+    n: usize,
+    k: usize,
+    block_type: usize,
+    words: &[u16],
+    table: &mut [u16],
+    smaller: &mut [u16],
+) -> Result<Measures, Refusal> {
+    unsafe {
+        raw::irwystl_symmetric_block(
+            n,
+            k,
+            block_type,
+            words.as_ptr(),
+            words.len(),
+            table.as_mut_ptr(),
+            table.len(),
+            smaller.as_mut_ptr(),
+            smaller.len(),
+        )
+    }
+    .result()
+    .map_err(Refusal::of_words)
+}
+
+/// Whether a table of 2^n entries is one of a symmetric block: the entries at all
+/// points with as many ones are equal, [`NO_OUTPUT`] among them. Refuses with 1, 2, 3
+/// (the type), 4 and 6.
+///
+/// ```
+/// use irwystl::{table_symmetric, Refusal, FD, FR, NO_OUTPUT};
+/// assert_eq!(table_symmetric(2, 1, FR, &[0, 1, 1, 0]), Ok(true));
+/// assert_eq!(table_symmetric(2, 1, FR, &[0, 1, 0, 0]), Ok(false));
+/// assert_eq!(table_symmetric(2, 1, FR, &[0, 1, NO_OUTPUT, 0]), Ok(false));
+/// let refused = table_symmetric(2, 1, FD, &[0, 1, NO_OUTPUT, 0]);
+/// assert_eq!(refused, Err(Refusal::Record { index: 2 }));
+/// ```
+pub fn table_symmetric(
+    n: usize,
+    k: usize,
+    block_type: usize,
+    table: &[u16],
+) -> Result<bool, Refusal> {
+    unsafe { raw::irwystl_table_symmetric(n, k, block_type, table.as_ptr(), table.len()) }
+        .result()
+        .map(|value| value == 1)
+}
+
 /// R(t) of a list of 1 to 128 rows. Refuses with 1, 2, 3 (the type, t), 4, 6 and 7.
 ///
 /// ```

@@ -208,6 +208,26 @@ extern "C" {
         table_length: usize,
     ) -> Answer;
 
+    pub fn irwystl_symmetric_block(
+        n: usize,
+        k: usize,
+        block_type: usize,
+        words: *const u16,
+        words_length: usize,
+        table: *mut u16,
+        table_length: usize,
+        smaller: *mut u16,
+        smaller_length: usize,
+    ) -> TableMethodAnswer;
+
+    pub fn irwystl_table_symmetric(
+        n: usize,
+        k: usize,
+        block_type: usize,
+        table: *const u16,
+        table_length: usize,
+    ) -> ValueAnswer;
+
     pub fn irwystl_records_row_value(
         n: usize,
         k: usize,

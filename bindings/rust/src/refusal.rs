@@ -15,13 +15,15 @@ pub enum Refusal {
     /// [`FR`](crate::FR) is left out in writing.
     Limit,
     /// 4: no row or too many, flat rows of unequal length, a table without 2^n
-    /// entries, a matrix without n rows, not as many counts as outputs or patterns
-    /// as they say.
+    /// entries, a matrix without n rows, a symmetric block without n + 1 words, not as
+    /// many counts as outputs or patterns as they say.
     Count,
     /// 5: the room lent for a result, or to work in, is too short.
     Room,
     /// 6: a row, a table entry or a pattern, counted from 0, is malformed.
     Record { index: usize },
+    /// 6: the word that a symmetric block has for this count of ones is malformed.
+    Word { count: usize },
     /// 6: a row of the matrix, counted from 0, is not below 2^n.
     MatrixRow { index: usize },
     /// 7: two rows, counted from 0, share a point.
@@ -45,6 +47,7 @@ impl Refusal {
             Refusal::Count => (4, 0, 0),
             Refusal::Room => (5, 0, 0),
             Refusal::Record { index } => (6, 0, index),
+            Refusal::Word { count } => (6, 0, count),
             Refusal::MatrixRow { index } => (6, 1, index),
             Refusal::SharedPoint { first, second } => (7, first, second),
             Refusal::DependentRow { index } => (8, index, 0),
@@ -74,6 +77,14 @@ impl Refusal {
             _ => Refusal::Line { line: a },
         })
     }
+
+    /// The refusal of a call whose records are the words of a symmetric block.
+    pub(crate) fn of_words(self) -> Refusal {
+        match self {
+            Refusal::Record { index } => Refusal::Word { count: index },
+            other => other,
+        }
+    }
 }
 
 impl fmt::Display for Refusal {
@@ -85,7 +96,7 @@ impl fmt::Display for Refusal {
             Refusal::Count => {
                 write!(
                     out,
-                    "the number of rows, entries or patterns is out of range"
+                    "the number of rows, entries, words or patterns is out of range"
                 )
             }
             Refusal::Room => {
@@ -94,6 +105,7 @@ impl fmt::Display for Refusal {
             Refusal::Record { index } => {
                 write!(out, "record {index}, counted from 0, is malformed")
             }
+            Refusal::Word { count } => write!(out, "the word for count {count} is malformed"),
             Refusal::MatrixRow { index } => {
                 write!(out, "matrix row {index}, counted from 0, is malformed")
             }

@@ -127,6 +127,25 @@ impl Operations for Safe {
         )
     }
 
+    fn symmetric_block(
+        n: usize,
+        k: usize,
+        block_type: usize,
+        words: &[u16],
+        table: &mut [u16],
+        smaller: &mut [u16],
+    ) -> Answer<Measures> {
+        let found = irwystl::symmetric_block(n, k, block_type, words, table, smaller);
+        answer(found, |found| Measures {
+            before: found.before,
+            after: found.after,
+        })
+    }
+
+    fn table_symmetric(n: usize, k: usize, block_type: usize, table: &[u16]) -> Answer<bool> {
+        answer(irwystl::table_symmetric(n, k, block_type, table), |is| is)
+    }
+
     fn row_value(n: usize, k: usize, block_type: usize, t: usize, rows: Flat) -> Answer<u64> {
         answer(flat::row_value(n, k, block_type, t, given(rows)), |value| {
             value

@@ -33,6 +33,12 @@ fn value(r: ValueAnswer) -> Answer<u64> {
     answer(r.number, r.a, r.b, r.value)
 }
 
+/// A value that is 1 for yes, and else 0.
+fn yes(r: ValueAnswer) -> Answer<bool> {
+    assert!(r.value <= 1, "neither yes nor no: {}", r.value);
+    answer(r.number, r.a, r.b, r.value == 1)
+}
+
 fn measures(r: TableMethodAnswer) -> Answer<Measures> {
     let [before, after] = [r.before, r.after];
     answer(r.number, r.a, r.b, Measures { before, after })
@@ -160,6 +166,33 @@ impl Operations for Product {
                 table.len(),
             )
         })
+    }
+
+    fn symmetric_block(
+        n: usize,
+        k: usize,
+        block_type: usize,
+        words: &[u16],
+        table: &mut [u16],
+        smaller: &mut [u16],
+    ) -> Answer<Measures> {
+        measures(unsafe {
+            raw::irwystl_symmetric_block(
+                n,
+                k,
+                block_type,
+                words.as_ptr(),
+                words.len(),
+                table.as_mut_ptr(),
+                table.len(),
+                smaller.as_mut_ptr(),
+                smaller.len(),
+            )
+        })
+    }
+
+    fn table_symmetric(n: usize, k: usize, block_type: usize, table: &[u16]) -> Answer<bool> {
+        yes(unsafe { raw::irwystl_table_symmetric(n, k, block_type, table.as_ptr(), table.len()) })
     }
 
     fn row_value(n: usize, k: usize, block_type: usize, t: usize, rows: Flat) -> Answer<u64> {

@@ -1,7 +1,8 @@
 //! The product against the plain operations of `reference`: seeded calls, valid
 //! and damaged, every operation with rows in flat slices and as records, answers
 //! and everything lent compared; the spectrum of a table with rooms near what it asks
-//! for, and against the values that are counted; models there and back, damaged, and
+//! for, and against the values that are counted; symmetric blocks with rooms near what
+//! they ask for, and what 02 asks to be shown of them; models there and back, damaged, and
 //! with rooms near what they ask for; imports of drawn texts; then the cases with
 //! answers (outside/CASES.md). Lent storage holds a pattern before each call and is
 //! never cleared, so that a stray write shows. Each call of the product runs in a
@@ -11,7 +12,7 @@ use irwystl::{import_text, LINE_ROOM};
 use product::Product;
 use reference::data::{check_lists, check_models, check_operations};
 use reference::inputs::{models, Case, Random};
-use reference::{Fast, Operations, Plain, FD, FR, MODEL_ROOM, SHEET_ROOM};
+use reference::{demands, Fast, Operations, Plain, FD, FR, MODEL_ROOM, SHEET_ROOM};
 use std::{env, thread};
 
 /// What the rooms of an import hold before the call.
@@ -141,6 +142,49 @@ fn spectra_of_many_words() {
         assert!(values == due, "{words} words");
         assert!(values == counted, "{words} words, by counting");
         assert!(working.iter().all(|&number| number == 0), "{words} words");
+    }
+}
+
+/// Symmetric blocks of 1 to 8 inputs, with each room exact, one short and a little
+/// longer, and with one word less and one more.
+#[test]
+fn symmetric_blocks_in_rooms() {
+    for n in 1..=8 {
+        let size = 1 << n;
+        let random = &mut Random::new(n as u64);
+        let words: Vec<u16> = (0..n + 2).map(|_| random.word(2) as u16).collect();
+        for block_type in [FR, FD] {
+            for [count, table, smaller] in [
+                [n + 1, size, size],
+                [n + 1, size - 1, size],
+                [n + 1, size, size - 1],
+                [n + 1, size + 2, size],
+                [n + 1, size, size + 2],
+                [n, size, size],
+                [n + 2, size, size],
+            ] {
+                let case = Case::SymmetricBlock {
+                    n,
+                    k: 2,
+                    block_type,
+                    words: words[..count].to_vec(),
+                    table: vec![0xABCD; table],
+                    smaller: vec![0x1234; smaller],
+                };
+                let name = format!("{n} inputs, {count} words, rooms {table} and {smaller}");
+                same(&name, case);
+            }
+        }
+    }
+}
+
+/// Symmetric blocks of drawn words have what 02, Ticket 6, asks to be shown of them.
+#[test]
+fn symmetric_blocks_are_as_02_has_them() {
+    for n in 1..=12 {
+        for seed in 0..if n < 10 { 12 } else { 2 } {
+            small_stack(move || demands::symmetric_block::<Product>(n, seed));
+        }
     }
 }
 

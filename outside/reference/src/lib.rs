@@ -14,8 +14,9 @@
 //! is the plain one. [`fast`] has the same operations as one would write them
 //! for speed, [`operations`] both under one trait, [`inputs`] makes inputs
 //! from a seed, [`data`] holds an implementation to the cases with answers
-//! (outside/CASES.md), and [`blif`] evaluates any BLIF of covers, whatever its
-//! names, so that a model's text is judged by what it says in that language.
+//! (outside/CASES.md), [`demands`] to what 02 says of its answers together, and
+//! [`blif`] evaluates any BLIF of covers, whatever its names, so that a model's text is
+//! judged by what it says in that language.
 //!
 //! Not here: anything of the proved product. The two share nothing but 01 and 02.
 
@@ -23,6 +24,7 @@ pub mod answer;
 pub mod blif;
 pub mod checks;
 pub mod data;
+pub mod demands;
 pub mod fast;
 pub mod inputs;
 pub mod list;

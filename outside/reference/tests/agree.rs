@@ -2,7 +2,7 @@
 //! both forms of rows, and the demands that hold between operations.
 
 use reference::inputs::{self, Case, LentRows, Random};
-use reference::{fast, matrix, Fast, Measures, Operations, Plain, Row, FD, FR, NO_OUTPUT};
+use reference::{demands, fast, matrix, Fast, Operations, Plain, Row, FD, FR, NO_OUTPUT};
 use std::collections::BTreeMap;
 
 /// How many seeds the cases below are drawn from.
@@ -220,70 +220,15 @@ fn the_spectrum_of_many_words() {
     }
 }
 
-/// What 02, Ticket 6, asks to be shown of symmetric blocks, on drawn words of both
-/// types: a table that is made is called symmetric and the same with another entry is
-/// not, R is equal at all numbers with as many one-bits, the measures are the sums of R
-/// at the units and at the columns, the second is not below the first, and restoring
-/// with the inverse of the columns gives the table back.
+/// Symmetric blocks of drawn words have what 02, Ticket 6, asks to be shown of them.
 #[test]
 fn symmetric_blocks_are_as_02_has_them() {
     for n in 1..=12 {
         for seed in 0..if n < 10 { 60 } else { 8 } {
-            let random = &mut Random::new(seed);
-            let k = random.between(1, 15);
-            let mut words = inputs::words_by_ones(random, n, k);
-            let y = random.pick(&[FR, FD]);
-            if y == FD {
-                let open = words.iter_mut().filter(|word| **word == NO_OUTPUT);
-                open.for_each(|word| *word = 0);
-            }
-            symmetric_block_is_due::<Plain>([n, k, y], &words);
-            symmetric_block_is_due::<Fast>([n, k, y], &words);
+            demands::symmetric_block::<Plain>(n, seed);
+            demands::symmetric_block::<Fast>(n, seed);
         }
     }
-}
-
-fn symmetric_block_is_due<O: Operations>([n, k, y]: [usize; 3], words: &[u16]) {
-    let name = format!("{n} inputs, type {y}, words {words:?}");
-    let size = 1 << n;
-    let [mut table, mut smaller] = [vec![7; size], vec![7; size]];
-    let got = O::symmetric_block(n, k, y, words, &mut table, &mut smaller);
-    assert_eq!(got.number, 0, "{name}");
-
-    let is_symmetric = |table: &[u16]| {
-        let got = O::table_symmetric(n, k, y, table);
-        assert_eq!(got.number, 0, "{name}");
-        got.results
-    };
-    assert!(is_symmetric(&table), "{name}");
-    // All points but the first and the last have others with as many one-bits.
-    for x in (1..size - 1).filter(|&x| x < 9 || x + 9 > size) {
-        let mut other = table.clone();
-        other[x] = u16::from(other[x] != 1);
-        assert!(!is_symmetric(&other), "{name}, point {x}");
-    }
-
-    let values = counted(n, k, y, &table);
-    for t in 1..size {
-        let least = (1 << t.count_ones()) - 1;
-        assert_eq!(values[t], values[least], "{name}, t {t}");
-    }
-    let sum = |numbers: &[u32]| {
-        let values = numbers.iter().map(|&t| u64::from(values[t as usize]));
-        values.sum::<u64>()
-    };
-    let units: Vec<u32> = (0..n).map(|j| 1 << j).collect();
-    let columns: Vec<u32> = (0..n).map(|j| (1 << j) ^ (1 << j) >> 1).collect();
-    let Measures { before, after } = got.results;
-    assert_eq!([before, after], [sum(&units), sum(&columns)], "{name}");
-    assert!(before <= after, "{name}");
-
-    let sigma: Vec<u32> = (0..n).map(|j| (1 << n) - (1 << j)).collect();
-    assert_eq!(sigma, matrix::inverse(&columns));
-    let mut restored = vec![7; size];
-    let back = O::restore(n, k, y, &sigma, &smaller, &mut restored);
-    assert_eq!(back.number, 0, "{name}");
-    assert!(restored == table, "{name}");
 }
 
 /// Text read and written again is the same bytes, rows written and read again
