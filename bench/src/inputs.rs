@@ -92,6 +92,8 @@ fn operations() -> Table {
             Call::new("single value, table of 12 inputs", table_value(&table_12)),
             Call::new("filling, 512 rows, 12 inputs", fill(FR, &rows_12)),
             Call::new("restoring, 12 inputs", restore(&table_12)),
+            Call::new("symmetric block, 12 inputs", symmetric_block()),
+            Call::new("is a table symmetric, 12 inputs", table_symmetric()),
             Call::all("300 row texts to sheets", texts(300)),
         ],
     }
@@ -438,6 +440,34 @@ fn restore(table: &[u16]) -> Case {
         sigma,
         smaller,
         table: vec![0; table.len()],
+    }
+}
+
+/// A word for each count of ones of 12 inputs: a counter's, no two equal.
+fn counter() -> Vec<u16> {
+    (0..=12).collect()
+}
+
+fn symmetric_block() -> Case {
+    Case::SymmetricBlock {
+        n: 12,
+        k: 12,
+        block_type: FR,
+        words: counter(),
+        table: vec![0; 1 << 12],
+        smaller: vec![0; 1 << 12],
+    }
+}
+
+/// A table that is symmetric, so that each entry has to be looked at.
+fn table_symmetric() -> Case {
+    let [mut table, mut smaller] = [vec![0; 1 << 12], vec![0; 1 << 12]];
+    Fast::symmetric_block(12, 12, FR, &counter(), &mut table, &mut smaller);
+    Case::TableSymmetric {
+        n: 12,
+        k: 12,
+        block_type: FR,
+        table,
     }
 }
 

@@ -364,6 +364,18 @@ fn every_model_is_the_one_due() {
     check_models::<Safe>();
 }
 
+/// A malformed word of a symmetric block is told by its count.
+#[test]
+fn a_word_is_named_by_its_count() {
+    let mut rooms = [[7; 4]; 2];
+    let [table, smaller] = &mut rooms;
+    let refused = irwystl::symmetric_block(2, 1, irwystl::FR, &[0, 1, 2], table, smaller);
+    assert_eq!(refused, Err(Refusal::Word { count: 2 }));
+    let said = refused.unwrap_err().to_string();
+    assert_eq!(said, "the word for count 2 is malformed");
+    assert_eq!(rooms, [[7; 4]; 2]);
+}
+
 /// A model as an owner has it: read without rooms of the caller's, with the patterns
 /// of each output apart, and its words.
 #[test]
