@@ -1,20 +1,23 @@
-// The program (01, the first section; 02, Tickets 4 and 5). It reads row text on standard input, at most 8,192 bytes of it, and prints its
+// The program (01, the first section; 02, Tickets 4 to 6). It reads row text on standard input, at most 8,192 bytes of it, and prints its
 // sheet with weight limit 3, or n where n is below 3; called with --blif it prints the model in BLIF in the sheet's place, with --shifts R
-// at every t, by the spectrum. Called with --model it reads a model, and prints "model INPUTS OUTPUTS PATTERNS", or, where a point follows,
+// at every t, by the spectrum, with --symmetric whether the block is symmetric. Called with --symmetric and words, it reads nothing and prints the
+// symmetric block of these words. Called with --model it reads a model, and prints "model INPUTS OUTPUTS PATTERNS", or, where a point follows,
 // "word" and the word there. Whatever it can't answer it answers with the one line "refused N A B". What is printed of a list is promised by
-// `print_text` and `print_model` of the crate printing, what is said of a model by `read_model` and `model_value` of the crate models; crate
-// shift_lines says by which promises R is said. No contract says which bytes the system reads and writes. A read or a write that fails is
-// told on standard error; where a read fails nothing is printed, since the text is not known.
+// `print_text` and `print_model` of the crate printing, what is said of a model by `read_model` and `model_value` of the crate models; crates
+// shift_lines and symmetric_lines say by which promises the rest is said. No contract says which bytes the system reads and writes. A read or
+// a write that fails is told on standard error; where a read fails nothing is printed, since the text is not known.
+use arguments::is_word;
 use block::LIST_INPUTS;
-use block::LIST_POINTS;
 use block::MODEL_ROOM;
 use block::ModelAnswer;
 use block::OUTPUTS;
 use block::READ_BYTES;
 use block::SHEET_ROOM;
+use block::TABLE_INPUTS;
 use libc::STDERR_FILENO;
 use libc::STDIN_FILENO;
 use libc::STDOUT_FILENO;
+use saying::part16;
 use saying::part32;
 use saying::say;
 use saying::say_bits;
@@ -89,6 +92,7 @@ enum Due {
     Sheet,
     Model,
     Shifts,
+    Symmetry,
 }
 
 // Prints what is due of a text.
@@ -97,6 +101,7 @@ fn print_due(due: Due, text: &[u8]) {
         Due::Sheet => print_sheet(text),
         Due::Model => print_model(text),
         Due::Shifts => shift_lines::say_shifts(text),
+        Due::Symmetry => symmetric_lines::say_symmetry(text),
     }
 }
 
@@ -134,40 +139,19 @@ struct Point {
     x: usize,
 }
 
-// A number with one digit more. It stays above every point once it is.
-fn grown(x: usize, digit: usize) -> usize {
-    if LIST_POINTS < x {
-        return x;
-    }
-    std::num::wrapping_add_usize(x * 10, digit)
-}
-
-// The point that digits name.
-fn point_of(digits: &[u8]) -> Point {
-    if digits.len() == 0 {
-        return Point { kind: 2, x: 0 };
-    }
-    let mut x: usize = 0;
-    let mut i = 0;
-    while i < digits.len() {
-        let b = read_bytes::byte(digits, i);
-        if !read_bytes::is_digit(b) {
-            return Point { kind: 2, x: 0 };
-        }
-        x = grown(x, b % 48);
-        i += 1;
-    }
-    Point { kind: 1, x }
-}
-
 // The point that the second argument names.
 fn asked_point() -> Point {
     if os::arg_count() < 3 {
         return Point { kind: 0, x: 0 };
     }
-    let mut name = io::buffer();
-    let length = os::arg(2, &mut name);
-    point_of(&name[..length])
+    let asked = arguments::number_at(2);
+    if !asked.known {
+        return Point { kind: 2, x: 0 };
+    }
+    Point {
+        kind: 1,
+        x: asked.value,
+    }
 }
 
 // The first k counts, or all of them.
@@ -234,11 +218,32 @@ fn answer_model() {
     answer_text(&text[..length], point);
 }
 
-// Whether the first argument is this one.
-fn is_called(option: &[u8]) -> bool {
-    let mut name = io::buffer();
-    let length = os::arg(1, &mut name);
-    saying::is_same(&name[..length], option)
+// Says the symmetric block of the words that were given.
+fn answer_words() {
+    let mut words = [0u16; TABLE_INPUTS + 1];
+    let call = arguments::symmetric_call(&mut words);
+    if !call.known {
+        io::write_all(
+            STDERR_FILENO,
+            b"irwystl: --symmetric takes fr or fd or neither, the number of outputs, and a word for each count: decimal numbers, or - for no output\n",
+        );
+        return;
+    }
+    symmetric_lines::say_block(
+        call.count - 1,
+        call.k,
+        call.block_type,
+        part16(&words, call.count),
+    );
+}
+
+// Answers --symmetric, of the words that were given, or of the list on standard input where none were.
+fn answer_symmetric() {
+    if os::arg_count() < 3 {
+        answer_list(Due::Symmetry);
+        return;
+    }
+    answer_words();
 }
 
 fn main() {
@@ -246,15 +251,19 @@ fn main() {
         answer_list(Due::Sheet);
         return;
     }
-    if is_called(b"--blif") {
+    if is_word(1, b"--blif") {
         answer_list(Due::Model);
         return;
     }
-    if is_called(b"--shifts") {
+    if is_word(1, b"--shifts") {
         answer_list(Due::Shifts);
         return;
     }
-    if is_called(b"--model") {
+    if is_word(1, b"--symmetric") {
+        answer_symmetric();
+        return;
+    }
+    if is_word(1, b"--model") {
         answer_model();
         return;
     }

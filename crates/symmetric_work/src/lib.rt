@@ -12,7 +12,7 @@ ghost use Rattle.slices.specs.Places.{tab, over};
 ghost use Rattle.block.specs.Limits.{tableInputs};
 ghost use Rattle.block.specs.Words.{ofTable};
 ghost use Rattle.block.specs.Basis.{smaller};
-ghost use Rattle.block.specs.Symmetric.{symmetricTable, grayColumn, alike, isSymmetric};
+ghost use Rattle.block.specs.Symmetric.{symmetricTable, grayColumn, grayRow, alike, isSymmetric};
 ghost use Rattle.symmetric_laws.specs.Counts.{Counted};
 ghost use Rattle.symmetric_work.specs.Work.{Made};
 
@@ -20,10 +20,18 @@ ghost use Rattle.symmetric_work.specs.Work.{Made};
 const COLUMNS: [u32; TABLE_INPUTS] = [1, 3, 6, 12, 24, 48, 96, 192, 384, 768, 1536, 3072];
 
 // These are the Gray columns.
-fn gray_columns() -> [u32; TABLE_INPUTS]
+pub fn gray_columns() -> [u32; TABLE_INPUTS]
     ensures { λ r. ⌜ r ≡ tab tableInputs grayColumn ⌝ }
 {
     COLUMNS
+}
+
+// Row j of sigma, the inverse of the matrix of these columns: the inputs from j up.
+pub fn gray_row(n: usize, j: usize) -> u32
+    requires { ⌜ (j ≤ n) × (n ≤ tableInputs) ⌝ }
+    ensures { λ r. ⌜ r ≡ grayRow n j ⌝ }
+{
+    bit_work::power(n) - bit_work::power(j)
 }
 
 // Doubles the numbers of one-bits that are there: those of each z below 2^i become those below 2^(i + 1).

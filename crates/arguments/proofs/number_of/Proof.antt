@@ -1,15 +1,18 @@
--- `irwystl::point_of` ends: the measure is the number of bytes left. Assumes nothing.
+-- `arguments::number_of` ends: the measure is the number of bytes left. Assumes nothing.
 use Prim.Native.Nat.{_≤_, _-_}
 use lib.ListN.{length}
 use borrow.Author.Needs.{needs}
-use Rattle.irwystl.proofs.point_of.Statement.{statement}
-use Rattle.irwystl.proofs.point_of.Tie as tie
+use Rattle.arguments.proofs.number_of.Statement.{statement}
+use Rattle.arguments.proofs.number_of.Tie as tie
 
 abbrev Inv-loop : tie.InvT-loop
-Inv-loop digits x₀ i₀ x i = i ≤ length digits
+Inv-loop digits value₀ i₀ value i = i ≤ length digits
 
 abbrev μ-loop : tie.MeasureT-loop
-μ-loop digits x₀ i₀ x i = length digits - i
+μ-loop digits value₀ i₀ value i = length digits - i
+
+no-number-requires : tie.Need-no-number-requires Inv-loop μ-loop
+no-number-requires c κs = search needs
 
 returns : tie.Need-returns Inv-loop μ-loop
 returns c = search needs
@@ -22,6 +25,9 @@ byte-requires c κs = search needs
 
 is-digit-requires : tie.Need-is-digit-requires Inv-loop μ-loop
 is-digit-requires c κs = search needs
+
+no-number-requires-2 : tie.Need-no-number-requires-2 Inv-loop μ-loop
+no-number-requires-2 c κs = search needs
 
 returns-2 : tie.Need-returns-2 Inv-loop μ-loop
 returns-2 c = search needs
@@ -41,16 +47,18 @@ loop-again c = search needs
 returns-3 : tie.Need-returns-3 Inv-loop μ-loop
 returns-3 c = search needs
 
-pub point-of-spec : {M : Type 1} → statement M
-point-of-spec =
+pub number-of-spec : {M : Type 1} → statement M
+number-of-spec =
     tie.close
     (tie.spec
     Inv-loop
     μ-loop
+    no-number-requires
     returns
     loop-holds
     byte-requires
     is-digit-requires
+    no-number-requires-2
     returns-2
     grown-requires
     add-i
