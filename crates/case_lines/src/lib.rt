@@ -1,7 +1,7 @@
 // Cases, one to a line, as `OP n k TYPE ARGUMENTS => NUMBER A B RESULTS`: the type is fr, fd or other, or a type number; lists are
-// comma-separated, a row is mask:value:word, and - is an empty list. A number repeated is written once, as 5*4096. What an operation answers
-// is gathered as numbers in the order of the line, and compared with those due. All functions here are inner: a program that runs cases
-// calls them.
+// comma-separated, a row is mask:value:word, and - is an empty list. A number repeated is written once, as 5*4096, and the answers yes and no
+// are the numbers 1 and 0. What an operation answers is gathered as numbers in the order of the line, and compared with those due. All
+// functions here are inner: a program that runs cases calls them.
 ghost use mathlib.Core.Path.{_≡_};
 ghost use Prim.Native.Nat.{_≤_, _<_};
 ghost use lib.ListN.{length};
@@ -113,7 +113,7 @@ pub fn type_of(word: &[u8]) -> usize {
     read_number(word, 0, 0).value as usize
 }
 
-// What every case begins with: n, k, the type, and t, w or a room; and the place after them.
+// What a case begins with: n, k, the type, and t, w or a room, 0 where there is none of these; and the place after them.
 pub struct Given {
     pub n: usize,
     pub k: usize,
@@ -122,7 +122,8 @@ pub struct Given {
     pub next: usize,
 }
 
-pub fn read_given(text: &[u8], from: usize) -> Given
+// Of a case with none of t, w and room.
+pub fn read_sizes(text: &[u8], from: usize) -> Given
     requires { ⌜ from ≤ length (now text) ⌝ }
     ensures { λ r. ⌜ r .next ≤ length (now (text .entry)) ⌝ }
 {
@@ -131,11 +132,26 @@ pub fn read_given(text: &[u8], from: usize) -> Given
     let from_type = k.next;
     let stop = word_end(text, from_type);
     let block_type = type_of(&text[from_type..stop]);
-    let last = read_word(text, after_word(text, stop));
     Given {
         n: n.value as usize,
         k: k.value as usize,
         block_type,
+        last: 0,
+        next: after_word(text, stop),
+    }
+}
+
+// Of a case with one of them.
+pub fn read_given(text: &[u8], from: usize) -> Given
+    requires { ⌜ from ≤ length (now text) ⌝ }
+    ensures { λ r. ⌜ r .next ≤ length (now (text .entry)) ⌝ }
+{
+    let sizes = read_sizes(text, from);
+    let last = read_word(text, sizes.next);
+    Given {
+        n: sizes.n,
+        k: sizes.k,
+        block_type: sizes.block_type,
         last: last.value as usize,
         next: last.next,
     }
@@ -198,6 +214,35 @@ pub fn read_times(text: &[u8], from: usize) -> Numeral
     }
 }
 
+// A number read, how often it stands there, and the place after it.
+pub struct Repeated {
+    pub value: u64,
+    pub times: u64,
+    pub next: usize,
+}
+
+// Reads the number that begins with a byte, after which the text goes on at a place: its digits and how often, the 1 of yes, the 0 of no. Any
+// other byte begins none.
+pub fn read_repeated(text: &[u8], first: u8, from: usize) -> Repeated
+    requires { ⌜ from ≤ length (now text) ⌝ }
+    ensures { λ r. ⌜ (from ≤ r .next) × (r .next ≤ length (now (text .entry))) ⌝ }
+{
+    if is_digit(first) {
+        let number = read_number(text, from, digit_of(first));
+        let times = read_times(text, number.next);
+        return Repeated {
+            value: number.value,
+            times: times.value,
+            next: times.next,
+        };
+    }
+    Repeated {
+        value: (first == b'y') as u64,
+        times: (first == b'y' || first == b'n') as u64,
+        next: from,
+    }
+}
+
 // Reads the numbers from a place on, up to the byte that ends them and over it. Any other byte stands between numbers.
 pub fn read_numbers(text: &[u8], from: usize, end: u8, out: &mut [u64; NUMBERS]) -> Part
     requires { ⌜ from ≤ length (now text) ⌝ }
@@ -211,12 +256,9 @@ pub fn read_numbers(text: &[u8], from: usize, end: u8, out: &mut [u64; NUMBERS])
         if b == end {
             break;
         }
-        if is_digit(b) {
-            let number = read_number(text, at, digit_of(b));
-            let times = read_times(text, number.next);
-            at = times.next;
-            count = put_times(out, count, number.value, times.value);
-        }
+        let one = read_repeated(text, b, at);
+        at = one.next;
+        count = put_times(out, count, one.value, one.times);
     }
     Part { count, next: at }
 }

@@ -1,7 +1,8 @@
 // Cases of the operations on tables and lists, run: the arguments are files of data/, one case to a line with the answer due (crate
 // case_lines has the form). A case that is answered otherwise is said with what was answered; at the end stands how many were as due.
-// operations.txt, the two of the order, the two of the types and spectrum.txt come from a program of another hand, ranges.txt has 01's and
-// 02's blocks to try by hand and the ends of each range. (type_texts.txt has cases of reading, writing and the sheet, which the tests from outside run.)
+// operations.txt, the two of the order, the two of the types, spectrum.txt and symmetric.txt come from a program of another hand, ranges.txt has
+// 01's and 02's blocks to try by hand and the ends of each range. (type_texts.txt has cases of reading, writing and the sheet, which the tests
+// from outside run.)
 use case_lines::Given;
 use case_lines::HELD;
 use case_lines::HELD_ENTRY;
@@ -20,6 +21,7 @@ use case_lines::put_table;
 use case_lines::read_given;
 use case_lines::read_numbers;
 use case_lines::read_rooms;
+use case_lines::read_sizes;
 use case_lines::read_word;
 use libc::STDOUT_FILENO;
 use saying::is_same;
@@ -281,6 +283,47 @@ fn spectrum_of(
     )
 }
 
+// gray n k TYPE ROOM_TABLE ROOM_SMALLER WORDS => N A B before after TABLE SMALLER_TABLE
+fn gray(
+    h: Given,
+    room_smaller: usize,
+    numbers: &[u64; NUMBERS],
+    count: usize,
+    got: &mut [u64; NUMBERS],
+) -> usize
+    requires { ⌜ count ≤ numbersMost ⌝ }
+    ensures { λ r. ⌜ r ≤ numbersMost ⌝ }
+{
+    let words = entries(numbers, count);
+    let mut table = [HELD_ENTRY; NUMBERS];
+    let mut smaller = [HELD_ENTRY; NUMBERS];
+    let r = symmetric::symmetric_block(
+        h.n,
+        h.k,
+        h.block_type,
+        part16(&words, count),
+        room16(&mut table, h.last),
+        room16(&mut smaller, room_smaller),
+    );
+    let a = put_answer(got, r.number, r.a, r.b);
+    let b = put(got, a, r.before);
+    let c = put(got, b, r.after);
+    let size = result_size(r.number, points(h.n));
+    let d = put_table(got, c, &table, size);
+    put_table(got, d, &smaller, size)
+}
+
+// symmetric n k TYPE TABLE => N A B yes|no
+fn symmetric_of(h: Given, numbers: &[u64; NUMBERS], count: usize, got: &mut [u64; NUMBERS]) -> usize
+    requires { ⌜ count ≤ numbersMost ⌝ }
+    ensures { λ r. ⌜ r ≤ numbersMost ⌝ }
+{
+    let table = entries(numbers, count);
+    let r = symmetric::table_symmetric(h.n, h.k, h.block_type, part16(&table, count));
+    let a = put_answer(got, r.number, r.a, r.b);
+    put(got, a, r.value)
+}
+
 // Runs the operation of a name on one list: nothing for a name that is none.
 fn run_list(
     name: &[u8],
@@ -335,8 +378,8 @@ fn run_restore(h: Given, text: &[u8], got: &mut [u64; NUMBERS]) -> Part
     Part { count, next }
 }
 
-// Reads the working room and the table of a spectrum, and runs it.
-fn run_spectrum(h: Given, text: &[u8], got: &mut [u64; NUMBERS]) -> Part
+// Reads the second room and the list of a spectrum or of a symmetric block, and runs it.
+fn run_lent(name: &[u8], h: Given, text: &[u8], got: &mut [u64; NUMBERS]) -> Part
     requires { ⌜ h .next ≤ length (now text) ⌝ }
     ensures { λ r. ⌜ (r .next ≤ length (now (text .entry))) × (r .count ≤ numbersMost) ⌝ }
 {
@@ -344,7 +387,24 @@ fn run_spectrum(h: Given, text: &[u8], got: &mut [u64; NUMBERS]) -> Part
     let mut numbers = [0u64; NUMBERS];
     let list = read_numbers(text, room.next, b' ', &mut numbers);
     let next = list.next;
+    if is_same(name, b"gray") {
+        let count = gray(h, room.value as usize, &numbers, list.count, got);
+        return Part { count, next };
+    }
     let count = spectrum_of(h, room.value as usize, &numbers, list.count, got);
+    Part { count, next }
+}
+
+// Reads the sizes and the table of a question whether it is symmetric, and asks.
+fn run_symmetric(text: &[u8], at: usize, got: &mut [u64; NUMBERS]) -> Part
+    requires { ⌜ at ≤ length (now text) ⌝ }
+    ensures { λ r. ⌜ (r .next ≤ length (now (text .entry))) × (r .count ≤ numbersMost) ⌝ }
+{
+    let h = read_sizes(text, at);
+    let mut numbers = [0u64; NUMBERS];
+    let list = read_numbers(text, h.next, b' ', &mut numbers);
+    let next = list.next;
+    let count = symmetric_of(h, &numbers, list.count, got);
     Part { count, next }
 }
 
@@ -353,6 +413,9 @@ fn run(name: &[u8], text: &[u8], at: usize, got: &mut [u64; NUMBERS]) -> Part
     requires { ⌜ at ≤ length (now text) ⌝ }
     ensures { λ r. ⌜ (r .next ≤ length (now (text .entry))) × (r .count ≤ numbersMost) ⌝ }
 {
+    if is_same(name, b"symmetric") {
+        return run_symmetric(text, at, got);
+    }
     let h = read_given(text, at);
     if is_same(name, b"row_method") || is_same(name, b"table_method") {
         return run_method(name, h, text, got);
@@ -360,8 +423,8 @@ fn run(name: &[u8], text: &[u8], at: usize, got: &mut [u64; NUMBERS]) -> Part
     if is_same(name, b"restore") {
         return run_restore(h, text, got);
     }
-    if is_same(name, b"spectrum") {
-        return run_spectrum(h, text, got);
+    if is_same(name, b"spectrum") || is_same(name, b"gray") {
+        return run_lent(name, h, text, got);
     }
     let mut numbers = [0u64; NUMBERS];
     let list = read_numbers(text, h.next, b' ', &mut numbers);

@@ -21,17 +21,8 @@ shared-slice-read-b c = search needs
 add-at : tie.Need-add-at Inv-loop μ-loop
 add-at c = search needs
 
-is-digit-requires : tie.Need-is-digit-requires Inv-loop μ-loop
-is-digit-requires c κs = search needs
-
-digit-of-requires : tie.Need-digit-of-requires Inv-loop μ-loop
-digit-of-requires c κs = search needs
-
-read-number-requires : tie.Need-read-number-requires Inv-loop μ-loop
-read-number-requires c κs = search needs
-
-read-times-requires : tie.Need-read-times-requires Inv-loop μ-loop
-read-times-requires c κs = search needs
+read-repeated-requires : tie.Need-read-repeated-requires Inv-loop μ-loop
+read-repeated-requires c κs = search needs
 
 put-times-requires : tie.Need-put-times-requires Inv-loop μ-loop
 put-times-requires c κs = search needs
@@ -41,12 +32,6 @@ loop-less c = search needs
 
 loop-again : tie.Need-loop-again Inv-loop μ-loop
 loop-again c = search needs
-
-loop-less-2 : tie.Need-loop-less-2 Inv-loop μ-loop
-loop-less-2 c = search needs
-
-loop-again-2 : tie.Need-loop-again-2 Inv-loop μ-loop
-loop-again-2 c = search needs
 
 returns : tie.Need-returns Inv-loop μ-loop
 returns c = search needs
@@ -63,14 +48,9 @@ read-numbers-spec =
     loop-holds
     shared-slice-read-b
     add-at
-    is-digit-requires
-    digit-of-requires
-    read-number-requires
-    read-times-requires
+    read-repeated-requires
     put-times-requires
     loop-less
     loop-again
-    loop-less-2
-    loop-again-2
     returns
     returns-2)
