@@ -1,4 +1,4 @@
-// What the arguments of a call say: whether one is a certain word, the decimal number that one is, and the words of a symmetric block with what
+// What the arguments of a call say: whether one is a certain text, the decimal number that one is, and the words of a symmetric block with what
 // stands before them (02, Ticket 6). Every function here is inner.
 use block::FD;
 use block::FR;
@@ -52,11 +52,11 @@ pub fn number_at(i: usize) -> Number {
     number_of(&name[..length])
 }
 
-// Whether argument i is this word.
-pub fn is_word(i: usize, word: &[u8]) -> bool {
+// Whether argument i is this one.
+pub fn is_given(i: usize, text: &[u8]) -> bool {
     let mut name = io::buffer();
     let length = os::arg(i, &mut name);
-    saying::is_same(&name[..length], word)
+    saying::is_same(&name[..length], text)
 }
 
 // ---- a symmetric block
@@ -73,7 +73,7 @@ fn entry_of(x: usize) -> u16 {
 
 // The number, or the - of no output, that argument i is.
 fn word_at(i: usize) -> Number {
-    if is_word(i, b"-") {
+    if is_given(i, b"-") {
         return Number {
             known: true,
             value: NO_OUTPUT as usize,
@@ -108,10 +108,10 @@ fn read_words(from: usize, words: &mut [u16]) -> bool {
 
 // The type that argument 2 is: none is 0.
 fn given_type() -> usize {
-    if is_word(2, b"fr") {
+    if is_given(2, b"fr") {
         return FR;
     }
-    if is_word(2, b"fd") {
+    if is_given(2, b"fd") {
         return FD;
     }
     0

@@ -6,7 +6,7 @@
 // `print_text` and `print_model` of the crate printing, what is said of a model by `read_model` and `model_value` of the crate models; crates
 // shift_lines and symmetric_lines say by which promises the rest is said. No contract says which bytes the system reads and writes. A read or
 // a write that fails is told on standard error; where a read fails nothing is printed, since the text is not known.
-use arguments::is_word;
+use arguments::is_given;
 use block::LIST_INPUTS;
 use block::MODEL_ROOM;
 use block::ModelAnswer;
@@ -251,19 +251,19 @@ fn main() {
         answer_list(Due::Sheet);
         return;
     }
-    if is_word(1, b"--blif") {
+    if is_given(1, b"--blif") {
         answer_list(Due::Model);
         return;
     }
-    if is_word(1, b"--shifts") {
+    if is_given(1, b"--shifts") {
         answer_list(Due::Shifts);
         return;
     }
-    if is_word(1, b"--symmetric") {
+    if is_given(1, b"--symmetric") {
         answer_symmetric();
         return;
     }
-    if is_word(1, b"--model") {
+    if is_given(1, b"--model") {
         answer_model();
         return;
     }

@@ -1,6 +1,5 @@
 -- `symmetric_lines::say_symmetric` is safe: of what is not refused the inputs are at most 12. Assumes nothing.
 use mathlib.Core.Path.{refl, sym, ap, _∙_}
-use denote.Ref.{now}
 use Rattle.block.specs.Symmetric.{tableSymmetric}
 use Rattle.block.specs.declared.ValueAnswer.{ValueAnswer}
 use Rattle.table_checks.specs.Passed.{table-symmetric-passed}
