@@ -26,7 +26,8 @@ pub images-first : (c : ℕ → ℕ) (n x : ℕ) (l : List ℕ) → 0 < length l
 images-first c n x l h e =
     record { each = λ z b. let d : z ≡ 0 = omega arith in rw d (getD-set-same l 0 x 0 h ∙ e ∙ sym (columns-zero c n)) }
 
-image-next : (c : ℕ → ℕ) (n i z : ℕ) → i < n → z < 2 ^ i → columns c n (2 ^ i + z) ≡ bitXor (columns c n z) (c i)
+-- a value from another
+pub image-next : (c : ℕ → ℕ) (n i z : ℕ) → i < n → z < 2 ^ i → columns c n (2 ^ i + z) ≡ bitXor (columns c n z) (c i)
 image-next c n i z h b =
     let e : 2 ^ i + z ≡ 1 * 2 ^ i + z = omega arith in
     let d : 1 * 2 ^ i ≡ 2 ^ i = omega arith in

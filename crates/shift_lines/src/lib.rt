@@ -1,8 +1,6 @@
 // What the program says with --shifts: R at every t of the block of a list of up to 12 inputs, by the spectrum of its table (02, Ticket
 // 5). The reader, the filling and the spectrum each may refuse; what they answer is promised by `read_text`, `fill_table` and
 // `table_spectrum`. Every function here is inner.
-use block::GIVEN_ROWS;
-use block::ReadAnswer;
 use block::TABLE_POINTS;
 use saying::part16;
 use saying::part32;
@@ -47,20 +45,12 @@ fn say_spectrum(n: usize, k: usize, block_type: usize, table: &[u16]) {
     say_values(n, part32(&values, table.len()));
 }
 
-// Says R at every t of the rows that were read.
-fn say_filled(h: ReadAnswer, masks: &[u32], values: &[u32], words: &[u32]) {
+// Says R at every t of a text's block, or why not.
+pub fn say_shifts(text: &[u8]) {
     let mut table = [0u16; TABLE_POINTS];
-    let r = lists::fill_table(
-        h.n,
-        h.k,
-        h.block_type,
-        part32(masks, h.count),
-        part32(values, h.count),
-        part32(words, h.count),
-        &mut table,
-    );
-    if r.number != 0 {
-        say_refused(r.number, r.a, r.b);
+    let h = text_tables::fill_text(text, &mut table);
+    if h.number != 0 {
+        say_refused(h.number, h.a, h.b);
         return;
     }
     say_spectrum(
@@ -69,17 +59,4 @@ fn say_filled(h: ReadAnswer, masks: &[u32], values: &[u32], words: &[u32]) {
         h.block_type,
         part16(&table, shared_checks::size_of(h.n)),
     );
-}
-
-// Says R at every t of a text's block, or why not.
-pub fn say_shifts(text: &[u8]) {
-    let mut masks = [0u32; GIVEN_ROWS];
-    let mut values = [0u32; GIVEN_ROWS];
-    let mut words = [0u32; GIVEN_ROWS];
-    let h = read_kinds::in_numbers(reading::read_text(text, &mut masks, &mut values, &mut words));
-    if h.number != 0 {
-        say_refused(h.number, h.a, h.b);
-        return;
-    }
-    say_filled(h, &masks, &values, &words);
 }

@@ -2,14 +2,11 @@
 // of sigma, its table and the smaller one; of a list of up to 12 inputs whether its block is symmetric, and by which words. What is said is promised
 // by `symmetric_block`, and by `read_text`, `fill_table` and `table_symmetric`, each of which may refuse. Every function here is inner.
 use block::FR;
-use block::GIVEN_ROWS;
-use block::ReadAnswer;
 use block::TABLE_INPUTS;
 use block::TABLE_POINTS;
 use block::TableMethodAnswer;
 use libc::STDOUT_FILENO;
 use saying::part16;
-use saying::part32;
 use saying::say;
 use saying::say_bits;
 use saying::say_number;
@@ -154,36 +151,6 @@ pub fn say_block(n: usize, k: usize, block_type: usize, words: &[u16]) {
 
 // ---- the words of a symmetric list
 
-// Reads a list and fills its table: the answer is the reader's, or the refusal of the filling.
-fn fill_text(text: &[u8], table: &mut [u16]) -> ReadAnswer {
-    let mut masks = [0u32; GIVEN_ROWS];
-    let mut values = [0u32; GIVEN_ROWS];
-    let mut words = [0u32; GIVEN_ROWS];
-    let h = read_kinds::in_numbers(reading::read_text(text, &mut masks, &mut values, &mut words));
-    if h.number != 0 {
-        return h;
-    }
-    let r = lists::fill_table(
-        h.n,
-        h.k,
-        h.block_type,
-        part32(&masks, h.count),
-        part32(&values, h.count),
-        part32(&words, h.count),
-        table,
-    );
-    ReadAnswer {
-        number: r.number,
-        a: r.a,
-        b: r.b,
-        n: h.n,
-        k: h.k,
-        block_type: h.block_type,
-        type_line: h.type_line,
-        count: h.count,
-    }
-}
-
 // Says a word as a call has it: a number, or - for no output.
 fn say_given(word: u16) {
     if word == NO_OUTPUT {
@@ -230,7 +197,7 @@ fn say_symmetric(n: usize, k: usize, block_type: usize, table: &[u16; TABLE_POIN
 // Says whether the block of a text is symmetric, and by which words, or why not.
 pub fn say_symmetry(text: &[u8]) {
     let mut table = [0u16; TABLE_POINTS];
-    let h = fill_text(text, &mut table);
+    let h = text_tables::fill_text(text, &mut table);
     if h.number != 0 {
         say_refused(h.number, h.a, h.b);
         return;

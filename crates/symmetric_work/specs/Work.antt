@@ -1,18 +1,19 @@
--- What the work on a symmetric block leaves, and how it follows from what its parts leave: the smaller table read through the Gray columns,
--- the words by the counts, and the test of a table point by point. Assumes nothing.
-use mathlib.Core.Path.{_≡_, sym, ap, ap₂, _∙_}
+-- What the work on a symmetric block leaves, and how it follows from what its parts leave: T laid out by the Gray columns and the smaller table
+-- in its place, the words by the counts, and the test of a table point by point. Assumes nothing.
+use mathlib.Core.Path.{_≡_, refl, sym, ap, ap₂, _∙_}
 use mathlib.Core.Bool.{true, false, not}
 use mathlib.Core.List.{List}
 use Prim.Native.Nat.{ℕ, _+_, _-_, _^_, _≤_, _<_}
 use native.Mathlib.Nat.{lt-irrefl}
 use native.Mathlib.Omega.{arith}
 use borrow.Author.Tests.{eq-eqb, ne-eqb}
+use lib.Bits.{bitXor}
 use lib.Count.{ones, ones-le}
 use lib.Dec.{eqb}
-use lib.ListN.{length, getD, take, drop}
+use lib.ListN.{length, getD, set, take, drop}
 use lib.Seq.{take-at}
 use Rattle.slices.specs.Places.{at, tab, over}
-use Rattle.slices.specs.Filled.{tab-at, tab-cong, getD-any}
+use Rattle.slices.specs.Filled.{tab-at, tab-cong, over-none, over-more, length-over, over-at, over-beyond, over-is, getD-any}
 use Rattle.slices.specs.Least.{first-is, first-found}
 use Rattle.block.specs.Limits.{tableInputs}
 use Rattle.block.specs.Words.{none, ofTable}
@@ -21,28 +22,59 @@ use Rattle.block.specs.Basis.{columns, smaller}
 use Rattle.block.specs.Basis as S
 use Rattle.block.specs.Symmetric.{ofCounts, symmetricTable, grayTable, grayColumn, leastOf, alike, isSymmetric}
 use Rattle.block.specs.declared.Measures.{Measures}
-use Rattle.matrix_laws.specs.Linear.{columns-cong, columns-lt}
+use Rattle.matrix_laws.specs.Linear.{columns-lt}
+use Rattle.matrix_laws.specs.Images.{Images, columns-zero, image-next}
 use Rattle.symmetric_laws.specs.Columns.{gray-independent}
 use Rattle.symmetric_laws.specs.Blocks.{least-lt}
 use Rattle.symmetric_laws.specs.Words.{table-at, length-symmetric}
 use Rattle.symmetric_values.specs.Values.{Measured}
 
--- ---- the Gray columns
+-- ---- T laid over a list, value by value
 
--- a list of the Gray columns of 12 inputs, for n of them
-module _ (n : ℕ) (h : n ≤ tableInputs) (l : List ℕ) (e : l ≡ tab tableInputs grayColumn) where
-  each : (j : ℕ) → j < n → at l j ≡ grayColumn j
-  each j b = ap (λ (k : List ℕ). at k j) e ∙ tab-at tableInputs grayColumn 0 j (omega arith)
+-- the values below m are there
+pub laid-images : (n m : ℕ) (l k : List ℕ) → k ≡ over (tab m (columns grayColumn n)) l → Images grayColumn n m k
+laid-images n m l k e = record { each = λ z h. ap (λ (k : List ℕ). at k z) e ∙ over-at m (columns grayColumn n) l 0 z h }
 
-  -- the first n have n bits
-  pub columns-lt-all : (j : ℕ) → j < n → at l j < 2 ^ n
-  columns-lt-all j b = rw (each j b) (gray-independent n .below j b)
+-- laid over a list that has them they change nothing
+pub laid-held : (n m : ℕ) (l : List ℕ) → m ≤ length l → Images grayColumn n m l → l ≡ over (tab m (columns grayColumn n)) l
+laid-held n m l h i = over-is m (columns grayColumn n) l l 0 h refl (i .each) (λ z b. refl)
 
-  -- the table read through them is the smaller table by the Gray matrix
-  pub columns-through : (f : ℕ → ℕ) (z z′ : List ℕ) → z′ ≡ over (tab (2 ^ n) (λ x. f (columns (at l) n x))) z
-      → z′ ≡ over (tab (2 ^ n) (smaller f grayColumn n)) z
-  columns-through f z z′ d =
-      d ∙ ap (λ (k : List ℕ). over k z) (tab-cong (2 ^ n) _ _ (λ x b. ap f (columns-cong (at l) grayColumn n x each)))
+-- more of them laid over some are more of them
+pub laid-again : (n m i : ℕ) (l k k′ : List ℕ) → m ≤ i → i ≤ length l → k ≡ over (tab m (columns grayColumn n)) l
+    → k′ ≡ over (tab i (columns grayColumn n)) k → k′ ≡ over (tab i (columns grayColumn n)) l
+laid-again n m i l k k′ h b e d =
+    let len : length k ≡ length l = ap length e ∙ length-over m (columns grayColumn n) l (omega arith) in
+    over-is i (columns grayColumn n) l k′ 0 b (ap length d ∙ length-over i (columns grayColumn n) k (omega arith) ∙ len)
+    (λ z c. ap (λ (k : List ℕ). at k z) d ∙ over-at i (columns grayColumn n) k 0 z c)
+    (λ z c.
+    ap (λ (k : List ℕ). at k z) d ∙ over-beyond i (columns grayColumn n) k 0 z c
+    ∙ ap (λ (k : List ℕ). at k z) e ∙ over-beyond m (columns grayColumn n) l 0 z (omega arith))
+
+-- the first value, and one more: that at 2^i + z from that at z and column i
+pub laid-first : (n x : ℕ) (l : List ℕ) → 0 < length l → x ≡ 0 → set l 0 x ≡ over (tab 1 (columns grayColumn n)) l
+laid-first n x l h e = over-more 0 (columns grayColumn n) l l x (over-none (columns grayColumn n) l) (e ∙ sym (columns-zero grayColumn n)) h
+
+pub next-value : (n i z x c : ℕ) → i < n → z < 2 ^ i → x ≡ columns grayColumn n z → c ≡ grayColumn i → bitXor x c ≡ columns grayColumn n (2 ^ i + z)
+next-value n i z x c h b e d = ap₂ bitXor e d ∙ sym (image-next grayColumn n i z h b)
+
+-- column i of the table
+pub column-of : (l : List ℕ) (i : ℕ) → l ≡ tab tableInputs grayColumn → i < tableInputs → getD l i 0 ≡ grayColumn i
+column-of l i e h = ap (λ (k : List ℕ). getD k i 0) e ∙ tab-at tableInputs grayColumn 0 i h
+
+-- ---- then the entries in their place
+
+-- the entries from z on are still those of T, and points of the table
+pub still : (f : ℕ → ℕ) (n m z y : ℕ) (p k : List ℕ) → Images grayColumn n m p → k ≡ over (tab z f) p → z ≤ y → y < m
+    → at k y ≡ columns grayColumn n y
+still f n m z y p k i d h b = ap (λ (k : List ℕ). at k y) d ∙ over-beyond z f p 0 y h ∙ i .each y b
+
+pub point-lt : (n z x : ℕ) → x ≡ columns grayColumn n z → x < 2 ^ n
+point-lt n z x e = rw e (columns-lt grayColumn n n z (gray-independent n .below))
+
+pub entry-at : (table : List ℕ) (n z x : ℕ) → length table ≡ 2 ^ n → x ≡ columns grayColumn n z → getD table x 0 ≡ smaller (ofTable table) grayColumn n z
+entry-at table n z x l e =
+    let b : x < length table = rw l (point-lt n z x e) in
+    getD-any table 0 none x b ∙ ap (ofTable table) e
 
 -- ---- words by their counts
 

@@ -11,16 +11,17 @@ ghost use Rattle.sums.specs.Sums.{one};
 ghost use Rattle.slices.specs.Places.{tab, over};
 ghost use Rattle.block.specs.Limits.{tableInputs};
 ghost use Rattle.block.specs.Words.{ofTable};
-ghost use Rattle.block.specs.Basis.{smaller};
+ghost use Rattle.block.specs.Basis.{columns, smaller};
 ghost use Rattle.block.specs.Symmetric.{symmetricTable, grayColumn, grayRow, alike, isSymmetric};
+ghost use Rattle.matrix_laws.specs.Images.{Images};
 ghost use Rattle.symmetric_laws.specs.Counts.{Counted};
 ghost use Rattle.symmetric_work.specs.Work.{Made};
 
 // The Gray columns of up to 12 inputs: 1, and then 3 times 1, 2, 4, ..
-const COLUMNS: [u32; TABLE_INPUTS] = [1, 3, 6, 12, 24, 48, 96, 192, 384, 768, 1536, 3072];
+const COLUMNS: [u16; TABLE_INPUTS] = [1, 3, 6, 12, 24, 48, 96, 192, 384, 768, 1536, 3072];
 
 // These are the Gray columns.
-pub fn gray_columns() -> [u32; TABLE_INPUTS]
+pub fn gray_columns() -> [u16; TABLE_INPUTS]
     ensures { λ r. ⌜ r ≡ tab tableInputs grayColumn ⌝ }
 {
     COLUMNS
@@ -75,13 +76,45 @@ pub fn put_symmetric(words: &[u16], n: usize, out: &mut [u16])
     }
 }
 
-// The smaller table of any table by the Gray columns.
+// Doubles the values of T that are there: those at each z below 2^i become those below 2^(i + 1), each by one XOR with column i.
+fn double_points(n: usize, i: usize, column: u16, out: &mut [u16])
+    requires { ⌜ (i < n) × (n ≤ tableInputs) × (2 ^ n ≤ length (now out)) × (column ≡ grayColumn i) × Images grayColumn n (2 ^ i) (now out) ⌝ }
+    ensures { λ _. ⌜ now (out .exit) ≡ over (tab (2 ^ (i + 1)) (columns grayColumn n)) (now (out .entry)) ⌝ }
+{
+    let size = bit_work::size(i);
+    let mut z: usize = 0;
+    while z < size {
+        out[size + z] = out[z] ^ column;
+        z += 1;
+    }
+}
+
+// T at every z below 2^n, by the Gray columns.
+fn put_points(n: usize, out: &mut [u16])
+    requires { ⌜ (n ≤ tableInputs) × (2 ^ n ≤ length (now out)) ⌝ }
+    ensures { λ _. ⌜ now (out .exit) ≡ over (tab (2 ^ n) (columns grayColumn n)) (now (out .entry)) ⌝ }
+{
+    let by_columns = gray_columns();
+    out[0] = 0;
+    let mut i: usize = 0;
+    while i < n {
+        double_points(n, i, by_columns[i], out);
+        i += 1;
+    }
+}
+
+// The smaller table of any table by the Gray columns: T is laid where the smaller table goes, and then each z has the table's entry at T z.
 pub fn put_gray(table: &[u16], n: usize, out: &mut [u16])
     requires { ⌜ (length (now table) ≡ 2 ^ n) × (n ≤ tableInputs) × (2 ^ n ≤ length (now out)) ⌝ }
     ensures { λ _. ⌜ now (out .exit) ≡ over (tab (2 ^ n) (smaller (ofTable (now (table .entry))) grayColumn n)) (now (out .entry)) ⌝ }
 {
-    let columns = gray_columns();
-    restoring::put_through(table, &columns, n, out);
+    put_points(n, out);
+    let size = table.len();
+    let mut z: usize = 0;
+    while z < size {
+        out[z] = table[out[z] as usize];
+        z += 1;
+    }
 }
 
 // Whether the entry at x differs from the one at the least number with as many one-bits.
