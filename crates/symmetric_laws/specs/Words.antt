@@ -1,13 +1,18 @@
 -- Symmetric tables and their words: the test says what `Symmetric` means, a table made of words passes it, and a table that passes
 -- it is made of exactly one list of words. Assumes nothing.
-use mathlib.Core.Path.{_≡_, sym, ap, _∙_}
+use mathlib.Core.Path.{_≡_, refl, sym, ap, _∙_}
 use mathlib.Core.Bool.{true, not}
 use mathlib.Core.List.{List}
-use Prim.Native.Nat.{ℕ, _+_, _-_, _^_, _<_}
+use Prim.Native.Nat.{ℕ, zero, suc, _+_, _-_, _*_, _/_, _%_, _^_, _≤_, _<_}
+use native.Mathlib.Decide.{decLt}
+use native.Mathlib.Nat.{mul-add}
+use native.Mathlib.Numerals.{add-one}
 use native.Mathlib.Omega.{arith}
 use borrow.Author.Tests.{eqb-true, eq-eqb, not-false}
-use lib.Count.{ones, ones-le, ones-ones}
+use lib.Arith.{bin-ind}
+use lib.Count.{ones, ones-le, ones-ones, ones-cat}
 use lib.ListN.{length, getD}
+use lib.Pow.{pow-pos, pow-mono}
 use lib.Seq.{ext-getD}
 use Rattle.slices.specs.Filled.{tab-at, length-tab}
 use Rattle.slices.specs.Least.{first-is, first-below}
@@ -77,3 +82,63 @@ made-words words n l =
 
 pub words-unique : (u v : List ℕ) (n : ℕ) → length u ≡ n + 1 → length v ≡ n + 1 → symmetricTable u n ≡ symmetricTable v n → u ≡ v
 words-unique u v n hu hv e = sym (made-words u n hu) ∙ ap (λ (t : List ℕ). countWords (ofTable t) n) e ∙ made-words v n hv
+
+-- ---- the test by the lowest zero: a number has as many one-bits without it
+
+-- the number with a above its lowest zero, which stands at k, and the number without that zero
+abbrev pub withZero : ℕ → ℕ → ℕ
+withZero k a = a * 2 ^ (k + 1) + (2 ^ k - 1)
+
+abbrev pub withoutZero : ℕ → ℕ → ℕ
+withoutZero k a = a * 2 ^ k + (2 ^ k - 1)
+
+pub ones-without : (k a : ℕ) → ones (withZero k a) ≡ ones (withoutZero k a)
+ones-without k a =
+    ones-cat (k + 1) a (2 ^ k - 1) (omega (arith, pow-pos k, ap (λ (i : ℕ). 2 ^ i) (add-one k)))
+    ∙ sym (ones-cat k a (2 ^ k - 1) (omega (arith, pow-pos k)))
+
+twice : (a k : ℕ) → a * 2 ^ (k + 1) ≡ a * 2 ^ k + a * 2 ^ k
+twice a k = let e : 2 ^ (k + 1) ≡ 2 ^ k + 2 ^ k = omega (arith, ap (λ (i : ℕ). 2 ^ i) (add-one k)) in ap (λ (p : ℕ). a * p) e ∙ mul-add a (2 ^ k) (2 ^ k)
+
+-- every number has a lowest zero
+lowest-zero : (x : ℕ) → (k : ℕ) × (a : ℕ) × (x ≡ withZero k a)
+lowest-zero = bin-ind (λ x. (k : ℕ) × (a : ℕ) × (x ≡ withZero k a)) (0, 0, refl) (λ x ih. go x ih (decLt 0 (x % 2)))
+  where
+    go : (x : ℕ) → (k : ℕ) × (a : ℕ) × (x / 2 ≡ withZero k a) → Dec (0 < x % 2) → (k : ℕ) × (a : ℕ) × (x ≡ withZero k a)
+    go x (k, a, e) (no h) = (0, x / 2, omega arith)
+    go x (k, a, e) (yes h) =
+        (k + 1, a, omega (arith, e, twice a (k + 1), pow-pos k, ap (λ (i : ℕ). 2 ^ i) (add-one k)))
+
+power-below : (k n : ℕ) → 2 ^ k < 2 ^ n → k < n
+power-below k n h = go (decLt k n)
+  where
+    go : Dec (k < n) → k < n
+    go (yes l) = l
+    go (no l) = let above : 2 ^ n ≤ 2 ^ k = pow-mono (omega arith) in absurd (omega arith)
+
+-- where no entry differs from the one without the lowest zero, the table is symmetric
+pub kept-symmetric : (table : List ℕ) (n : ℕ)
+    → ((k a : ℕ) → k < n → withZero k a < 2 ^ n → ofTable table (withZero k a) ≡ ofTable table (withoutZero k a)) → isSymmetric table n ≡ true
+kept-symmetric table n kept =
+    symmetric-passes table n
+    (λ x y hx hy e. least (x + 1) x (omega arith) hx ∙ ap (λ (c : ℕ). f (leastOf c)) e ∙ sym (least (y + 1) y (omega arith) hy))
+  where
+    f : ℕ → ℕ
+    f = ofTable table
+
+    least : (m x : ℕ) → x < m → x < 2 ^ n → f x ≡ f (leastOf (ones x))
+    least zero x h b = absurd (omega arith)
+    least (suc m) x h b = go (λ y l c. least m y l c) (lowest-zero x)
+      where
+        go : ((y : ℕ) → y < m → y < 2 ^ n → f y ≡ f (leastOf (ones y))) → (k : ℕ) × (a : ℕ) × (x ≡ withZero k a) → f x ≡ f (leastOf (ones x))
+        go ih (k, zero, e) =
+            let d : x ≡ leastOf k = omega (arith, e) in
+            ap f (d ∙ sym (ap leastOf (ap ones d ∙ ones-ones k)))
+        go ih (k, suc a, e) =
+            let t = twice (suc a) k in
+            let p : 2 ^ k ≤ suc a * 2 ^ k = omega arith in
+            let q : withoutZero k (suc a) < x = omega (arith, e, t, pow-pos k) in
+            let w : withZero k (suc a) < 2 ^ n = rw e at b in
+            let l : k < n = power-below k n (omega (arith, t, pow-pos k)) in
+            ap f e ∙ kept k (suc a) l w ∙ ih (withoutZero k (suc a)) (omega arith) (omega arith)
+            ∙ ap (λ (c : ℕ). f (leastOf c)) (sym (ap ones e ∙ ones-without k (suc a)))

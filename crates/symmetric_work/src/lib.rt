@@ -4,7 +4,6 @@ use block::Measures;
 use block::TABLE_INPUTS;
 use block::TABLE_POINTS;
 ghost use mathlib.Core.Path.{_≡_};
-ghost use mathlib.Core.Bool.{not};
 ghost use Prim.Native.Nat.{ℕ, _+_, _≤_, _<_, _^_};
 ghost use lib.ListN.{length};
 ghost use Rattle.sums.specs.Sums.{one};
@@ -12,10 +11,10 @@ ghost use Rattle.slices.specs.Places.{tab, over};
 ghost use Rattle.block.specs.Limits.{tableInputs};
 ghost use Rattle.block.specs.Words.{ofTable};
 ghost use Rattle.block.specs.Basis.{columns, smaller};
-ghost use Rattle.block.specs.Symmetric.{symmetricTable, grayColumn, grayRow, alike, isSymmetric};
+ghost use Rattle.block.specs.Symmetric.{symmetricTable, grayColumn, grayRow, isSymmetric};
 ghost use Rattle.matrix_laws.specs.Images.{Images};
 ghost use Rattle.symmetric_laws.specs.Counts.{Counted};
-ghost use Rattle.symmetric_work.specs.Work.{Made};
+ghost use Rattle.symmetric_work.specs.Work.{Looked, Made};
 
 // The Gray columns of up to 12 inputs: 1, and then 3 times 1, 2, 4, ..
 const COLUMNS: [u16; TABLE_INPUTS] = [1, 3, 6, 12, 24, 48, 96, 192, 384, 768, 1536, 3072];
@@ -117,28 +116,35 @@ pub fn put_gray(table: &[u16], n: usize, out: &mut [u16])
     }
 }
 
-// Whether the entry at x differs from the one at the least number with as many one-bits.
-fn is_unlike(table: &[u16], n: usize, counts: &[u8], x: usize) -> bool
-    requires { ⌜ (length (now table) ≡ 2 ^ n) × (n ≤ tableInputs) × Counted (2 ^ n) (now counts) × (2 ^ n ≤ length (now counts)) × (x < 2 ^ n) ⌝ }
-    ensures { λ r. ⌜ r ≡ not (alike (now (table .entry)) x) ⌝ }
+// Whether an entry at a number whose lowest zero stands at k differs from the entry at the number without that zero, which has as many one-bits.
+fn is_unlike(table: &[u16], n: usize, k: usize) -> bool
+    requires { ⌜ (length (now table) ≡ 2 ^ n) × (n ≤ tableInputs) × (k < n) ⌝ }
+    ensures { λ r. ⌜ Looked (now (table .entry)) n k r ⌝ }
 {
-    let least = bit_work::size(counts[x] as usize) - 1;
-    table[x] != table[least]
+    let step = bit_work::size(k);
+    let mut with = step - 1;
+    let mut without = step - 1;
+    while with < table.len() {
+        if table[with] != table[without] {
+            return true;
+        }
+        with += step + step;
+        without += step;
+    }
+    false
 }
 
-// Whether a table is symmetric.
+// Whether a table is symmetric. Every number is looked at once, by its lowest zero.
 pub fn is_symmetric(table: &[u16], n: usize) -> bool
     requires { ⌜ (length (now table) ≡ 2 ^ n) × (n ≤ tableInputs) ⌝ }
     ensures { λ r. ⌜ r ≡ isSymmetric (now (table .entry)) n ⌝ }
 {
-    let mut counts = [0u8; TABLE_POINTS];
-    put_counts(n, &mut counts);
-    let mut x: usize = 0;
-    while x < table.len() {
-        if is_unlike(table, n, &counts, x) {
+    let mut k: usize = 0;
+    while k < n {
+        if is_unlike(table, n, k) {
             return false;
         }
-        x += 1;
+        k += 1;
     }
     true
 }
