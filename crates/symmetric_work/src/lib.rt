@@ -2,7 +2,6 @@
 // symmetric. Every function here is inner.
 use block::Measures;
 use block::TABLE_INPUTS;
-use block::TABLE_POINTS;
 ghost use mathlib.Core.Path.{_≡_};
 ghost use Prim.Native.Nat.{ℕ, _+_, _≤_, _<_, _^_};
 ghost use lib.ListN.{length};
@@ -11,10 +10,9 @@ ghost use Rattle.slices.specs.Places.{tab, over};
 ghost use Rattle.block.specs.Limits.{tableInputs};
 ghost use Rattle.block.specs.Words.{ofTable};
 ghost use Rattle.block.specs.Basis.{columns, smaller};
-ghost use Rattle.block.specs.Symmetric.{symmetricTable, grayColumn, grayRow, isSymmetric};
+ghost use Rattle.block.specs.Symmetric.{ofCounts, symmetricTable, grayColumn, grayRow, isSymmetric};
 ghost use Rattle.matrix_laws.specs.Images.{Images};
-ghost use Rattle.symmetric_laws.specs.Counts.{Counted};
-ghost use Rattle.symmetric_work.specs.Work.{Looked, Made};
+ghost use Rattle.symmetric_work.specs.Work.{repeated, Entered, Looked, Made};
 
 // The Gray columns of up to 12 inputs: 1, and then 3 times 1, 2, 4, ..
 const COLUMNS: [u16; TABLE_INPUTS] = [1, 3, 6, 12, 24, 48, 96, 192, 384, 768, 1536, 3072];
@@ -34,30 +32,33 @@ pub fn gray_row(n: usize, j: usize) -> u32
     bit_work::power(n) - bit_work::power(j)
 }
 
-// Doubles the numbers of one-bits that are there: those of each z below 2^i become those below 2^(i + 1).
-fn double_counts(n: usize, i: usize, counts: &mut [u8])
-    requires { ⌜ (i < n) × (n ≤ tableInputs) × (2 ^ n ≤ length (now counts)) × Counted (2 ^ i) (now counts) ⌝ }
-    ensures { λ _. ⌜ Counted (2 ^ (i + 1)) (now (counts .exit)) ⌝ }
+// Repeats the `count` entries before `start` behind it.
+fn repeat_before(start: usize, count: usize, out: &mut [u16])
+    requires { ⌜ (count ≤ start) × (start + count ≤ length (now out)) × (start + count ≤ 4096) ⌝ }
+    ensures { λ _. ⌜ now (out .exit) ≡ over (tab (start + count) (repeated start count (now (out .entry)))) (now (out .entry)) ⌝ }
 {
-    let size = bit_work::size(i);
-    let mut z: usize = 0;
-    while z < size {
-        counts[size + z] = counts[z] + 1;
-        z += 1;
+    let from = start - count;
+    let mut y: usize = 0;
+    while y < count {
+        out[start + y] = out[from + y];
+        y += 1;
     }
 }
 
-// How many one-bits each number below 2^n has. Each is one more than another: that is quicker than to count them.
-fn put_counts(n: usize, counts: &mut [u8])
-    requires { ⌜ (n ≤ tableInputs) × (2 ^ n ≤ length (now counts)) ⌝ }
-    ensures { λ _. ⌜ Counted (2 ^ n) (now (counts .exit)) ⌝ }
+// The entries of a symmetric block from 2^j on, below 2^(j + 1). Those whose inputs from j down to i + 1 are 1 and whose input i is 0 stand behind
+// those with these two, i and i + 1, exchanged, which have as many one-bits. The last entry is the first with j + 1 of them.
+fn double_entries(words: &[u16], n: usize, j: usize, out: &mut [u16])
+    requires { ⌜ (length (now words) ≡ n + 1) × (j < n) × (n ≤ tableInputs) × (2 ^ n ≤ length (now out)) × Entered (now words) (2 ^ j) (now out) ⌝ }
+    ensures { λ _. ⌜ now (out .exit) ≡ over (tab (2 ^ (j + 1)) (ofCounts (now (words .entry)))) (now (out .entry)) ⌝ }
 {
-    counts[0] = 0;
-    let mut i: usize = 0;
-    while i < n {
-        double_counts(n, i, counts);
-        i += 1;
+    let end = bit_work::size(j + 1);
+    let mut i = j;
+    while 0 < i {
+        let start = end - bit_work::size(i);
+        i -= 1;
+        repeat_before(start, bit_work::size(i), out);
     }
+    out[end - 1] = words[j + 1];
 }
 
 // The table of a symmetric block.
@@ -65,13 +66,11 @@ pub fn put_symmetric(words: &[u16], n: usize, out: &mut [u16])
     requires { ⌜ (length (now words) ≡ n + 1) × (n ≤ tableInputs) × (2 ^ n ≤ length (now out)) ⌝ }
     ensures { λ _. ⌜ now (out .exit) ≡ over (symmetricTable (now (words .entry)) n) (now (out .entry)) ⌝ }
 {
-    let mut counts = [0u8; TABLE_POINTS];
-    put_counts(n, &mut counts);
-    let size = bit_work::size(n);
-    let mut x: usize = 0;
-    while x < size {
-        out[x] = words[counts[x] as usize];
-        x += 1;
+    out[0] = words[0];
+    let mut j: usize = 0;
+    while j < n {
+        double_entries(words, n, j, out);
+        j += 1;
     }
 }
 

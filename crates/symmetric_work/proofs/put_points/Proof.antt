@@ -66,7 +66,7 @@ loop-again c =
     let e = length-set (now (s .args .out)) 0 0 in
     let more : 2 ^ l .i ≤ 2 ^ (l .i + 1) = pow-mono (omega arith) in
     let most : 2 ^ (l .i + 1) ≤ 2 ^ s .args .n = pow-mono (omega arith) in
-    (search needs, search needs, laid-again (s .args .n) _ _ _ (l .out) _ more (omega arith) (l .inv .2) (c .before .before .double-points .ensures))
+    (search needs, search needs, laid-again (columns grayColumn (s .args .n)) _ _ _ (l .out) _ more (omega arith) (l .inv .2) (c .before .before .double-points .ensures))
 
 same-length : tie.Need-same-length Inv-loop μ-loop
 same-length c = omega (arith, length-set (now (c .before .before .before .before .args .out)) 0 0)
@@ -77,7 +77,7 @@ returns c =
     let l = now (s .args .out) in
     let end : c .before .loop .i ≡ s .args .n = omega arith in
     let b : 0 < length l = omega (arith, pow-pos (s .args .n)) in
-    laid-again (s .args .n) 1 _ l _ _ (omega (arith, pow-pos (s .args .n))) (s .pre .1) (laid-first (s .args .n) 0 l b refl) (rw end at (c .before .loop .inv .2))
+    laid-again (columns grayColumn (s .args .n)) 1 _ l _ _ (omega (arith, pow-pos (s .args .n))) (s .pre .1) (laid-first (s .args .n) 0 l b refl) (rw end at (c .before .loop .inv .2))
 
 pub put-points-spec : {M : Type 1} → statement M
 put-points-spec =
