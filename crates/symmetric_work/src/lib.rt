@@ -12,7 +12,9 @@ ghost use Rattle.block.specs.Words.{ofTable};
 ghost use Rattle.block.specs.Basis.{columns, smaller};
 ghost use Rattle.block.specs.Symmetric.{ofCounts, symmetricTable, grayColumn, grayRow, isSymmetric};
 ghost use Rattle.matrix_laws.specs.Images.{Images};
-ghost use Rattle.symmetric_work.specs.Work.{repeated, Entered, Looked, Made};
+ghost use Rattle.symmetric_work.specs.Entries.{repeated, Entered};
+ghost use Rattle.symmetric_work.specs.Looks.{Looked};
+ghost use Rattle.symmetric_work.specs.Work.{Made};
 
 // The Gray columns of up to 12 inputs: 1, and then 3 times 1, 2, 4, ..
 const COLUMNS: [u16; TABLE_INPUTS] = [1, 3, 6, 12, 24, 48, 96, 192, 384, 768, 1536, 3072];

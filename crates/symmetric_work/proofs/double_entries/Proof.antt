@@ -10,7 +10,7 @@ use lib.Pow.{pow-pos, pow-mono, pow-lt}
 use Rattle.slices.specs.Places.{tab, over}
 use Rattle.slices.specs.Filled.{over-more}
 use Rattle.block.specs.Symmetric.{ofCounts}
-use Rattle.symmetric_work.specs.Work.{places, entered-held, entries-step, entries-end}
+use Rattle.symmetric_work.specs.Entries.{places, entered-held, entries-step, entries-end}
 use borrow.Author.Needs.{needs}
 use Rattle.symmetric_work.proofs.double_entries.Statement.{statement}
 use Rattle.symmetric_work.proofs.double_entries.Tie as tie

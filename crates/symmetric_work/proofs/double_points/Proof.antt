@@ -11,7 +11,7 @@ use Rattle.slices.specs.Places.{tab, over}
 use Rattle.slices.specs.Filled.{over-more}
 use Rattle.block.specs.Basis.{columns}
 use Rattle.block.specs.Symmetric.{grayColumn}
-use Rattle.symmetric_work.specs.Work.{laid-images, laid-held, next-value}
+use Rattle.symmetric_work.specs.Points.{laid-images, laid-held, next-value}
 use borrow.Author.Needs.{needs}
 use Rattle.symmetric_work.proofs.double_points.Statement.{statement}
 use Rattle.symmetric_work.proofs.double_points.Tie as tie

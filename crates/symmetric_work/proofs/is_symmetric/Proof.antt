@@ -6,7 +6,7 @@ use native.Mathlib.Omega.{arith}
 use borrow.Author.Count.{below-more}
 use denote.Ref.{now}
 use Rattle.symmetric_laws.specs.Words.{kept-symmetric}
-use Rattle.symmetric_work.specs.Work.{Repeated}
+use Rattle.symmetric_work.specs.Looks.{Repeated}
 use borrow.Author.Needs.{needs}
 use Rattle.symmetric_work.proofs.is_symmetric.Statement.{statement}
 use Rattle.symmetric_work.proofs.is_symmetric.Tie as tie

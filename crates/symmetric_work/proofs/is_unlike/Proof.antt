@@ -7,7 +7,7 @@ use denote.Ref.{now}
 use lib.ListN.{length}
 use lib.Pow.{pow-pos, pow-mono}
 use Rattle.block.specs.Limits.{tableInputs}
-use Rattle.symmetric_work.specs.Work.{Looking, look-starts, look-goes-on, look-finds, look-ends, looked-some, looked-none}
+use Rattle.symmetric_work.specs.Looks.{Looking, look-starts, look-goes-on, look-finds, look-ends, looked-some, looked-none}
 use borrow.Author.Needs.{needs}
 use Rattle.symmetric_work.proofs.is_unlike.Statement.{statement}
 use Rattle.symmetric_work.proofs.is_unlike.Tie as tie

@@ -12,7 +12,7 @@ use Rattle.block.specs.Words.{ofTable}
 use Rattle.block.specs.Basis.{columns, smaller}
 use Rattle.block.specs.Symmetric.{grayColumn}
 use Rattle.matrix_laws.specs.Images.{Images}
-use Rattle.symmetric_work.specs.Work.{laid-images, still, point-lt, entry-at}
+use Rattle.symmetric_work.specs.Points.{laid-images, still, point-lt, entry-at}
 use borrow.Author.Needs.{needs}
 use Rattle.symmetric_work.proofs.put_gray.Statement.{statement}
 use Rattle.symmetric_work.proofs.put_gray.Tie as tie

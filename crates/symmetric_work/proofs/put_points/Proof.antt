@@ -10,7 +10,7 @@ use Rattle.slices.specs.Places.{tab, over}
 use Rattle.block.specs.Basis.{columns}
 use Rattle.block.specs.Symmetric.{grayColumn}
 use Rattle.matrix_laws.specs.Images.{images-first}
-use Rattle.symmetric_work.specs.Work.{laid-images, laid-held, laid-again, laid-first, column-of}
+use Rattle.symmetric_work.specs.Points.{laid-images, laid-held, laid-again, laid-first, column-of}
 use borrow.Author.Needs.{needs}
 use Rattle.symmetric_work.proofs.put_points.Statement.{statement}
 use Rattle.symmetric_work.proofs.put_points.Tie as tie

@@ -8,7 +8,8 @@ use lib.ListN.{length, getD, length-set}
 use lib.Pow.{pow-pos, pow-mono}
 use Rattle.slices.specs.Places.{tab, over}
 use Rattle.block.specs.Symmetric.{ofCounts, symmetricTable}
-use Rattle.symmetric_work.specs.Work.{laid-again, entered-over, entered-held, entered-first}
+use Rattle.symmetric_work.specs.Points.{laid-again}
+use Rattle.symmetric_work.specs.Entries.{entered-over, entered-held, entered-first}
 use borrow.Author.Needs.{needs}
 use Rattle.symmetric_work.proofs.put_symmetric.Statement.{statement}
 use Rattle.symmetric_work.proofs.put_symmetric.Tie as tie

@@ -7,7 +7,7 @@ use denote.Ref.{now}
 use lib.ListN.{length}
 use Rattle.slices.specs.Places.{tab, over}
 use Rattle.slices.specs.Filled.{over-more}
-use Rattle.symmetric_work.specs.Work.{repeated, repeat-starts, repeat-next}
+use Rattle.symmetric_work.specs.Entries.{repeated, repeat-starts, repeat-next}
 use borrow.Author.Needs.{needs}
 use Rattle.symmetric_work.proofs.repeat_before.Statement.{statement}
 use Rattle.symmetric_work.proofs.repeat_before.Tie as tie
