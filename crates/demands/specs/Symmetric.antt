@@ -9,7 +9,6 @@ use Prim.Native.Nat.{ℕ, _+_, _^_, _≤_, _<_}
 use native.Mathlib.Omega.{arith}
 use borrow.Author.Tests.{le-ltb, eqb-true, eq-eqb}
 use lib.Count.{ones, ones-le}
-use lib.Dec.{eqb}
 use lib.ListN.{length}
 use Rattle.sums.specs.Sums.{one}
 use Rattle.slices.specs.Places.{at, tab}

@@ -3,7 +3,7 @@
 use block::Measures;
 use block::TABLE_INPUTS;
 ghost use mathlib.Core.Path.{_≡_};
-ghost use Prim.Native.Nat.{ℕ, _+_, _≤_, _<_, _^_};
+ghost use Prim.Native.Nat.{_+_, _≤_, _<_, _^_};
 ghost use lib.ListN.{length};
 ghost use Rattle.sums.specs.Sums.{one};
 ghost use Rattle.slices.specs.Places.{tab, over};

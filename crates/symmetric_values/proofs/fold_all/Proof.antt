@@ -1,9 +1,8 @@
 -- `symmetric_values::fold_all` meets its contract. The loop's invariant: those up to `left` are folded as often as the loop went round. The
 -- measure is what is left. Assumes nothing.
 use mathlib.Core.Path.{_≡_}
-use Prim.Native.Nat.{ℕ, _-_, _≤_, _<_}
+use Prim.Native.Nat.{_-_}
 use native.Mathlib.Omega.{arith}
-use denote.Ref.{now}
 use lib.ListN.{length}
 use Rattle.slices.specs.Places.{at}
 use Rattle.symmetric_values.specs.Values.{Folded, fold-starts, fold-goes-on, fold-bounded, fold-ends}

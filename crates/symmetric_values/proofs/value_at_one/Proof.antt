@@ -1,7 +1,7 @@
 -- `symmetric_values::value_at_one` meets its contract. The loop's invariant: the values of the first c counts are there. The measure is what is left.
 -- Assumes nothing.
 use mathlib.Core.Path.{_≡_, refl, _∙_}
-use Prim.Native.Nat.{ℕ, _-_, _≤_, _<_}
+use Prim.Native.Nat.{_-_, _≤_}
 use native.Mathlib.Omega.{arith}
 use denote.Ref.{now}
 use lib.ListN.{length}

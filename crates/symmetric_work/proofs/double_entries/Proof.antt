@@ -1,14 +1,13 @@
 -- `symmetric_work::double_entries` meets its contract. The loop's invariant: the entries below 2^(j + 1) - 2^i are there, and the rest holds what
 -- it held. The measure is i. Assumes nothing.
-use mathlib.Core.Path.{_≡_, refl, sym, ap, _∙_}
-use Prim.Native.Nat.{ℕ, _+_, _≤_, _<_, _-_, _^_}
+use mathlib.Core.Path.{_≡_, refl, ap}
+use Prim.Native.Nat.{ℕ, _+_, _≤_, _-_, _^_}
 use native.Mathlib.Omega.{arith}
 use native.Mathlib.Numerals.{add-one}
 use denote.Ref.{now}
 use lib.ListN.{length}
-use lib.Pow.{pow-pos, pow-mono, pow-lt}
+use lib.Pow.{pow-pos, pow-mono}
 use Rattle.slices.specs.Places.{tab, over}
-use Rattle.slices.specs.Filled.{over-more}
 use Rattle.block.specs.Symmetric.{ofCounts}
 use Rattle.symmetric_work.specs.Entries.{places, entered-held, entries-step, entries-end}
 use borrow.Author.Needs.{needs}

@@ -1,6 +1,6 @@
 -- `symmetric_work::is_symmetric` meets its contract. The loop's invariant: no entry whose lowest zero stands before k is unlike. The measure is
 -- what is left. Assumes nothing.
-use mathlib.Core.Path.{_≡_, sym}
+use mathlib.Core.Path.{sym}
 use Prim.Native.Nat.{ℕ, _≤_, _<_, _-_}
 use native.Mathlib.Omega.{arith}
 use borrow.Author.Count.{below-more}

@@ -1,9 +1,8 @@
 -- `symmetric_work::is_unlike` meets its contract. The loop's invariant: it has come to some number, and no entry before it is unlike. The measure
 -- is what is left. Assumes nothing.
-use mathlib.Core.Path.{_≡_, refl, _∙_}
+use mathlib.Core.Path.{_≡_, refl}
 use Prim.Native.Nat.{ℕ, _≤_, _<_, _-_, _^_}
 use native.Mathlib.Omega.{arith}
-use denote.Ref.{now}
 use lib.ListN.{length}
 use lib.Pow.{pow-pos, pow-mono}
 use Rattle.block.specs.Limits.{tableInputs}

@@ -1,5 +1,4 @@
 -- `table_checks::symmetric_verdict` meets its contract: its checks step by step. Assumes nothing.
-use mathlib.Core.Path.{refl, _∙_}
 use denote.Ref.{now}
 use Rattle.block.specs.Symmetric.{symmetricVerdict}
 use Rattle.table_checks.specs.Steps.{rooms-outputs, rooms-verdict}
