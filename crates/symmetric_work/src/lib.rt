@@ -117,7 +117,8 @@ pub fn put_gray(table: &[u16], n: usize, out: &mut [u16])
     }
 }
 
-// Whether an entry at a number whose lowest zero stands at k differs from the entry at the number without that zero, which has as many one-bits.
+// Looks at the entries at numbers whose lowest zero stands at k, each beside the entry at the number without that zero, which has as many one-bits. False
+// says that none differs; true, that the table is not symmetric.
 fn is_unlike(table: &[u16], n: usize, k: usize) -> bool
     requires { ⌜ (length (now table) ≡ 2 ^ n) × (n ≤ tableInputs) × (k < n) ⌝ }
     ensures { λ r. ⌜ Looked (now (table .entry)) n k r ⌝ }
