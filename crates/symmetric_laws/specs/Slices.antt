@@ -1,15 +1,12 @@
 -- Numbers whose highest inputs, from j down to i + 1, are 1 and whose input i is 0: with the inputs i and i + 1 exchanged each has as many one-bits,
 -- and is smaller by 2^i. Assumes nothing.
-use mathlib.Core.Path.{_≡_, refl, sym, ap, _∙_}
+use mathlib.Core.Path.{_≡_, sym, ap, _∙_}
 use Prim.Native.Nat.{ℕ, zero, suc, _+_, _-_, _*_, _^_, _≤_, _<_}
 use native.Mathlib.Numerals.{add-one}
 use native.Mathlib.Omega.{arith}
 use lib.Count.{ones, onesIn, ones-cat, ones-ones}
 use lib.Pow.{pow-pos, pow-add}
-
-ones-zero : ones 0 ≡ 0
-unfolding ones onesIn
-ones-zero = refl
+use Rattle.bits.specs.Ones.{ones-zero}
 
 -- one input more
 ones-next : (i y : ℕ) → y < 2 ^ i → ones (2 ^ i + y) ≡ ones y + 1
@@ -18,7 +15,7 @@ ones-next i y b =
     let e : 2 ^ i + y ≡ 1 * 2 ^ i + y = omega arith in
     omega (arith, ap ones e ∙ ones-cat i 1 y b)
 
-power-more : (k : ℕ) → 2 ^ (k + 1) ≡ 2 ^ k + 2 ^ k
+pub power-more : (k : ℕ) → 2 ^ (k + 1) ≡ 2 ^ k + 2 ^ k
 power-more k = omega (arith, ap (λ (i : ℕ). 2 ^ i) (add-one k))
 
 -- m + 1 ones above, and m of them with a 0 behind

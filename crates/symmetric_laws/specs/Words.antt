@@ -6,7 +6,6 @@ use mathlib.Core.List.{List}
 use Prim.Native.Nat.{ℕ, zero, suc, _+_, _-_, _*_, _/_, _%_, _^_, _≤_, _<_}
 use native.Mathlib.Decide.{decLt}
 use native.Mathlib.Nat.{mul-add}
-use native.Mathlib.Numerals.{add-one}
 use native.Mathlib.Omega.{arith}
 use borrow.Author.Tests.{eqb-true, eq-eqb, not-false}
 use lib.Arith.{bin-ind}
@@ -18,6 +17,7 @@ use Rattle.slices.specs.Filled.{tab-at, length-tab}
 use Rattle.slices.specs.Least.{first-is, first-below}
 use Rattle.block.specs.Words.{none, ofTable}
 use Rattle.block.specs.Symmetric.{ofCounts, symmetricTable, leastOf, alike, isSymmetric, Symmetric, countWords}
+use Rattle.symmetric_laws.specs.Slices.{power-more}
 use Rattle.symmetric_laws.specs.Blocks.{least-lt, counts-symmetric}
 
 -- the test passes where the words depend on the number of one-bits alone ..
@@ -94,11 +94,11 @@ withoutZero k a = a * 2 ^ k + (2 ^ k - 1)
 
 pub ones-without : (k a : ℕ) → ones (withZero k a) ≡ ones (withoutZero k a)
 ones-without k a =
-    ones-cat (k + 1) a (2 ^ k - 1) (omega (arith, pow-pos k, ap (λ (i : ℕ). 2 ^ i) (add-one k)))
+    ones-cat (k + 1) a (2 ^ k - 1) (omega (arith, pow-pos k, power-more k))
     ∙ sym (ones-cat k a (2 ^ k - 1) (omega (arith, pow-pos k)))
 
 twice : (a k : ℕ) → a * 2 ^ (k + 1) ≡ a * 2 ^ k + a * 2 ^ k
-twice a k = let e : 2 ^ (k + 1) ≡ 2 ^ k + 2 ^ k = omega (arith, ap (λ (i : ℕ). 2 ^ i) (add-one k)) in ap (λ (p : ℕ). a * p) e ∙ mul-add a (2 ^ k) (2 ^ k)
+twice a k = ap (λ (p : ℕ). a * p) (power-more k) ∙ mul-add a (2 ^ k) (2 ^ k)
 
 -- every number has a lowest zero
 lowest-zero : (x : ℕ) → (k : ℕ) × (a : ℕ) × (x ≡ withZero k a)
@@ -107,7 +107,7 @@ lowest-zero = bin-ind (λ x. (k : ℕ) × (a : ℕ) × (x ≡ withZero k a)) (0,
     go : (x : ℕ) → (k : ℕ) × (a : ℕ) × (x / 2 ≡ withZero k a) → Dec (0 < x % 2) → (k : ℕ) × (a : ℕ) × (x ≡ withZero k a)
     go x (k, a, e) (no h) = (0, x / 2, omega arith)
     go x (k, a, e) (yes h) =
-        (k + 1, a, omega (arith, e, twice a (k + 1), pow-pos k, ap (λ (i : ℕ). 2 ^ i) (add-one k)))
+        (k + 1, a, omega (arith, e, twice a (k + 1), pow-pos k, power-more k))
 
 power-below : (k n : ℕ) → 2 ^ k < 2 ^ n → k < n
 power-below k n h = go (decLt k n)

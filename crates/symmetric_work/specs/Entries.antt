@@ -4,7 +4,6 @@ use mathlib.Core.Bool.{cond}
 use mathlib.Core.List.{List}
 use Prim.Native.Nat.{ℕ, _+_, _-_, _^_, _≤_, _<_}
 use native.Mathlib.Decide.{decLt}
-use native.Mathlib.Numerals.{add-one}
 use native.Mathlib.Omega.{arith}
 use borrow.Author.Tests.{lt-ltb, le-ltb}
 use lib.Count.{ones, ones-ones}
@@ -15,7 +14,7 @@ use Rattle.slices.specs.Places.{at, tab, over}
 use Rattle.slices.specs.Filled.{over-more, length-over, over-at, over-beyond, over-is, getD-any}
 use Rattle.block.specs.Words.{none}
 use Rattle.block.specs.Symmetric.{ofCounts}
-use Rattle.symmetric_laws.specs.Slices.{ones-exchanged}
+use Rattle.symmetric_laws.specs.Slices.{power-more, ones-exchanged}
 use Rattle.symmetric_work.specs.Points.{laid-one}
 
 -- the entry at x, where from `start` on each is the one `count` before it
@@ -51,8 +50,8 @@ pub places : (i j end p q : ℕ) → 0 < i → i ≤ j → end ≡ 2 ^ (j + 1) �
     → (q ≤ end - p) × (end - p + q ≡ 2 ^ (j + 1) - 2 ^ (i - 1)) × (p ≤ end) × (end - p + q ≤ end)
 places i j end p q h b e d f =
     let back : i - 1 + 1 ≡ i = omega arith in
-    let half : 2 ^ (i - 1 + 1) ≡ 2 ^ (i - 1) + 2 ^ (i - 1) = omega (arith, ap (λ (c : ℕ). 2 ^ c) (add-one (i - 1))) in
-    let whole : 2 ^ (j + 1) ≡ 2 ^ j + 2 ^ j = omega (arith, ap (λ (c : ℕ). 2 ^ c) (add-one j)) in
+    let half = power-more (i - 1) in
+    let whole = power-more j in
     let same = ap (λ (c : ℕ). 2 ^ c) back in
     let low : 2 ^ i ≤ 2 ^ j = pow-mono b in
     (omega arith, omega arith, omega arith, omega arith)

@@ -14,6 +14,7 @@ use lib.Pow.{pow-mono}
 use Rattle.slices.specs.Filled.{getD-any}
 use Rattle.block.specs.Words.{none, ofTable}
 use Rattle.block.specs.Symmetric.{isSymmetric}
+use Rattle.symmetric_laws.specs.Slices.{power-more}
 use Rattle.symmetric_laws.specs.Words.{passes-symmetric, withZero, withoutZero, ones-without}
 
 -- the entries at a number whose lowest zero stands at k and at the number without it are equal
@@ -57,7 +58,7 @@ module _ (table : List ℕ) (n k : ℕ) where
     pub look-goes-on : (step : ℕ) → step ≡ 2 ^ k → length table ≡ 2 ^ n → with < 2 ^ n → getD table with 0 ≡ getD table without 0
         → Looking table n k (with + (step + step)) (without + step)
     look-goes-on step e len b d =
-        let two : 2 ^ (k + 1) ≡ 2 ^ k + 2 ^ k = omega (arith, ap (λ (i : ℕ). 2 ^ i) (add-one k)) in
+        let two = power-more k in
         record {
           above = l .above + 1;
           there = omega (arith, l .there, one-more (l .above) (2 ^ (k + 1)));

@@ -1,14 +1,14 @@
 -- `symmetric_work::double_entries` meets its contract. The loop's invariant: the entries below 2^(j + 1) - 2^i are there, and the rest holds what
 -- it held. The measure is i. Assumes nothing.
-use mathlib.Core.Path.{_≡_, refl, ap}
-use Prim.Native.Nat.{ℕ, _+_, _≤_, _-_, _^_}
+use mathlib.Core.Path.{_≡_, refl}
+use Prim.Native.Nat.{_+_, _≤_, _-_, _^_}
 use native.Mathlib.Omega.{arith}
-use native.Mathlib.Numerals.{add-one}
 use denote.Ref.{now}
 use lib.ListN.{length}
 use lib.Pow.{pow-pos, pow-mono}
 use Rattle.slices.specs.Places.{tab, over}
 use Rattle.block.specs.Symmetric.{ofCounts}
+use Rattle.symmetric_laws.specs.Slices.{power-more}
 use Rattle.symmetric_work.specs.Entries.{places, entered-held, entries-step, entries-end}
 use borrow.Author.Needs.{needs}
 use Rattle.symmetric_work.proofs.double_entries.Statement.{statement}
@@ -33,7 +33,7 @@ loop-holds c =
     let s = c .before .before .before in
     let e = c .size .ensures in
     let most : 2 ^ (s .args .j + 1) ≤ 2 ^ s .args .n = pow-mono (omega arith) in
-    let whole : 2 ^ (s .args .j + 1) ≡ 2 ^ s .args .j + 2 ^ s .args .j = omega (arith, ap (λ (i : ℕ). 2 ^ i) (add-one (s .args .j))) in
+    let whole = power-more (s .args .j) in
     let first : 2 ^ (s .args .j + 1) - 2 ^ s .args .j ≡ 2 ^ s .args .j = omega arith in (
       search needs,
       e,

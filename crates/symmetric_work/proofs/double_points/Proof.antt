@@ -1,9 +1,8 @@
 -- `symmetric_work::double_points` meets its contract. The loop's invariant: T at each number below size + z is there, and the rest holds what it
 -- held. The measure is what is left. Assumes nothing.
-use mathlib.Core.Path.{_≡_, ap}
-use Prim.Native.Nat.{ℕ, suc, _+_, _≤_, _-_, _^_}
+use mathlib.Core.Path.{_≡_}
+use Prim.Native.Nat.{suc, _+_, _≤_, _-_, _^_}
 use native.Mathlib.Omega.{arith}
-use native.Mathlib.Numerals.{add-one}
 use denote.Ref.{now}
 use lib.ListN.{length}
 use lib.Pow.{pow-mono}
@@ -11,6 +10,7 @@ use Rattle.slices.specs.Places.{tab, over}
 use Rattle.slices.specs.Filled.{over-more}
 use Rattle.block.specs.Basis.{columns}
 use Rattle.block.specs.Symmetric.{grayColumn}
+use Rattle.symmetric_laws.specs.Slices.{power-more}
 use Rattle.symmetric_work.specs.Points.{laid-images, laid-held, next-value}
 use borrow.Author.Needs.{needs}
 use Rattle.symmetric_work.proofs.double_points.Statement.{statement}
@@ -79,7 +79,7 @@ same-length c = search needs
 returns : tie.Need-returns Inv-loop μ-loop
 returns c =
     let s = c .before .before .before .before in
-    let end : 2 ^ s .args .i + c .before .loop .z ≡ 2 ^ (s .args .i + 1) = omega (arith, ap (λ (k : ℕ). 2 ^ k) (add-one (s .args .i))) in
+    let end : 2 ^ s .args .i + c .before .loop .z ≡ 2 ^ (s .args .i + 1) = omega (arith, power-more (s .args .i)) in
     rw end at (c .before .loop .inv .4)
 
 pub double-points-spec : {M : Type 1} → statement M
