@@ -1,12 +1,12 @@
 -- What an answer of 0 says of a list of rows, by named fields; how it follows from each operation's checks, and that a list with those
 -- facts is answered: here alone a proof knows in which order they are asked. Not here: tables (crate table_checks), and what 0 says of
 -- slices that hold the rows (crate flat_rows). Assumes nothing.
-use mathlib.Core.Path.{_≡_, refl, _∙_}
+use mathlib.Core.Path.{_≡_, refl, ap, _∙_}
 use mathlib.Core.Bool.{Bool, true, false, not}
 use mathlib.Core.List.{List, [], _∷_, _++_}
 use Prim.Native.Nat.{ℕ, suc, _-_, _^_, _≤_, _<_}
 use native.Mathlib.Omega.{arith}
-use borrow.Author.Tests.{le-ltb, ltb-true, ltb-false, not-false}
+use borrow.Author.Tests.{lt-ltb, le-ltb, ltb-true, ltb-false, not-false}
 use lib.Dec.{ltb}
 use lib.ListN.{length}
 use Rattle.slices.specs.Least.{first-below}
@@ -14,6 +14,7 @@ use Rattle.block.specs.Limits.{listInputs, tableInputs, outputs, givenRows, sma
 use Rattle.block.specs.Words.{fr, fd, missing}
 use Rattle.block.specs.Refusals.{Check, check, answer, verdict, outside, typedChecks, badRow, rowAt, sharing}
 use Rattle.block.specs.Lists.{countCheck, badRowCheck, rowChecks, rowValueVerdict, rowsAfter, passing, passingCheck, methodChecked, methodChecks, smallerList, fillVerdict}
+use Rattle.block.specs.Reasons.{whyVerdict}
 use Rattle.block.specs.declared.Row.{Row}
 use Rattle.refusal_laws.specs.Verdicts.{verdict-miss, verdict-none, none-passes, passes, Numbered}
 use Rattle.shared_checks.specs.Sizes.{inside, within, sizes-pass}
@@ -46,6 +47,13 @@ pub record MethodPassed (n k y w : ℕ) (rs : List Row) (short : Bool) : Type 0 
 pub record MethodAnswered (n k y w : ℕ) (rs : List Row) (short : Bool) : Type 0 where
   pub passed : MethodPassed n k y w rs short
   pub few : length (smallerList (missing y) n w rs) ≤ smallerRows
+
+-- why a number was not taken
+pub record WhyPassed (n k y w t : ℕ) (rs : List Row) : Type 0 where
+  pub list : Passed listInputs givenRows n k rs
+  pub typed : (fr ≤ y) × (y ≤ fd)
+  pub weight : (1 ≤ w) × (w ≤ n)
+  pub number : t < 2 ^ n
 
 -- greater limits hold too
 pub in-range-more : {inputs most n k : ℕ} {rs : List Row} (wider more : ℕ) → inputs ≤ wider → most ≤ more → InRange inputs most n k rs
@@ -195,3 +203,41 @@ module _ (n k y w : ℕ) (rs : List Row) (short : Bool) where
         passed = p .0;
         few = few-rows (p .0 .list .range .size .0) (ltb-false (passing (missing y) n w rs) n (last .0));
       }
+
+-- ---- why a number was not taken
+
+module _ (n k y w t : ℕ) (rs : List Row) where
+  pub why-ranges : (rest : List Check)
+      → verdict (typedChecks listInputs n k y (check (outside 1 n w) 3 0 0 ∷ check (not (ltb t (2 ^ n))) 3 0 0 ∷ countCheck givenRows rs ∷ rest)) .number ≡ 0
+      → InRange listInputs givenRows n k rs × ((fr ≤ y) × (y ≤ fd)) × ((1 ≤ w) × (w ≤ n)) × (t < 2 ^ n) × (verdict rest .number ≡ 0)
+  why-ranges rest h =
+      let sizes = sizes-pass listInputs n k y _ h in
+      let weight = passes _ _ refl (sizes .1) in
+      let point = passes _ _ refl (weight .1) in
+      let count = passes _ _ refl (point .1) in (
+        record { size = sizes .0 .0; columns = sizes .0 .1; count = inside 1 givenRows (length rs) (count .0) },
+        sizes .0 .2,
+        inside 1 n w (weight .0),
+        ltb-true t (2 ^ n) (not-false _ (point .0)),
+        count .1,
+      )
+
+  pub why-passed : whyVerdict n k y w t rs .number ≡ 0 → WhyPassed n k y w t rs
+  unfolding whyVerdict
+  why-passed h =
+      let r = why-ranges (rowChecks n k rs) h in
+      record { list = rows-pass listInputs givenRows n k rs [] (r .0) (r .4) .0; typed = r .1; weight = r .2; number = r .3 }
+
+  -- a list with those facts is answered
+  pub why-answers : WhyPassed n k y w t rs → whyVerdict n k y w t rs ≡ answer 0 0 0
+  unfolding whyVerdict
+  why-answers p =
+      let r = p .list .range in
+      verdict-miss _ _ (within 1 listInputs n (r .size .0) (r .size .1))
+      ∙ verdict-miss _ _ (within 1 outputs k (r .columns .0) (r .columns .1))
+      ∙ verdict-miss _ _ (within fr fd y (p .typed .0) (p .typed .1))
+      ∙ verdict-miss _ _ (within 1 n w (p .weight .0) (p .weight .1))
+      ∙ verdict-miss _ _ (ap not (lt-ltb t (2 ^ n) (p .number)))
+      ∙ verdict-miss _ _ (within 1 givenRows (length rs) (r .count .0) (r .count .1))
+      ∙ rows-answer n k rs [] (p .list)
+      ∙ verdict-none

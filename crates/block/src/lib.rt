@@ -171,3 +171,29 @@ pub enum Reading {
     Accepted(Headings),
     Refused(Refusal),
 }
+
+// Why a number t was not taken (02, Ticket 7): t is 0; t has more one-bits than the weight limit; t was taken, at this step, from 1; or t is
+// the XOR of the numbers taken at the steps of this set, each of which stands before t: bit j - 1 stands for step j.
+pub enum Reason {
+    Zero,
+    Over,
+    Taken(usize),
+    Xor(u32),
+}
+
+// The answer to why a number was not taken.
+pub enum Why {
+    Given(Reason),
+    Refused(Answer),
+}
+
+// The same in numbers: the reason is 1 to 4 in the order above, and 0 with a refusal; the step and the set are 0 where the reason has none.
+#[repr(C)]
+pub struct WhyAnswer {
+    pub number: u32,
+    pub a: usize,
+    pub b: usize,
+    pub reason: u32,
+    pub step: usize,
+    pub set: u32,
+}

@@ -26,7 +26,7 @@ abbrev pub TakenBy : (ℕ → ℕ → Bool) → ℕ → ℕ → (ℕ → ℕ) �
 TakenBy order n w c k = (j : ℕ) → j < k → Choice order (candidate w c j) (2 ^ n) (c j)
 
 -- a number with 1 to w one-bits is a candidate unless it is an XOR of some of those before
-candidate-when : (w : ℕ) (c : ℕ → ℕ) (k t : ℕ) → 1 ≤ ones t → ones t ≤ w → span c k t ≡ false → candidate w c k t ≡ true
+pub candidate-when : (w : ℕ) (c : ℕ → ℕ) (k t : ℕ) → 1 ≤ ones t → ones t ≤ w → span c k t ≡ false → candidate w c k t ≡ true
 unfolding candidate
 candidate-when w c k t a b e = rw (le-leb 1 (ones t) a, le-leb (ones t) w b, e)
 
