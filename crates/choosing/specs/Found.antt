@@ -4,6 +4,7 @@ use mathlib.Core.Path.{_≡_, sym, ap, _∙_, fun-ext}
 use mathlib.Core.List.{List}
 use Prim.Native.Nat.{ℕ, _^_, _≤_, _<_}
 use native.Mathlib.Omega.{arith}
+use lib.ListN.{length, drop, List·getD-append}
 use lib.Pow.{pow-lt}
 use Rattle.bits.specs.Parity.{ones-pow}
 use Rattle.slices.specs.Places.{at, tab, over}
@@ -14,7 +15,7 @@ use Rattle.block.specs.Basis.{basisOf, sigmaOf, smallerOf}
 use Rattle.choice_laws.specs.Chosen.{Agree, pick, pick-lt, pick-cong, basis-tab, basis-at}
 use Rattle.matrix_laws.specs.Reach.{reachRows}
 use Rattle.matrix_laws.specs.Candidate.{pick-ones, basis-independent}
-use Rattle.matrix_laws.specs.Inverse.{sigma-tab}
+use Rattle.matrix_laws.specs.Inverse.{sigma-tab, length-basis, length-sigma}
 use Rattle.matrix_laws.specs.Smaller.{measure-smaller}
 use Rattle.choosing.specs.Steps.{ChosenBasis}
 use Rattle.block.specs.declared.Measures.{Measures}
@@ -25,6 +26,17 @@ pub record Found (f : ℕ → ℕ) (n w : ℕ) (t s t′ s′ : List ℕ) (r : M
   pub sigma : s′ ≡ over (sigmaOf f n w) s
   pub earlier : r .before ≡ measure f n
   pub later : r .after ≡ measure (smallerOf f n w) n
+
+-- what lies there is read as T and sigma are
+module _ {f : ℕ → ℕ} {n w : ℕ} {t s t′ s′ : List ℕ} {r : Measures} (o : Found f n w t s t′ s′ r) where
+  front : (x p p′ : List ℕ) → p′ ≡ over x p → length x ≡ n → (j : ℕ) → j < n → at p′ j ≡ at x j
+  front x p p′ e m j h = ap (λ (l : List ℕ). at l j) e ∙ List·getD-append x (drop (length x) p) 0 j (omega arith)
+
+  pub found-basis-at : (j : ℕ) → j < n → at t′ j ≡ at (basisOf f n w) j
+  found-basis-at = front (basisOf f n w) t t′ (o .basis) (length-basis f n w)
+
+  pub found-sigma-at : (j : ℕ) → j < n → at s′ j ≡ at (sigmaOf f n w) j
+  found-sigma-at = front (sigmaOf f n w) s s′ (o .sigma) (length-sigma f n w)
 
 module _ (f : ℕ → ℕ) (n w : ℕ) (hw : 1 ≤ w) (v : ℕ → ℕ) (agree : Agree v (shift f n) n w) where
   picked : pick v n w ≡ pick (shift f n) n w

@@ -10,11 +10,12 @@ use lib.Dec.{ltb}
 use Rattle.block.specs.Limits.{listInputs, tableInputs, givenRows, smallerRows}
 use Rattle.block.specs.Refusals.{check, verdict, andThen, outside, typedChecks}
 use Rattle.block.specs.Lists.{countCheck, rowChecks, rowValueVerdict, methodChecked, fillVerdict}
+use Rattle.block.specs.Reasons.{whyVerdict}
 use Rattle.block.specs.declared.Row.{Row}
 use Rattle.block.specs.declared.Answer.{Answer}
 use Rattle.refusal_laws.specs.Verdicts.{zero-too, Asked, asked-then, asked-where}
 use Rattle.shared_checks.specs.Sizes.{asked-sizes, sizes-pass}
-use Rattle.answered_laws.specs.Passed.{InRange, in-range-more, rows-numbered, value-ranges, fill-ranges, method-ranges}
+use Rattle.answered_laws.specs.Passed.{InRange, in-range-more, rows-numbered, value-ranges, fill-ranges, method-ranges, why-ranges}
 
 -- ---- a single shift value; `size` is 2^n where n is in range
 
@@ -74,3 +75,24 @@ module _ (n k y w : ℕ) (rs : List Row) (short light : Bool) (test : light ≡ 
 
   pub method-verdict : (v : Answer) → v ≡ andThen lent (verdict (rowChecks n k rs)) → v ≡ verdict (methodChecked n k y w rs short)
   method-verdict v e = asked-then (rowChecks n k rs) v method-asked (rows-numbered n k rs) e .told
+
+-- ---- why a number was not taken; `light` is the test of w, and `size` is 2^n where n is in range
+
+module _ (n k y w t : ℕ) (rs : List Row) (light : Bool) (test : light ≡ outside 1 n w) (size : ℕ) (power : n ≤ listInputs → size ≡ 2 ^ n)
+    (sizes weight point count : Answer) (first : sizes ≡ verdict (typedChecks listInputs n k y []))
+    (second : weight ≡ andThen sizes (verdict (check light 3 0 0 ∷ []))) (third : point ≡ andThen weight (verdict (check (not (ltb t size)) 3 0 0 ∷ [])))
+    (fourth : count ≡ andThen point (verdict (countCheck givenRows rs ∷ []))) where
+  why-asked : Asked (typedChecks listInputs n k y (check (outside 1 n w) 3 0 0 ∷ check (not (ltb t (2 ^ n))) 3 0 0 ∷ countCheck givenRows rs ∷ [])) count
+  why-asked =
+      asked-then (countCheck givenRows rs ∷ []) count
+      (asked-where (not (ltb t size)) (not (ltb t (2 ^ n))) 3 0 0 point
+      (asked-where light (outside 1 n w) 3 0 0 weight (asked-sizes listInputs n k y sizes first) refl second (λ h. test)) refl third
+      (λ h. ap (λ (p : ℕ). not (ltb t p)) (power (sizes-pass listInputs n k y (check (outside 1 n w) 3 0 0 ∷ []) h .0 .0 .1))))
+      (refl, tt) fourth
+
+  pub why-in-range : count .number ≡ 0 → InRange listInputs smallerRows n k rs
+  why-in-range h = in-range-more listInputs smallerRows (omega arith) (omega arith) (why-ranges n k y w t rs [] (zero-too (why-asked .told) h) .0)
+
+  pub why-verdict : (v : Answer) → v ≡ andThen count (verdict (rowChecks n k rs)) → v ≡ whyVerdict n k y w t rs
+  unfolding whyVerdict
+  why-verdict v e = asked-then (rowChecks n k rs) v why-asked (rows-numbered n k rs) e .told

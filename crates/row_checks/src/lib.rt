@@ -11,6 +11,7 @@ ghost use Rattle.block.specs.Limits.{listInputs, smallerRows};
 ghost use Rattle.block.specs.Words.{rowsOf};
 ghost use Rattle.block.specs.Refusals.{verdict, andThen};
 ghost use Rattle.block.specs.Lists.{countCheck, rowChecks, rowValueVerdict, methodChecked, fillVerdict};
+ghost use Rattle.block.specs.Reasons.{whyVerdict};
 ghost use Rattle.answered_laws.specs.Passed.{InRange};
 
 // 4: from 1 to most rows.
@@ -96,4 +97,25 @@ pub fn method_checked(
     let count = then_count(weight, GIVEN_ROWS, masks, values, words);
     let lent = shared_checks::then_where(count, short, 5, 0, 0);
     then_rows(lent, n, k, masks, values, words)
+}
+
+// The verdict on why t was not taken, with weight limit w.
+pub fn why_verdict(
+    n: usize,
+    k: usize,
+    block_type: usize,
+    w: usize,
+    t: usize,
+    masks: &[u32],
+    values: &[u32],
+    words: &[u32],
+) -> Answer
+    ensures { λ r. ⌜ r ≡ whyVerdict n k «block_type» w t (rowsOf (now (masks .entry)) (now (values .entry)) (now (words .entry))) ⌝ }
+{
+    let sizes = shared_checks::sizes(LIST_INPUTS, n, k, block_type);
+    let weight = shared_checks::then_where(sizes, shared_checks::is_outside(1, n, w), 3, 0, 0);
+    let below = t < shared_checks::size_of(n);
+    let point = shared_checks::then_where(weight, !below, 3, 0, 0);
+    let count = then_count(point, GIVEN_ROWS, masks, values, words);
+    then_rows(count, n, k, masks, values, words)
 }

@@ -2,29 +2,27 @@
 use mathlib.Core.Path.{_≡_, refl, sym, ap, _∙_}
 use mathlib.Core.Bool.{cond}
 use mathlib.Core.List.{List}
-use Prim.Native.Nat.{ℕ, suc, _≤_, _<_}
+use Prim.Native.Nat.{ℕ, suc, _≤_}
 use native.Mathlib.Omega.{arith}
 use lib.Dec.{ltb}
-use lib.ListN.{length, drop, List·getD-append}
+use lib.ListN.{length}
 use Rattle.slices.specs.Places.{at, tab, over}
 use Rattle.slices.specs.Filled.{length-tab, tab-front}
 use Rattle.slices.specs.Least.{first-cong}
 use Rattle.block.specs.Limits.{smallerRows}
 use Rattle.block.specs.Words.{row, ofRows}
-use Rattle.block.specs.Measure.{shift, measure}
+use Rattle.block.specs.Measure.{measure}
 use Rattle.block.specs.Basis.{basisOf, sigmaOf, smallerOf}
 use Rattle.block.specs.Rows.{moved}
 use Rattle.block.specs.Lists.{rowsAfter, passing, smallerList}
 use Rattle.block.specs.declared.Row.{Row}
 use Rattle.flat_rows.specs.Listing.{rowsFrom}
-use Rattle.choice_laws.specs.Chosen.{length-chosen}
 use Rattle.matrix_laws.specs.Reached.{Independent, independent-cong}
 use Rattle.matrix_laws.specs.Candidate.{basis-independent}
-use Rattle.matrix_laws.specs.Inverse.{length-inverse}
+use Rattle.matrix_laws.specs.Inverse.{length-basis, length-sigma}
 use Rattle.step_laws.specs.Moved.{moved-cong}
-use Rattle.choosing.specs.Found.{Found}
+use Rattle.choosing.specs.Found.{Found, found-basis-at}
 use Rattle.block.specs.declared.Measures.{Measures}
-use Rattle.row_adding.specs.Held.{rows-copied}
 use Rattle.row_steps.specs.Passed.{passingBy, Replayed}
 use Rattle.row_steps.specs.declared.Replay.{Replay}
 use Rattle.moved_rows.specs.Put.{ListPut}
@@ -57,27 +55,14 @@ pub record RowsWorked (missing n w : ℕ) (rs : List Row) (t s m v d t′ s′ m
 -- ---- T, sigma and the steps, by what was found in working storage
 
 module _ (missing n w : ℕ) (hw : 1 ≤ w) (rs : List Row) (t s t′ s′ : List ℕ) (r : Measures) (o : Found (ofRows missing rs) n w t s t′ s′ r) where
-  basis-length : length (basisOf (ofRows missing rs) n w) ≡ n
-  unfolding basisOf
-  basis-length = length-chosen (shift (ofRows missing rs) n) n w n
-
-  sigma-length : length (sigmaOf (ofRows missing rs) n w) ≡ n
-  unfolding sigmaOf
-  sigma-length = length-inverse (at (basisOf (ofRows missing rs) n w)) n
-
-  column : (j : ℕ) → j < n → at t′ j ≡ at (basisOf (ofRows missing rs) n w) j
-  column j h =
-      ap (λ (l : List ℕ). at l j) (o .basis)
-      ∙ List·getD-append (basisOf (ofRows missing rs) n w) (drop (length (basisOf (ofRows missing rs) n w)) t) 0 j (omega (arith, basis-length))
-
   -- the columns found are independent
   pub found-independent : Independent (at t′) n n
   found-independent =
-      independent-cong (at (basisOf (ofRows missing rs) n w)) (at t′) n n (λ j h. sym (column j h)) (basis-independent (ofRows missing rs) n w hw)
+      independent-cong (at (basisOf (ofRows missing rs) n w)) (at t′) n n (λ j h. sym (found-basis-at o j h)) (basis-independent (ofRows missing rs) n w hw)
 
   after : (i : ℕ) → i ≤ n → moved n (at t′) i rs ≡ rowsAfter missing n w i rs
   unfolding rowsAfter
-  after i h = moved-cong n (at t′) (at (basisOf (ofRows missing rs) n w)) i rs (λ j l. column j (omega arith))
+  after i h = moved-cong n (at t′) (at (basisOf (ofRows missing rs) n w)) i rs (λ j l. found-basis-at o j (omega arith))
 
   moved-all : moved n (at t′) n rs ≡ smallerList missing n w rs
   unfolding smallerList
@@ -117,11 +102,11 @@ module _ (missing n w : ℕ) (hw : 1 ≤ w) (rs : List Row) (t s t′ s′ : Lis
                 basis =
                     e
                     ∙ ap (λ (x : List ℕ). over x T)
-                    (ap (λ (x : List ℕ). tab n (at x)) (o .basis) ∙ tab-front n (basisOf (ofRows missing rs) n w) t 0 basis-length);
+                    (ap (λ (x : List ℕ). tab n (at x)) (o .basis) ∙ tab-front n (basisOf (ofRows missing rs) n w) t 0 (length-basis (ofRows missing rs) n w));
                 sigma =
                     g
                     ∙ ap (λ (x : List ℕ). over x S)
-                    (ap (λ (x : List ℕ). tab n (at x)) (o .sigma) ∙ tab-front n (sigmaOf (ofRows missing rs) n w) s 0 sigma-length);
+                    (ap (λ (x : List ℕ). tab n (at x)) (o .sigma) ∙ tab-front n (sigmaOf (ofRows missing rs) n w) s 0 (length-sigma (ofRows missing rs) n w));
                 list = rw (sym rows) l;
                 earlier = o .earlier;
                 later = o .later;
