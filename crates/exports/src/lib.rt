@@ -2,6 +2,7 @@
 // is passed as a pointer and then a length, an array as a pointer alone, and an answer comes back as a struct of numbers. The names begin
 // with irwystl_, those on rows that are lent as records with irwystl_records_. This crate holds nothing else.
 use block::Answer;
+use block::LIST_INPUTS;
 use block::MODEL_ROOM;
 use block::ModelAnswer;
 use block::ReadAnswer;
@@ -11,6 +12,7 @@ use block::SHEET_ROOM;
 use block::TableMethodAnswer;
 use block::TextAnswer;
 use block::ValueAnswer;
+use block::WhyAnswer;
 use importing::Imported;
 ghost use Rattle.block.specs.Words.{rowsOf};
 ghost use Rattle.block.specs.ModelRead.{patternsFlat};
@@ -18,6 +20,7 @@ ghost use Rattle.promises.specs.Lent.{lentFlat, lentRecords};
 ghost use Rattle.promises.specs.Tables.{TableValuePromise, TableMethodPromise, RestorePromise, SpectrumPromise};
 ghost use Rattle.promises.specs.Symmetric.{SymmetricBlockPromise, TableSymmetricPromise};
 ghost use Rattle.promises.specs.Lists.{RowValuePromise, RowMethodPromise, FillPromise};
+ghost use Rattle.promises.specs.Reasons.{WhyNotPromise};
 ghost use Rattle.promises.specs.Texts.{WritePromise, ReadPromise};
 ghost use Rattle.promises.specs.Sheets.{SheetPromise, PrintPromise};
 ghost use Rattle.promises.specs.Models.{WriteModelPromise, ReadModelPromise, ModelValuePromise, PrintModelPromise};
@@ -165,6 +168,25 @@ pub extern "C" fn irwystl_row_method(
 }
 
 #[no_mangle]
+pub extern "C" fn irwystl_why_not(
+    n: usize,
+    k: usize,
+    block_type: usize,
+    w: usize,
+    t: usize,
+    masks: &[u32],
+    values: &[u32],
+    words: &[u32],
+    taken: &mut [u32; LIST_INPUTS],
+) -> WhyAnswer
+    ensures { λ r. ⌜ WhyNotPromise n k «block_type» w t (rowsOf (now (masks .entry)) (now (values .entry)) (now (words .entry)))
+        (now (taken .entry)) r (now (taken .exit)) ⌝ }
+{
+    let why = reasons::why_not(n, k, block_type, w, t, masks, values, words, taken);
+    reason_numbers::in_numbers(why)
+}
+
+#[no_mangle]
 pub extern "C" fn irwystl_fill_table(
     n: usize,
     k: usize,
@@ -259,6 +281,22 @@ pub extern "C" fn irwystl_records_row_method(
         (now (basis .entry)) (now (sigma .entry)) r (now (basis .exit)) (now (sigma .exit)) ⌝ }
 {
     records::row_method(n, k, block_type, w, rows, basis, sigma, smaller)
+}
+
+#[no_mangle]
+pub extern "C" fn irwystl_records_why_not(
+    n: usize,
+    k: usize,
+    block_type: usize,
+    w: usize,
+    t: usize,
+    rows: &[Row],
+    taken: &mut [u32; LIST_INPUTS],
+) -> WhyAnswer
+    ensures { λ r. ⌜ WhyNotPromise n k «block_type» w t (now (rows .entry)) (now (taken .entry)) r (now (taken .exit)) ⌝ }
+{
+    let why = records::why_not(n, k, block_type, w, t, rows, taken);
+    reason_numbers::in_numbers(why)
 }
 
 #[no_mangle]

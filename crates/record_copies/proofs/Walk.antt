@@ -4,13 +4,14 @@
 -- The context of a walk has the local i at the position i, then that each local dies, and then what is owned, each new piece at the end.
 -- A place is read off the code, so that positions are counted only among what is owned. In order:
 --     Known                    what a walk needs of a parameter's type: how its machine values are spelled, and that they are typed
---     a-num, a-slice, a-mut-slice      it, of a number, of a `&[T]` and of a `&mut [T]`
+--     a-num, a-slice, a-mut-slice, a-mut-ref      it, of a number, of a `&[T]`, of a `&mut [T]` and of a `&mut T`, as of an array
 --     so                       a fact as a clause. Where there is none, `id⊢ 𝓤 _`
 --     alloc-all, free-rooms    the locals are allocated, and freed, at once
 --     concludes                the theorem of the function, from its walk: this begins where the parameters are in their locals, in
 --                              front of a token for each lifetime and what each parameter owns, and ends in `ends`
 --     concludes-walk           the theorem of a function that its own proof walks, as `gather` and `scatter`, which have loops
 --     arg, field-of            an operand that is a local, and then the others; one that is a field of a local
+--     behind                   the address by which a `&mut T` is passed on
 --     puts, puts-over, keeps   a local is assigned; likewise one that holds a value; a call's result is stored in a local
 --     lends                    the two statements by which a slice is passed on
 --     asks                     a call. What is owned at the positions π is the callee's tokens and then the references that it is
@@ -48,6 +49,7 @@ use types.Run.{Opd, Opds, Rv, look, init, store, stop, hop, fld, from, load, add
 use denote.RattleType.{RattleType, Denots, Valss, mirs, flat, owns}
 use denote.Laws.{Is, Are, Ises, Spells, Tells, Tellss, valss, shows, Makes, Typed, Lawful, Lawfuls, all-typed}
 use denote.Plain.{UInt, uint-vals, uint-tells, uint-lawful}
+use denote.Ref.{MutRef, ptr-vals, mut-tells, mut-lawful}
 use denote.Slice.{ShrSlice, MutSlice, slice-vals, shr-slice-tells, mut-slice-tells, shr-slice-lawful, mut-slice-lawful}
 use denote.Signature.{Slot, typeAt, typesAt}
 use denote.Steps.{said, facts, heard, owned}
@@ -197,6 +199,9 @@ module _ {M : Type 1} (𝓤 : URA M) (H : Heap 𝓤) (A : Atoms 𝓤) where
 
     abbrev pub a-mut-slice : (ℓ : Lifetime) (κ : Lft) (R : RattleType) → Known (MutSlice ℓ κ R)
     a-mut-slice ℓ κ R = record { vals = slice-vals; tells = mut-slice-tells ℓ κ R; lawful = mut-slice-lawful 𝓤 H A W ℓ κ R }
+
+    abbrev pub a-mut-ref : (ℓ : Lifetime) (κ : Lft) (R : RattleType) → Known (MutRef ℓ κ R)
+    a-mut-ref ℓ κ R = record { vals = ptr-vals; tells = mut-tells ℓ κ R; lawful = mut-lawful 𝓤 H A W ℓ κ R }
 
 -- ---- the locals
 abbrev pub Blocks : List Local → Type 0
@@ -401,6 +406,10 @@ module _ {M : Type 1} {𝓤 : URA M} {H : Heap 𝓤} {A : Atoms 𝓤} {K : Type 
     -- an operand that is a field of a local
     pub field-of : K → {i k : ℕ} {s : Share} {τ : Ty} {d : ℕ} {v : Val} {back : Val → Item 𝓤} → fieldOf (spotOf 𝓤 H E i .0) k ≡ yields (τ, d) → Part K W (nth 𝓤 H A i Γ) s τ (spotOf 𝓤 H E i .1) (spotOf 𝓤 H E i .2 + d) v back → Opd K W Γ E (copy (place i (field k ∷ []))) v
     field-of t {i} e p = load t (from t (fld t e (stop t))) (look-in t i p)
+
+    -- the place that a reference in a local points to, by whose address it is passed on
+    pub behind : K → {i : ℕ} {s : Share} {τ : Ty} {b o : ℕ} → nth 𝓤 H A i Γ ≡ ‵ (fat s (spotOf 𝓤 H E i .0) (spotOf 𝓤 H E i .1) (spotOf 𝓤 H E i .2) (vptr b o)) → Rv K W Γ E (addrOf (place i (deref τ ∷ []))) (vptr b o)
+    behind t {i} e = addr t (from t (hop t (look t i e) (stop t)))
 
     module _ {C : Calls 𝓤 H} {Λ : Loops 𝓤 H} {q : Post 𝓤 H} {rest : Body} where
       -- a local that is room is assigned

@@ -14,15 +14,17 @@ use lib.Seq.{take-all}
 use Rattle.block.specs.Limits.{listInputs, tableInputs, givenRows, smallerRows, textRoom, sheetRoom}
 use Rattle.block.specs.Words.{fr, missing, ofRows}
 use Rattle.block.specs.Measure.{shift, measure}
-use Rattle.block.specs.Basis.{smallerOf}
+use Rattle.block.specs.Basis.{basisOf, smallerOf}
 use Rattle.block.specs.Refusals.{Check, check, verdict, answered, andThen, carried, stored, outside, typedChecks}
 use Rattle.block.specs.Tables.{withValue}
 use Rattle.block.specs.Lists.{countCheck, badRowCheck, rowChecks, rowValueVerdict, rowValue, passingCheck, methodChecks, rowMethodVerdict, rowMethod, smallerList, fillVerdict, filled}
 use Rattle.block.specs.Text.{withBytes, writeVerdict, writeText, textOf}
 use Rattle.block.specs.Sheet.{sheet, sheetVerdict, sheetText}
 use Rattle.block.specs.Model.{modelText, modelVerdict, writeModel}
+use Rattle.block.specs.Reasons.{reasonOf, whyVerdict, whyNot}
 use Rattle.block.specs.declared.Row.{Row}
 use Rattle.block.specs.declared.Answer.{Answer}
+use Rattle.block.specs.declared.Why.the-variants.{Given, Refused}
 use Rattle.refusal_laws.specs.Verdicts.{verdict-hit, verdict-miss, Numbered, verdict-parts}
 
 -- the rows that are looked at: one more than any operation takes
@@ -157,6 +159,25 @@ module _ (n k y w room : ℕ) where
       ≡ stored (sheetVerdict n k y w rs room) (sheetText (missing y) n k w rs) out
   unfolding sheetVerdict
   sheet-stored-cut out = method-alike n k y w (ltb room sheetRoom) (λ v l. stored v (sheetText (missing y) n k w l) out) (λ v l m h. rw h)
+
+-- ---- why a number was not taken
+
+module _ (n k y w t : ℕ) where
+  why-alike : {X : Type 0} (F : Answer → List Row → X) → ((v : Answer) (l m : List Row) → answered v ≡ false → F v l ≡ F v m)
+      → (rs : List Row) → F (whyVerdict n k y w t (take cutRows rs)) (take cutRows rs) ≡ F (whyVerdict n k y w t rs) rs
+  unfolding whyVerdict
+  why-alike =
+      cut-same (typedChecks listInputs n k y (check (outside 1 n w) 3 0 0 ∷ check (not (ltb t (2 ^ n))) 3 0 0 ∷ [])) givenRows (rowChecks n k)
+      (refl, (refl, (refl, (refl, (refl, tt))))) (omega arith)
+
+  pub why-cut : (rs : List Row) → whyNot n k y w t (take cutRows rs) ≡ whyNot n k y w t rs
+  unfolding whyNot
+  why-cut = why-alike (λ v l. cond (answered v) (Given (reasonOf (ofRows (missing y) l) n w t)) (Refused v)) (λ v l m h. rw h)
+
+  pub taken-cut : (taken : List ℕ) (rs : List Row)
+      → stored (whyVerdict n k y w t (take cutRows rs)) (basisOf (ofRows (missing y) (take cutRows rs)) n w) taken
+      ≡ stored (whyVerdict n k y w t rs) (basisOf (ofRows (missing y) rs) n w) taken
+  taken-cut taken = why-alike (λ v l. stored v (basisOf (ofRows (missing y) l) n w) taken) (λ v l m h. rw h)
 
 -- ---- a model, whose own length is looked at last
 

@@ -1,7 +1,7 @@
 -- From arrays to records: what a function promises of the arrays that records were copied out to, the operation promises of the records,
 -- since it looks at no more of them than were copied (`Cut`); and where the arrays are copied in as records, these are what the operation
 -- stores. Assumes nothing.
-use mathlib.Core.Path.{_≡_}
+use mathlib.Core.Path.{_≡_, ap}
 use mathlib.Core.List.{List}
 use Prim.Native.Nat.{ℕ, min}
 use lib.ListN.{length}
@@ -12,20 +12,23 @@ use Rattle.block.specs.Lists.{rowValue, rowMethodVerdict, rowMethod, smallerLis
 use Rattle.block.specs.Text.{textOf, writeVerdict, writeText}
 use Rattle.block.specs.Sheet.{sheet, sheetVerdict, sheetText}
 use Rattle.block.specs.Model.{modelText, modelVerdict, writeModel}
+use Rattle.block.specs.Reasons.{whyVerdict, whyNot, whyNumbers}
 use Rattle.block.specs.declared.Row.{Row}
 use Rattle.block.specs.declared.Answer.{Answer}
 use Rattle.block.specs.declared.ValueAnswer.{ValueAnswer}
 use Rattle.block.specs.declared.RowMethodAnswer.{RowMethodAnswer}
 use Rattle.block.specs.declared.TextAnswer.{TextAnswer}
 use Rattle.block.specs.declared.ReadAnswer.{ReadAnswer}
+use Rattle.block.specs.declared.WhyAnswer.{WhyAnswer}
 use Rattle.promises.specs.Lent.{lentRecords}
 use Rattle.promises.specs.Lists.{RowValuePromise, RowMethodPromise, FillPromise}
+use Rattle.promises.specs.Reasons.{WhyNotPromise}
 use Rattle.promises.specs.Texts.{WritePromise, ReadPromise}
 use Rattle.promises.specs.Sheets.{SheetPromise}
 use Rattle.promises.specs.Models.{WriteModelPromise}
 use Rattle.record_copies.specs.declared.FlatRows.{FlatRows}
 use Rattle.record_copies.specs.Flat.{heldRows, Gathered, Scattered, listed, as-records}
-use Rattle.record_work.specs.Cut.{value-cut, fill-cut, filled-cut, write-cut, written-cut, method-cut, method-stored-cut, sheet-cut, sheet-stored-cut, model-cut, model-stored-cut}
+use Rattle.record_work.specs.Cut.{value-cut, fill-cut, filled-cut, write-cut, written-cut, method-cut, method-stored-cut, sheet-cut, sheet-stored-cut, why-cut, taken-cut, model-cut, model-stored-cut}
 use Rattle.record_copies.specs.Yielded.{lentArrays, yielded-stored}
 
 module _ (rs : List Row) {m : ℕ} {f : FlatRows} (e : m ≡ min (length rs) heldRows) (g : Gathered rs m f) where
@@ -39,6 +42,15 @@ module _ (rs : List Row) {m : ℕ} {f : FlatRows} (e : m ≡ min (length rs) hel
       record {
         answer = as-records (λ l. fillVerdict n k y l room) rs e g (fill-cut n k y room rs) (p .answer);
         table = as-records (λ l. stored (fillVerdict n k y l room) (filled (missing y) n l) table₀) rs e g (filled-cut n k y room table₀ rs) (p .table);
+      }
+
+  pub why-records : {n k y w t : ℕ} {taken₀ : List ℕ} {r : WhyAnswer} {taken₁ : List ℕ} → WhyNotPromise n k y w t (listed f m) taken₀ r taken₁
+      → WhyNotPromise n k y w t rs taken₀ r taken₁
+  why-records {n} {k} {y} {w} {t} {taken₀} p =
+      record {
+        answer = as-records (λ l. whyNumbers (whyNot n k y w t l)) rs e g (ap whyNumbers (why-cut n k y w t rs)) (p .answer);
+        taken = as-records (λ l. stored (whyVerdict n k y w t l) (basisOf (ofRows (missing y) l) n w) taken₀) rs e g
+            (taken-cut n k y w t taken₀ rs) (p .taken);
       }
 
   pub write-records : {n k y z : ℕ} {out₀ : List ℕ} {r : TextAnswer} {out₁ : List ℕ} → WritePromise n k y z (listed f m) out₀ r out₁

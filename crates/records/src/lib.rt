@@ -1,17 +1,22 @@
 // The operations on lists of rows for a caller that lends the rows as records, one record a row (01, Words and numbers): a single shift
-// value, the row method, filling a table, row text, written and read, the sheet and the model. Each takes any numbers and any slices, and answers or
-// refuses as 01 says; its promise speaks of the records themselves. The records are copied out into arrays (crate record_copies), the work on
-// these is that of the crates record_work, record_method and read_records, and rows that it made are copied in. This crate holds nothing else.
+// value, the row method, why a number was not taken, filling a table, row text, written and read, the sheet and the model. Each takes any numbers
+// and any slices, and answers or refuses as 01 says; its promise speaks of the records themselves. The records are copied out into arrays (crate
+// record_copies), the work on these is that of the crates record_work, record_method, record_reasons and read_records, and rows that it made are
+// copied in. This crate holds nothing else.
 use block::Answer;
+use block::LIST_INPUTS;
 use block::ReadAnswer;
 use block::Reading;
 use block::Row;
 use block::RowMethodAnswer;
 use block::TextAnswer;
 use block::ValueAnswer;
+use block::Why;
 ghost use Rattle.block.specs.Text.{numbers};
+ghost use Rattle.block.specs.Reasons.{whyNumbers};
 ghost use Rattle.promises.specs.Lent.{lentRecords};
 ghost use Rattle.promises.specs.Lists.{RowValuePromise, RowMethodPromise, FillPromise};
+ghost use Rattle.promises.specs.Reasons.{WhyNotPromise};
 ghost use Rattle.promises.specs.Texts.{WritePromise, ReadPromise};
 ghost use Rattle.promises.specs.Sheets.{SheetPromise};
 ghost use Rattle.promises.specs.Models.{WriteModelPromise};
@@ -45,6 +50,24 @@ pub fn row_method(
     let done = record_method::method_of(n, k, block_type, w, flat, m, smaller.len(), basis, sigma);
     record_copies::scatter(done.flat, done.count, smaller);
     done.answer
+}
+
+// Why t was not taken, with weight limit w; the taken numbers, T by columns, go to the front of `taken`. Refuses with 1, 2, 3 (the type, w,
+// t), 4, 6 and 7.
+pub fn why_not(
+    n: usize,
+    k: usize,
+    block_type: usize,
+    w: usize,
+    t: usize,
+    rows: &[Row],
+    taken: &mut [u32; LIST_INPUTS],
+) -> Why
+    ensures { λ r. ⌜ WhyNotPromise n k «block_type» w t (now (rows .entry)) (now (taken .entry)) (whyNumbers r) (now (taken .exit)) ⌝ }
+{
+    let m = record_copies::fits(rows.len());
+    let flat = record_copies::gather(rows, m);
+    record_reasons::why_of(n, k, block_type, w, t, flat, m, taken)
 }
 
 // Fills the table of a list, of up to 512 rows. Refuses with 1, 2, 3 (the type), 4, 5 (2^n entries), 6 and 7.
