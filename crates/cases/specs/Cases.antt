@@ -1,6 +1,6 @@
--- The blocks that 01 marks P (01, Blocks to try by hand), read as fr, blocks with missing points under both types (02, Ticket 2) and
--- symmetric blocks (02, Ticket 6), as one statement over a table: each question has the numbers that stand beside it. Every question goes
--- through the answer that an operation's contract cites. Assumes nothing.
+-- The blocks that 01 marks P (01, Blocks to try by hand), read as fr, blocks with missing points under both types (02, Ticket 2), symmetric
+-- blocks (02, Ticket 6) and why numbers were not taken (02, Ticket 7), as one statement over a table: each question has the numbers that stand
+-- beside it. Every question goes through the answer that an operation's contract cites. Assumes nothing.
 use mathlib.Core.Path.{_≡_, refl, ap₂}
 use mathlib.Core.Bool.{Bool, true, cond, _&&_}
 use mathlib.Core.List.{List, [], _∷_, _++_}
@@ -29,6 +29,7 @@ use Rattle.block.specs.Symmetric.{
   tableSymmetricVerdict,
   tableSymmetric,
 }
+use Rattle.block.specs.Reasons.{reason, reasonOf, whyVerdict, whyNot, whyNumbers}
 use Rattle.block.specs.declared.Row.{Row}
 use Rattle.block.specs.declared.Answer.{Answer}
 
@@ -51,6 +52,7 @@ pub data Question : Type 0 where
   restores : ℕ → ℕ → ℕ → List ℕ → List ℕ → Question
   symmetricBlocks : ℕ → ℕ → ℕ → List ℕ → Question
   tableSymmetrics : ℕ → ℕ → ℕ → List ℕ → Question
+  whyNots : ℕ → ℕ → ℕ → ℕ → ℕ → List Row → Question
 
 -- a result beside an answer, nothing beside a refusal
 abbrev pub with : Answer → List ℕ → List ℕ
@@ -62,7 +64,8 @@ flat [] = []
 flat (r ∷ rs) = r .mask ∷ r .values ∷ r .word ∷ flat rs
 
 -- number, A, B; then the value; or the measures, T, sigma and the smaller table; or the measures, the count, T, sigma and the smaller
--- rows; or the filled table; or the restored one; or the measures and both tables of a symmetric block; or whether a table is one
+-- rows; or the filled table; or the restored one; or the measures and both tables of a symmetric block; or whether a table is one;
+-- or the reason, its step and its set
 pub ask : Question → List ℕ
 ask (tableValues n k y t table) = let r = tableValue n k y t table in r .number ∷ r .a ∷ r .b ∷ r .value ∷ []
 ask (tableMethods n k y w table) =
@@ -87,6 +90,9 @@ ask (symmetricBlocks n k y words) =
     r .number ∷ r .a ∷ r .b ∷ r .before ∷ r .after
     ∷ with (symmetricVerdict n k y words (2 ^ n) (2 ^ n)) (symmetricTable words n ++ grayTable words n)
 ask (tableSymmetrics n k y table) = let r = tableSymmetric n k y table in r .number ∷ r .a ∷ r .b ∷ r .value ∷ []
+ask (whyNots n k y w t rs) =
+    let r = whyNumbers (whyNot n k y w t rs) in
+    r .number ∷ r .a ∷ r .b ∷ r .reason ∷ r .step ∷ r .set ∷ []
 
 pub record Case : Type 0 where
   pub question : Question
@@ -131,7 +137,9 @@ pub tableM : List ℕ
 tableM = 0 ∷ 65535 ∷ 1 ∷ 0 ∷ []
 
 -- the cases a to j, read as fr; then missing points under both types, and a number that is no type; then symmetric blocks: the parity of two,
--- 2 of 3, at least 2 of 3, whose measures are equal, 3 of 5, the block of the README, and one without an output at two one-bits
+-- 2 of 3, at least 2 of 3, whose measures are equal, 3 of 5, the block of the README, and one without an output at two one-bits; then why, of
+-- every t of block e, whose T is 1, 6, 2, of two with the weight limit 1, where T is 1, 2, 4, and of two of block g, whose T is 6, 2, 1; and
+-- refusals, which come before the reason that t is 0
 pub table : List Case
 table =
     case (tableValues 2 1 fr 0 tableA) (0 ∷ 0 ∷ 0 ∷ 4 ∷ [])
@@ -190,6 +198,21 @@ table =
     ∷ case (tableSymmetrics 2 1 fr tableM) (0 ∷ 0 ∷ 0 ∷ 0 ∷ [])
     ∷ case (tableSymmetrics 2 1 fr (0 ∷ 65535 ∷ 65535 ∷ 1 ∷ [])) (0 ∷ 0 ∷ 0 ∷ 1 ∷ [])
     ∷ case (tableSymmetrics 2 1 fd tableM) (6 ∷ 0 ∷ 1 ∷ 0 ∷ [])
+    ∷ case (whyNots 3 2 fr 3 0 rowsE) (0 ∷ 0 ∷ 0 ∷ 1 ∷ 0 ∷ 0 ∷ [])
+    ∷ case (whyNots 3 2 fr 3 1 rowsE) (0 ∷ 0 ∷ 0 ∷ 3 ∷ 1 ∷ 0 ∷ [])
+    ∷ case (whyNots 3 2 fr 3 2 rowsE) (0 ∷ 0 ∷ 0 ∷ 3 ∷ 3 ∷ 0 ∷ [])
+    ∷ case (whyNots 3 2 fr 3 3 rowsE) (0 ∷ 0 ∷ 0 ∷ 4 ∷ 0 ∷ 5 ∷ [])
+    ∷ case (whyNots 3 2 fr 3 4 rowsE) (0 ∷ 0 ∷ 0 ∷ 4 ∷ 0 ∷ 6 ∷ [])
+    ∷ case (whyNots 3 2 fr 3 5 rowsE) (0 ∷ 0 ∷ 0 ∷ 4 ∷ 0 ∷ 7 ∷ [])
+    ∷ case (whyNots 3 2 fr 3 6 rowsE) (0 ∷ 0 ∷ 0 ∷ 3 ∷ 2 ∷ 0 ∷ [])
+    ∷ case (whyNots 3 2 fr 3 7 rowsE) (0 ∷ 0 ∷ 0 ∷ 4 ∷ 0 ∷ 3 ∷ [])
+    ∷ case (whyNots 3 2 fr 1 6 rowsE) (0 ∷ 0 ∷ 0 ∷ 2 ∷ 0 ∷ 0 ∷ [])
+    ∷ case (whyNots 3 2 fr 1 4 rowsE) (0 ∷ 0 ∷ 0 ∷ 3 ∷ 3 ∷ 0 ∷ [])
+    ∷ case (whyNots 3 2 fr 3 4 rowsG) (0 ∷ 0 ∷ 0 ∷ 4 ∷ 0 ∷ 3 ∷ [])
+    ∷ case (whyNots 3 2 fr 3 7 rowsG) (0 ∷ 0 ∷ 0 ∷ 4 ∷ 0 ∷ 5 ∷ [])
+    ∷ case (whyNots 3 2 fr 3 8 rowsE) (3 ∷ 0 ∷ 0 ∷ 0 ∷ 0 ∷ 0 ∷ [])
+    ∷ case (whyNots 3 2 fr 0 0 rowsE) (3 ∷ 0 ∷ 0 ∷ 0 ∷ 0 ∷ 0 ∷ [])
+    ∷ case (whyNots 2 1 fr 2 0 rowsH) (7 ∷ 0 ∷ 1 ∷ 0 ∷ 0 ∷ 0 ∷ [])
     ∷ []
 
 -- the test of a table of cases, which antt computes
@@ -217,5 +240,5 @@ unfolding
     reached splitRow splitRows moved verdict badRow share second sharing dependent tableValueVerdict tableValue tableMethodVerdict
     tableMethod smallerTable restoreVerdict restored rowValueVerdict rowValue rowsAfter passing methodChecks rowMethodVerdict
     rowMethod smallerList fillVerdict filled equal symmetricTable grayColumn grayTable isSymmetric symmetricVerdict symmetricBlock
-    tableSymmetricVerdict tableSymmetric
+    tableSymmetricVerdict tableSymmetric reason reasonOf whyVerdict whyNot
 cases = right-all table tt
