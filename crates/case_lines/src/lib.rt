@@ -1,7 +1,7 @@
 // Cases, one to a line, as `OP n k TYPE ARGUMENTS => NUMBER A B RESULTS`: the type is fr, fd or other, or a type number; lists are
-// comma-separated, a row is mask:value:word, and - is an empty list. A number repeated is written once, as 5*4096, and the answers yes and no
-// are the numbers 1 and 0. What an operation answers is gathered as numbers in the order of the line, and compared with those due. All
-// functions here are inner: a program that runs cases calls them.
+// comma-separated, a row is mask:value:word, and - is an empty list. A number repeated is written once, as 5*4096, the answers yes and no
+// are the numbers 1 and 0, and the reasons zero, over, taken and xor the numbers 1 to 4. What an operation answers is gathered as numbers in
+// the order of the line, and compared with those due. All functions here are inner: a program that runs cases calls them.
 ghost use mathlib.Core.Path.{_≡_};
 ghost use Prim.Native.Nat.{_≤_, _<_};
 ghost use lib.ListN.{length};
@@ -33,6 +33,10 @@ pub struct Part {
 
 pub fn is_digit(b: u8) -> bool {
     b'0' <= b && b <= b'9'
+}
+
+pub fn is_letter(b: u8) -> bool {
+    b'a' <= b && b <= b'z'
 }
 
 // The value of a digit; of another byte, a remainder.
@@ -221,8 +225,19 @@ pub struct Repeated {
     pub next: usize,
 }
 
-// Reads the number that begins with a byte, after which the text goes on at a place: its digits and how often, the 1 of yes, the 0 of no. Any
-// other byte begins none.
+// The number that an answer in letters stands for, by the first of them: no two answers share it.
+pub fn lettered(first: u8) -> u64 {
+    match first {
+        b'y' | b'z' => 1,
+        b'o' => 2,
+        b't' => 3,
+        b'x' => 4,
+        _ => 0,
+    }
+}
+
+// Reads the number that begins with a byte, after which the text goes on at a place: its digits and how often, or that of an answer in
+// letters. Any other byte begins none.
 pub fn read_repeated(text: &[u8], first: u8, from: usize) -> Repeated
     requires { ⌜ from ≤ length (now text) ⌝ }
     ensures { λ r. ⌜ (from ≤ r .next) × (r .next ≤ length (now (text .entry))) ⌝ }
@@ -236,9 +251,16 @@ pub fn read_repeated(text: &[u8], first: u8, from: usize) -> Repeated
             next: times.next,
         };
     }
+    if is_letter(first) {
+        return Repeated {
+            value: lettered(first),
+            times: 1,
+            next: word_end(text, from),
+        };
+    }
     Repeated {
-        value: (first == b'y') as u64,
-        times: (first == b'y' || first == b'n') as u64,
+        value: 0,
+        times: 0,
         next: from,
     }
 }
@@ -299,6 +321,14 @@ pub fn entries(numbers: &[u64; NUMBERS], count: usize) -> [u16; NUMBERS]
 }
 
 // ---- what it answers
+
+// How many numbers a result has: none with a refusal.
+pub fn result_size(number: u32, size: usize) -> usize {
+    if number != 0 {
+        return 0;
+    }
+    size
+}
 
 // One number more.
 pub fn put(out: &mut [u64; NUMBERS], at: usize, v: u64) -> usize

@@ -1,8 +1,8 @@
 // Cases of the operations on tables and lists, run: the arguments are files of data/, one case to a line with the answer due (crate
-// case_lines has the form). A case that is answered otherwise is said with what was answered; at the end stands how many were as due.
-// operations.txt, the two of the order, the two of the types, spectrum.txt and symmetric.txt come from a program of another hand, ranges.txt has
-// 01's and 02's blocks to try by hand and the ends of each range. (type_texts.txt has cases of reading, writing and the sheet, which the tests
-// from outside run.)
+// case_lines has the form; crate why_cases runs the operation `why`). A case that is answered otherwise is said with what was answered; at
+// the end stands how many were as due. operations.txt, the two of the order, the two of the types, spectrum.txt, symmetric.txt and why.txt
+// come from a program of another hand, ranges.txt and why_ranges.txt have 01's and 02's blocks to try by hand and the ends of each range.
+// (type_texts.txt has cases of reading, writing and the sheet, which the tests from outside run.)
 use case_lines::Given;
 use case_lines::HELD;
 use case_lines::HELD_ENTRY;
@@ -23,6 +23,7 @@ use case_lines::read_numbers;
 use case_lines::read_rooms;
 use case_lines::read_sizes;
 use case_lines::read_word;
+use case_lines::result_size;
 use libc::STDOUT_FILENO;
 use saying::is_same;
 use saying::part16;
@@ -34,14 +35,6 @@ use saying::say;
 ghost use Prim.Native.Nat.{_≤_, _<_};
 ghost use lib.ListN.{length};
 ghost use Rattle.case_lines.specs.Room.{numbersMost};
-
-// How many numbers a result has: none with a refusal.
-fn result_size(number: u32, size: usize) -> usize {
-    if number != 0 {
-        return 0;
-    }
-    size
-}
 
 // 2^n, for the n of a table.
 fn points(n: usize) -> usize {
@@ -408,15 +401,23 @@ fn run_symmetric(text: &[u8], at: usize, got: &mut [u64; NUMBERS]) -> Part
     Part { count, next }
 }
 
-// Runs the operation of a name on the arguments from a place on, and gathers what it answers.
-fn run(name: &[u8], text: &[u8], at: usize, got: &mut [u64; NUMBERS]) -> Part
-    requires { ⌜ at ≤ length (now text) ⌝ }
+// Reads the list of an operation that is given nothing else, and runs it.
+fn run_listed(name: &[u8], h: Given, text: &[u8], got: &mut [u64; NUMBERS]) -> Part
+    requires { ⌜ h .next ≤ length (now text) ⌝ }
     ensures { λ r. ⌜ (r .next ≤ length (now (text .entry))) × (r .count ≤ numbersMost) ⌝ }
 {
-    if is_same(name, b"symmetric") {
-        return run_symmetric(text, at, got);
-    }
-    let h = read_given(text, at);
+    let mut numbers = [0u64; NUMBERS];
+    let list = read_numbers(text, h.next, b' ', &mut numbers);
+    let next = list.next;
+    let count = run_list(name, h, &numbers, list.count, got);
+    Part { count, next }
+}
+
+// Runs the operation of a name that is given t, w or a room, and what follows.
+fn run_given(name: &[u8], h: Given, text: &[u8], got: &mut [u64; NUMBERS]) -> Part
+    requires { ⌜ h .next ≤ length (now text) ⌝ }
+    ensures { λ r. ⌜ (r .next ≤ length (now (text .entry))) × (r .count ≤ numbersMost) ⌝ }
+{
     if is_same(name, b"row_method") || is_same(name, b"table_method") {
         return run_method(name, h, text, got);
     }
@@ -426,11 +427,22 @@ fn run(name: &[u8], text: &[u8], at: usize, got: &mut [u64; NUMBERS]) -> Part
     if is_same(name, b"spectrum") || is_same(name, b"gray") {
         return run_lent(name, h, text, got);
     }
-    let mut numbers = [0u64; NUMBERS];
-    let list = read_numbers(text, h.next, b' ', &mut numbers);
-    let next = list.next;
-    let count = run_list(name, h, &numbers, list.count, got);
-    Part { count, next }
+    run_listed(name, h, text, got)
+}
+
+// Runs the operation of a name on the arguments from a place on, and gathers what it answers.
+fn run(name: &[u8], text: &[u8], at: usize, got: &mut [u64; NUMBERS]) -> Part
+    requires { ⌜ at ≤ length (now text) ⌝ }
+    ensures { λ r. ⌜ (r .next ≤ length (now (text .entry))) × (r .count ≤ numbersMost) ⌝ }
+{
+    if is_same(name, b"symmetric") {
+        return run_symmetric(text, at, got);
+    }
+    if is_same(name, b"why") {
+        return why_cases::run_why(text, at, got);
+    }
+    let h = read_given(text, at);
+    run_given(name, h, text, got)
 }
 
 // Says what a case was answered.
