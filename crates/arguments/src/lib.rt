@@ -1,5 +1,6 @@
-// What the arguments of a call say: whether one is a certain text, the decimal number that one is, and the words of a symmetric block with what
-// stands before them (02, Ticket 6). Every function here is inner.
+// What the arguments of a call say: whether one is a certain text, the decimal number that one is, the words of a symmetric block with what
+// stands before them (02, Ticket 6), and the number and the weight limit of a call for why the number was not taken (Ticket 7). Every function
+// here is inner.
 use block::FD;
 use block::FR;
 use block::LIST_POINTS;
@@ -158,4 +159,28 @@ pub fn symmetric_call(words: &mut [u16]) -> SymmetricCall
         return call_from(2, FD, words);
     }
     call_from(3, block_type, words)
+}
+
+// ---- why a number was not taken
+
+// A call for why t was not taken, where it has the form: t, and the weight limit w where it names one.
+pub struct WhyCall {
+    pub known: bool,
+    pub t: usize,
+    pub limited: bool,
+    pub w: usize,
+}
+
+// T [W], after the option.
+pub fn why_call() -> WhyCall {
+    let given = os::arg_count();
+    let t = number_at(2);
+    let w = number_at(3);
+    let limited = 3 < given;
+    WhyCall {
+        known: given <= 4 && t.known && (w.known || !limited),
+        t: t.value,
+        limited,
+        w: w.value,
+    }
 }

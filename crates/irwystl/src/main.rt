@@ -1,11 +1,13 @@
-// The program (01, the first section; 02, Tickets 4 to 6). It reads row text on standard input, at most 8,192 bytes of it, and prints its
+// The program (01, the first section; 02, Tickets 4 to 7). It reads row text on standard input, at most 8,192 bytes of it, and prints its
 // sheet with weight limit 3, or n where n is below 3; called with --blif it prints the model in BLIF in the sheet's place, with --shifts R
-// at every t, by the spectrum, with --symmetric whether the block is symmetric. Called with --symmetric and words, it reads nothing and prints the
-// symmetric block of these words. Called with --model it reads a model, and prints "model INPUTS OUTPUTS PATTERNS", or, where a point follows,
-// "word" and the word there. Whatever it can't answer it answers with the one line "refused N A B". What is printed of a list is promised by
-// `print_text` and `print_model` of the crate printing, what is said of a model by `read_model` and `model_value` of the crate models; crates
-// shift_lines and symmetric_lines say by which promises the rest is said. No contract says which bytes the system reads and writes. A read or
-// a write that fails is told on standard error; where a read fails nothing is printed, since the text is not known.
+// at every t, by the spectrum, with --symmetric whether the block is symmetric, with --why and a number why that was not taken, with the sheet's
+// weight limit or the one that follows. Called with --symmetric and words, it reads nothing and prints the symmetric block of these words. Called
+// with --model it reads a model, and prints "model INPUTS OUTPUTS PATTERNS", or, where a point follows, "word" and the word there. Whatever it
+// can't answer it answers with the one line "refused N A B". What is printed of a list is promised by `print_text` and `print_model` of the crate
+// printing, what is said of a model by `read_model` and `model_value` of the crate models; crates shift_lines, symmetric_lines and why_lines say
+// by which promises the rest is said. No contract says which bytes the system reads and writes. A read or a write that fails is told on standard
+// error; where a read fails nothing is printed, since the text is not known.
+use arguments::WhyCall;
 use arguments::is_given;
 use block::LIST_INPUTS;
 use block::MODEL_ROOM;
@@ -93,6 +95,7 @@ enum Due {
     Model,
     Shifts,
     Symmetry,
+    Why(WhyCall),
 }
 
 // Prints what is due of a text.
@@ -102,6 +105,7 @@ fn print_due(due: Due, text: &[u8]) {
         Due::Model => print_model(text),
         Due::Shifts => shift_lines::say_shifts(text),
         Due::Symmetry => symmetric_lines::say_symmetry(text),
+        Due::Why(call) => why_lines::say_why(text, call),
     }
 }
 
@@ -246,11 +250,21 @@ fn answer_symmetric() {
     answer_words();
 }
 
-fn main() {
-    if os::arg_count() < 2 {
-        answer_list(Due::Sheet);
+// Answers --why, of the list on standard input.
+fn answer_why() {
+    let call = arguments::why_call();
+    if !call.known {
+        io::write_all(
+            STDERR_FILENO,
+            b"irwystl: --why takes a number and may take a weight limit, decimal numbers both\n",
+        );
         return;
     }
+    answer_list(Due::Why(call));
+}
+
+// Answers an option of a list, or of words.
+fn answer_option() {
     if is_given(1, b"--blif") {
         answer_list(Due::Model);
         return;
@@ -263,9 +277,21 @@ fn main() {
         answer_symmetric();
         return;
     }
+    if is_given(1, b"--why") {
+        answer_why();
+        return;
+    }
+    io::write_all(STDERR_FILENO, b"irwystl: there is no such option\n");
+}
+
+fn main() {
+    if os::arg_count() < 2 {
+        answer_list(Due::Sheet);
+        return;
+    }
     if is_given(1, b"--model") {
         answer_model();
         return;
     }
-    io::write_all(STDERR_FILENO, b"irwystl: there is no such option\n");
+    answer_option();
 }
