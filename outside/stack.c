@@ -45,6 +45,7 @@ static uint32_t row_method(void) {
   return irwystl_row_method(16, 7, type, 16, FLAT, basis, 16, sigma, 16, smaller_masks, IRWYSTL_SMALLER_ROWS, smaller_values,
                             IRWYSTL_SMALLER_ROWS, smaller_words, IRWYSTL_SMALLER_ROWS).number;
 }
+static uint32_t why_not(void) { return irwystl_why_not(16, 7, type, 16, 3, FLAT, basis).number; }
 static uint32_t fill_table(void) { return irwystl_fill_table(12, 7, type, FLAT, made, POINTS).number; }
 static uint32_t write_text(void) {
   irwystl_text_answer r = irwystl_write_text(16, 7, type, 1, FLAT, text, sizeof text);
@@ -59,6 +60,7 @@ static uint32_t records_row_value(void) { return irwystl_records_row_value(16, 7
 static uint32_t records_row_method(void) {
   return irwystl_records_row_method(16, 7, type, 16, rows, ROWS, basis, 16, sigma, 16, smaller, IRWYSTL_SMALLER_ROWS).number;
 }
+static uint32_t records_why_not(void) { return irwystl_records_why_not(16, 7, type, 16, 3, rows, ROWS, basis).number; }
 static uint32_t records_fill_table(void) { return irwystl_records_fill_table(12, 7, type, rows, ROWS, made, POINTS).number; }
 static uint32_t records_write_text(void) { return irwystl_records_write_text(16, 7, type, 1, rows, ROWS, out, sizeof out).number; }
 static uint32_t records_read_text(void) { return irwystl_records_read_text(text, text_length, smaller, ROWS).number; }
@@ -121,12 +123,14 @@ int main(void) {
       {"table_symmetric", table_symmetric, 0},
       {"row_value", row_value, 0},
       {"row_method", row_method, 0},
+      {"why_not", why_not, 0},
       {"fill_table", fill_table, 0},
       {"write_text", write_text, 0},
       {"read_text", read_text, 0},
       {"sheet", sheet, 0},
       {"records_row_value", records_row_value, 0},
       {"records_row_method", records_row_method, 0},
+      {"records_why_not", records_why_not, 0},
       {"records_fill_table", records_fill_table, 0},
       {"records_write_text", records_write_text, 0},
       {"records_read_text", records_read_text, 0},

@@ -4,7 +4,7 @@ use crate::calls::Call;
 use reference::inputs::models::rooms_due;
 use reference::inputs::{hidden_rows, rows, table, text, Case, LentRows, Random};
 use reference::{
-    Fast, Operations, Row, TextHead, FD, FR, MODEL_ROOM, OUTPUTS, ROW_INPUTS, SHEET_ROOM,
+    Fast, Operations, Reason, Row, TextHead, FD, FR, MODEL_ROOM, OUTPUTS, ROW_INPUTS, SHEET_ROOM,
     SMALLER_ROWS,
 };
 use std::ops::Range;
@@ -59,6 +59,10 @@ fn operations() -> Table {
             Call::new(
                 "a word of that model",
                 model_value(&model([16, 15, FR, 3], &few_words)),
+            ),
+            Call::new(
+                "why a number was not taken, the same rows, w 3",
+                why_not(3, &few_words),
             ),
             Call::new(
                 "row method, the same rows, w 16",
@@ -317,6 +321,27 @@ fn row_method(n: usize, block_type: usize, w: usize, rows: &LentRows) -> Case {
         smaller: LentRows::new(&[Row::default(); SMALLER_ROWS]),
         columns: vec![0; n],
         sigma: vec![0; n],
+    }
+}
+
+/// Why a number was not taken, of a list of 16 inputs: the first number that is the XOR
+/// of taken ones.
+fn why_not(w: usize, rows: &LentRows) -> Case {
+    let is_xor = |t: &usize| {
+        let mut taken = [0; ROW_INPUTS];
+        let why = Fast::why_not(16, 15, FR, w, *t, rows.list(), &mut taken);
+        matches!(why.results, Some(Reason::Xor { .. }))
+    };
+    Case::WhyNot {
+        n: 16,
+        k: 15,
+        block_type: FR,
+        w,
+        t: (1..1 << 16)
+            .find(is_xor)
+            .expect("not all are taken or over"),
+        rows: rows.clone(),
+        taken: [0; ROW_INPUTS],
     }
 }
 

@@ -69,6 +69,15 @@ enum irwystl_number {
   IRWYSTL_FORM = 10      /* line a of the text, counted from 1, is not of the form due there */
 };
 
+/* ---- why a number t was not taken; the first of these that holds is answered */
+
+enum irwystl_reason {
+  IRWYSTL_ZERO = 1,  /* t is 0 */
+  IRWYSTL_OVER = 2,  /* t has more one-bits than the weight limit */
+  IRWYSTL_TAKEN = 3, /* t was taken, at the step that is named */
+  IRWYSTL_XOR = 4    /* t is the XOR of the numbers taken at the steps of the set that is named, each of which stands before t */
+};
+
 /* ---- rows and answers: number is an irwystl_number, a and b are its places, 0 where it names none */
 
 /* A row: the mask of its fixed inputs, their values (0 outside the mask), and its word. */
@@ -107,6 +116,15 @@ typedef struct irwystl_row_method_answer {
   uint64_t after;  /* the measure of the smaller block */
   size_t count;    /* how many smaller rows there are */
 } irwystl_row_method_answer;
+
+typedef struct irwystl_why_answer {
+  uint32_t number;
+  size_t a;
+  size_t b;
+  uint32_t reason; /* an irwystl_reason; 0 with a refusal */
+  size_t step;     /* with IRWYSTL_TAKEN the step, counted from 1; else 0 */
+  uint32_t set;    /* with IRWYSTL_XOR the steps, bit j - 1 for step j; else 0 */
+} irwystl_why_answer;
 
 typedef struct irwystl_text_answer {
   uint32_t number;
@@ -206,6 +224,16 @@ irwystl_row_method_answer irwystl_records_row_method(size_t n, size_t k, size_t 
                                                      size_t sigma_length, irwystl_row *smaller, size_t smaller_length);
 
 /*
+ * Why t was not taken for T, of a list of 1 to 128 rows with weight limit w: the first irwystl_reason that holds. Numbers stand in the order
+ * of greater R, at equal R of fewer one-bits, then of the smaller number, and no other set of taken numbers has the XOR t. taken is room for
+ * exactly IRWYSTL_MOST_LIST_INPUTS numbers: T's n columns come to its front, the number of step 1 first, whatever the reason. No row is moved,
+ * so that a list which irwystl_records_row_method refuses with 9 has its answer here. Refuses with 1, 2, 3 (type, w, t), 4, 6, 7. Promise:
+ * records::why_not, its answer in numbers.
+ */
+irwystl_why_answer irwystl_records_why_not(size_t n, size_t k, size_t type, size_t w, size_t t, const irwystl_row *rows, size_t rows_length,
+                                           uint32_t *taken);
+
+/*
  * The full table of a list of 1 to 512 rows and at most 12 inputs; at points under no row it has IRWYSTL_NO_OUTPUT or 0, by the type.
  * table is room for at least 2^n entries. Refuses with 1, 2, 3 (type), 4, 5, 6, 7. Promise: records::fill_table.
  */
@@ -257,6 +285,11 @@ irwystl_row_method_answer irwystl_row_method(size_t n, size_t k, size_t type, si
                                              uint32_t *basis, size_t basis_length, uint32_t *sigma, size_t sigma_length,
                                              uint32_t *smaller_masks, size_t smaller_masks_length, uint32_t *smaller_values,
                                              size_t smaller_values_length, uint32_t *smaller_words, size_t smaller_words_length);
+
+/* Promise: reasons::why_not, its answer in numbers. */
+irwystl_why_answer irwystl_why_not(size_t n, size_t k, size_t type, size_t w, size_t t, const uint32_t *masks, size_t masks_length,
+                                   const uint32_t *values, size_t values_length, const uint32_t *words, size_t words_length,
+                                   uint32_t *taken);
 
 /* Promise: lists::fill_table. */
 irwystl_answer irwystl_fill_table(size_t n, size_t k, size_t type, const uint32_t *masks, size_t masks_length, const uint32_t *values,

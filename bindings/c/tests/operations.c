@@ -236,6 +236,17 @@ static void is_yes(uint64_t got) {
   if (got != yes) differs = 1;
 }
 
+/* The reason due is a word, or - with a refusal. */
+static void is_reason(uint32_t got) {
+  uint32_t reason = 0;
+  if (is_word("zero")) reason = IRWYSTL_ZERO;
+  else if (is_word("over")) reason = IRWYSTL_OVER;
+  else if (is_word("taken")) reason = IRWYSTL_TAKEN;
+  else if (is_word("xor")) reason = IRWYSTL_XOR;
+  else if (!is_word("-")) fail("no reason where one is due");
+  if (got != reason) differs = 1;
+}
+
 static void is_type(size_t got) {
   if (got != next_type()) differs = 1;
 }
@@ -332,6 +343,35 @@ static void row_method(void) {
   is_method(irwystl_row_method(n, k, type, w, FLAT, basis, basis_room, sigma, sigma_room, smaller[0], rows_room, smaller[1], rows_room,
                                smaller[2], rows_room));
   are_flat();
+}
+
+/* The numbers due are those of the set; beyond the n that were taken, and with a refusal from the first on, the pattern stands. */
+static void is_why(irwystl_why_answer r, size_t n) {
+  size_t taken = r.number == 0 && n <= IRWYSTL_MOST_LIST_INPUTS ? n : 0, in_set = 0;
+  answered(r.number, r.a, r.b);
+  is_reason(r.reason);
+  is(r.step);
+  is(r.set);
+  next_list(&expected);
+  for (size_t i = 0; i < MOST; i++)
+    if (i >= taken) {
+      if (basis[i] != HELD) differs = 1;
+    } else if (r.set >> i & 1) {
+      if (in_set >= expected.length || basis[i] != expected.fields[0][in_set]) differs = 1;
+      in_set++;
+    }
+  if (in_set != expected.length) differs = 1;
+}
+
+static void why(void) {
+  size_t n = next(), k = next(), type = next_type(), w = next(), t = next();
+  next_list(&given);
+  as_rows(&given);
+  arrow();
+  lend();
+  is_why(irwystl_records_why_not(n, k, type, w, t, rows, given.length, basis), n);
+  lend();
+  is_why(irwystl_why_not(n, k, type, w, t, FLAT, basis), n);
 }
 
 static void is_filled(irwystl_answer r) {
@@ -442,7 +482,8 @@ static const struct {
 } operations[] = {{"table_value", table_value}, {"row_value", row_value}, {"table_method", table_method},
                   {"row_method", row_method},   {"fill", fill},           {"restore", restore},
                   {"read", read_text},          {"write", write_text},    {"sheet", sheet},
-                  {"spectrum", spectrum},       {"gray", gray},           {"symmetric", symmetric}};
+                  {"spectrum", spectrum},       {"gray", gray},           {"symmetric", symmetric},
+                  {"why", why}};
 
 static void run_line(const char *line) {
   size_t length = strcspn(line, " ");

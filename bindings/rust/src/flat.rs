@@ -10,7 +10,7 @@
 //! assert_eq!(row_value(2, 1, irwystl::FR, 0, rows), Ok(2));
 //! ```
 
-use crate::{raw, Headings, ModelSize, Refusal, Smaller};
+use crate::{raw, Headings, ModelSize, Refusal, Smaller, Why, MOST_LIST_INPUTS};
 
 /// Rows that are given.
 #[derive(Clone, Copy, Debug)]
@@ -87,6 +87,34 @@ pub fn row_method(
         )
     }
     .result()
+}
+
+pub fn why_not(
+    n: usize,
+    k: usize,
+    block_type: usize,
+    w: usize,
+    t: usize,
+    rows: Rows<'_>,
+) -> Result<Why, Refusal> {
+    let mut taken = [0; MOST_LIST_INPUTS];
+    unsafe {
+        raw::irwystl_why_not(
+            n,
+            k,
+            block_type,
+            w,
+            t,
+            rows.masks.as_ptr(),
+            rows.masks.len(),
+            rows.values.as_ptr(),
+            rows.values.len(),
+            rows.words.as_ptr(),
+            rows.words.len(),
+            taken.as_mut_ptr(),
+        )
+    }
+    .result(n, &taken)
 }
 
 pub fn fill_table(

@@ -24,9 +24,11 @@
 pub mod flat;
 mod model;
 pub mod raw;
+mod reason;
 mod refusal;
 
 pub use model::{model_of, read_model, write_model, Model, Pattern};
+pub use reason::{why_not, Reason, Taken, Why};
 pub use refusal::Refusal;
 
 /// The most inputs of a list of rows, of row text, of a sheet and of a model.
@@ -120,9 +122,9 @@ pub struct Imported {
     pub line: usize,
 }
 
-// Every pointer below, in `flat` and in `model`, comes from a slice or an array that is lent
-// for the whole call, with its length, and no room overlaps anything else: that is
-// all that the calls ask for.
+// Every pointer below, in `flat`, in `model` and in `reason`, comes from a slice or an array
+// that is lent for the whole call, with its length, and no room overlaps anything else:
+// that is all that the calls ask for.
 
 /// R(t) of a table of 2^n entries. Refuses with 1, 2, 3 (the type, t), 4 and 6.
 ///

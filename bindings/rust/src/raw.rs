@@ -2,7 +2,7 @@
 //! what each does and asks for. The functions of this crate call these, and need
 //! no `unsafe`.
 
-use crate::{Headings, Imported, Measures, ModelSize, Refusal, Row, Smaller};
+use crate::{Headings, Imported, Measures, ModelSize, Reason, Refusal, Row, Smaller, Taken, Why};
 
 #[repr(C)]
 #[derive(Clone, Copy, Debug, PartialEq, Eq)]
@@ -40,6 +40,29 @@ pub struct RowMethodAnswer {
     pub before: u64,
     pub after: u64,
     pub count: usize,
+}
+
+/// The reason of a [`WhyAnswer`]: t is 0.
+pub const ZERO: u32 = 1;
+
+/// The reason of a [`WhyAnswer`]: t has more one-bits than the weight limit.
+pub const OVER: u32 = 2;
+
+/// The reason of a [`WhyAnswer`]: t was taken at the step that is named.
+pub const TAKEN: u32 = 3;
+
+/// The reason of a [`WhyAnswer`]: t is the XOR of the numbers of the set that is named.
+pub const XOR: u32 = 4;
+
+#[repr(C)]
+#[derive(Clone, Copy, Debug, PartialEq, Eq)]
+pub struct WhyAnswer {
+    pub number: u32,
+    pub a: usize,
+    pub b: usize,
+    pub reason: u32,
+    pub step: usize,
+    pub set: u32,
 }
 
 #[repr(C)]
@@ -117,6 +140,31 @@ impl RowMethodAnswer {
             count: self.count,
         };
         result(self.number, self.a, self.b, smaller)
+    }
+}
+
+impl WhyAnswer {
+    /// With the numbers that were taken, of which there are n in an answer. The library
+    /// gives no reason above 4, so the last case is 4.
+    pub(crate) fn result(self, n: usize, taken: &[u32]) -> Result<Why, Refusal> {
+        let taken = taken.iter().take(n).copied();
+        let steps = (1..).zip(taken.clone());
+        let in_set = steps.filter(|(step, _)| self.set >> (step - 1) & 1 == 1);
+        let reason = match self.reason {
+            ZERO => Reason::Zero,
+            OVER => Reason::Over,
+            TAKEN => Reason::Taken { step: self.step },
+            _ => Reason::Xor {
+                of: in_set
+                    .map(|(step, number)| Taken { step, number })
+                    .collect(),
+            },
+        };
+        let why = Why {
+            reason,
+            taken: taken.collect(),
+        };
+        result(self.number, self.a, self.b, why)
     }
 }
 
@@ -252,6 +300,17 @@ extern "C" {
         smaller_length: usize,
     ) -> RowMethodAnswer;
 
+    pub fn irwystl_records_why_not(
+        n: usize,
+        k: usize,
+        block_type: usize,
+        w: usize,
+        t: usize,
+        rows: *const Row,
+        rows_length: usize,
+        taken: *mut u32,
+    ) -> WhyAnswer;
+
     pub fn irwystl_records_fill_table(
         n: usize,
         k: usize,
@@ -337,6 +396,21 @@ extern "C" {
         smaller_words: *mut u32,
         smaller_words_length: usize,
     ) -> RowMethodAnswer;
+
+    pub fn irwystl_why_not(
+        n: usize,
+        k: usize,
+        block_type: usize,
+        w: usize,
+        t: usize,
+        masks: *const u32,
+        masks_length: usize,
+        values: *const u32,
+        values_length: usize,
+        words: *const u32,
+        words_length: usize,
+        taken: *mut u32,
+    ) -> WhyAnswer;
 
     pub fn irwystl_fill_table(
         n: usize,

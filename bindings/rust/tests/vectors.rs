@@ -2,11 +2,12 @@
 //! drawn calls against the independent implementation: answers and all lent storage.
 
 use irwystl::flat::{self, Room, Rows};
-use irwystl::{Headings, Refusal, MODEL_ROOM, SHEET_ROOM};
+use irwystl::{Headings, Refusal, Why, MODEL_ROOM, SHEET_ROOM};
 use reference::data::{check_lists, check_models, check_operations};
+use reference::demands;
 use reference::inputs::{models, Case, Random};
-use reference::{Answer, Flat, FlatRoom, Measures, ModelHead, Operations, Plain, Row};
-use reference::{Smaller, TextHead};
+use reference::{Answer, Flat, FlatRoom, Measures, ModelHead, Operations, Plain, Reason, Row};
+use reference::{Smaller, TextHead, ROW_INPUTS};
 
 /// This crate as one more implementation of 01 and 02.
 struct Safe;
@@ -38,6 +39,27 @@ fn head_of(told: Headings) -> TextHead {
         type_line: told.type_line,
         rows: told.count,
     }
+}
+
+/// The reason as a number's set has it. The numbers that were taken go to the front of
+/// the room, and those of the set are among them, at the steps that are named.
+fn why_of(outcome: Result<Why, Refusal>, taken: &mut [u32; ROW_INPUTS]) -> Answer<Option<Reason>> {
+    if let Ok(why) = &outcome {
+        taken[..why.taken.len()].copy_from_slice(&why.taken);
+    }
+    answer(outcome, |why| {
+        Some(match why.reason {
+            irwystl::Reason::Zero => Reason::Zero,
+            irwystl::Reason::Over => Reason::Over,
+            irwystl::Reason::Taken { step } => Reason::Taken { step },
+            irwystl::Reason::Xor { of } => {
+                let named = |one: &irwystl::Taken| why.taken[one.step - 1] == one.number;
+                assert!(of.iter().all(named));
+                let set = of.iter().fold(0, |set, one| set | 1 << (one.step - 1));
+                Reason::Xor { set }
+            }
+        })
+    })
 }
 
 fn records(rows: &[Row]) -> Vec<irwystl::Row> {
@@ -197,6 +219,31 @@ impl Operations for Safe {
             irwystl::row_method(n, k, block_type, w, &rows, columns, sigma, room)
         });
         answer(found, smaller_of)
+    }
+
+    fn why_not(
+        n: usize,
+        k: usize,
+        block_type: usize,
+        w: usize,
+        t: usize,
+        rows: Flat,
+        taken: &mut [u32; ROW_INPUTS],
+    ) -> Answer<Option<Reason>> {
+        why_of(flat::why_not(n, k, block_type, w, t, given(rows)), taken)
+    }
+
+    fn why_not_records(
+        n: usize,
+        k: usize,
+        block_type: usize,
+        w: usize,
+        t: usize,
+        rows: &[Row],
+        taken: &mut [u32; ROW_INPUTS],
+    ) -> Answer<Option<Reason>> {
+        let why = irwystl::why_not(n, k, block_type, w, t, &records(rows));
+        why_of(why, taken)
     }
 
     fn fill(n: usize, k: usize, block_type: usize, rows: Flat, table: &mut [u16]) -> Answer<()> {
@@ -374,6 +421,33 @@ fn a_word_is_named_by_its_count() {
     let said = refused.unwrap_err().to_string();
     assert_eq!(said, "the word for count 2 is malformed");
     assert_eq!(rooms, [[7; 4]; 2]);
+}
+
+/// Each reason in words.
+#[test]
+fn reasons_in_words() {
+    // one row over both points of one input, and over all points of three
+    let whole = [irwystl::Row::default()];
+    let said = |n, w, t| {
+        let why = irwystl::why_not(n, 1, irwystl::FD, w, t, &whole).unwrap();
+        why.reason.to_string()
+    };
+    assert_eq!(said(1, 1, 0), "t is 0");
+    assert_eq!(said(3, 1, 6), "t has more one-bits than the weight limit");
+    assert_eq!(said(3, 3, 4), "t was taken at step 3");
+    let due =
+        "t is the XOR of 1 (step 1), 2 (step 2) and 4 (step 3), each of which stands before t";
+    assert_eq!(said(3, 3, 7), due);
+}
+
+/// What 02, Ticket 7, says of the reasons holds of those that an owner gets.
+#[test]
+fn reasons_are_as_02_has_them() {
+    for n in 1..=16 {
+        for seed in 0..if n < 7 { 6 } else { 1 } {
+            demands::reasons::<Safe>(n, seed);
+        }
+    }
 }
 
 /// A model as an owner has it: read without rooms of the caller's, with the patterns

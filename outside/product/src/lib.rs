@@ -6,10 +6,11 @@
 
 use irwystl::raw::{
     self, ModelAnswer, ReadAnswer, RowMethodAnswer, TableMethodAnswer, TextAnswer, ValueAnswer,
+    WhyAnswer,
 };
 use reference::{
-    Answer, Flat, FlatRoom, Measures, ModelHead, Operations, Row, Smaller, TextHead, MODEL_ROOM,
-    SHEET_ROOM,
+    Answer, Flat, FlatRoom, Measures, ModelHead, Operations, Reason, Row, Smaller, TextHead,
+    MODEL_ROOM, ROW_INPUTS, SHEET_ROOM,
 };
 
 /// The product.
@@ -53,6 +54,19 @@ fn smaller_rows(r: RowMethodAnswer) -> Answer<Smaller> {
     answer(r.number, r.a, r.b, results)
 }
 
+/// A reason, or none, with its step and its set, which are 0 where it has none.
+fn why(r: WhyAnswer) -> Answer<Option<Reason>> {
+    let reason = match (r.reason, r.step, r.set) {
+        (0, 0, 0) => None,
+        (raw::ZERO, 0, 0) => Some(Reason::Zero),
+        (raw::OVER, 0, 0) => Some(Reason::Over),
+        (raw::TAKEN, step, 0) => Some(Reason::Taken { step }),
+        (raw::XOR, 0, set) => Some(Reason::Xor { set }),
+        other => panic!("no reason, step and set: {other:?}"),
+    };
+    answer(r.number, r.a, r.b, reason)
+}
+
 fn bytes_written(r: TextAnswer) -> Answer<usize> {
     answer(r.number, r.a, r.b, r.count)
 }
@@ -87,8 +101,8 @@ fn lent(rows: &mut [Row]) -> *mut irwystl::Row {
 }
 
 /// Every pointer below comes from a slice that is lent for the whole call,
-/// together with that slice's length, and no slice that is written overlaps
-/// another.
+/// together with that slice's length, or from an array of the length that is asked for,
+/// and nothing that is written overlaps another.
 impl Operations for Product {
     fn table_value(n: usize, k: usize, block_type: usize, t: usize, table: &[u16]) -> Answer<u64> {
         value(unsafe { raw::irwystl_table_value(n, k, block_type, t, table.as_ptr(), table.len()) })
@@ -284,6 +298,56 @@ impl Operations for Product {
                 sigma.len(),
                 lent(smaller),
                 smaller.len(),
+            )
+        })
+    }
+
+    fn why_not(
+        n: usize,
+        k: usize,
+        block_type: usize,
+        w: usize,
+        t: usize,
+        rows: Flat,
+        taken: &mut [u32; ROW_INPUTS],
+    ) -> Answer<Option<Reason>> {
+        why(unsafe {
+            raw::irwystl_why_not(
+                n,
+                k,
+                block_type,
+                w,
+                t,
+                rows.masks.as_ptr(),
+                rows.masks.len(),
+                rows.values.as_ptr(),
+                rows.values.len(),
+                rows.words.as_ptr(),
+                rows.words.len(),
+                taken.as_mut_ptr(),
+            )
+        })
+    }
+
+    fn why_not_records(
+        n: usize,
+        k: usize,
+        block_type: usize,
+        w: usize,
+        t: usize,
+        rows: &[Row],
+        taken: &mut [u32; ROW_INPUTS],
+    ) -> Answer<Option<Reason>> {
+        why(unsafe {
+            raw::irwystl_records_why_not(
+                n,
+                k,
+                block_type,
+                w,
+                t,
+                given(rows),
+                rows.len(),
+                taken.as_mut_ptr(),
             )
         })
     }

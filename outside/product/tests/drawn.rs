@@ -2,21 +2,27 @@
 //! and damaged, every operation with rows in flat slices and as records, answers
 //! and everything lent compared; the spectrum of a table with rooms near what it asks
 //! for, and against the values that are counted; symmetric blocks with rooms near what
-//! they ask for, and what 02 asks to be shown of them; models there and back, damaged, and
-//! with rooms near what they ask for; imports of drawn texts; then the cases with
-//! answers (outside/CASES.md). Lent storage holds a pattern before each call and is
-//! never cleared, so that a stray write shows. Each call of the product runs in a
-//! thread with 1 MiB of stack.
+//! they ask for, and what 02 asks to be shown of them; why each number of small blocks was
+//! not taken, and numbers of lists that pass 512 rows, and what 02 says of the reasons;
+//! models there and back, damaged, and with rooms near what they ask for; imports of drawn
+//! texts; then the cases with answers (outside/CASES.md). Lent storage holds a pattern
+//! before each call and is never cleared, so that a stray write shows. Each call of the
+//! product runs in a thread with 1 MiB of stack.
 
 use irwystl::{import_text, LINE_ROOM};
 use product::Product;
-use reference::data::{check_lists, check_models, check_operations};
-use reference::inputs::{models, Case, Random};
-use reference::{demands, Fast, Operations, Plain, FD, FR, MODEL_ROOM, SHEET_ROOM};
+use reference::data::{check_lists, check_models, check_operations, lists_past_512};
+use reference::inputs::{self, models, Case, LentRows, Random};
+use reference::{
+    demands, Fast, Operations, Plain, Row, FD, FR, MODEL_ROOM, ROW_INPUTS, SHEET_ROOM,
+};
 use std::{env, thread};
 
 /// What the rooms of an import hold before the call.
 const HELD: u8 = 0xAB;
+
+/// What the room for the numbers that are taken holds before the call.
+const HELD_NUMBER: u32 = 0xABCD_1234;
 
 /// How many calls are drawn: IRWYSTL_DRAWS, or 4,000.
 fn draws() -> u64 {
@@ -184,6 +190,77 @@ fn symmetric_blocks_are_as_02_has_them() {
     for n in 1..=12 {
         for seed in 0..if n < 10 { 12 } else { 2 } {
             small_stack(move || demands::symmetric_block::<Product>(n, seed));
+        }
+    }
+}
+
+/// What a call answers, and what it leaves in room that stands within a longer one, the
+/// rest of which holds what it held.
+fn within<R>(call: impl FnOnce(&mut [u32; ROW_INPUTS]) -> R) -> (R, [u32; ROW_INPUTS]) {
+    let mut longer = [[HELD_NUMBER; ROW_INPUTS]; 3];
+    let [before, room, after] = &mut longer;
+    let got = call(room);
+    let rest = before.iter().chain(after.iter());
+    assert!(rest.copied().all(|number| number == HELD_NUMBER));
+    (got, *room)
+}
+
+/// Why t was not taken, of flat slices and of records, and the numbers that were: as
+/// another implementation has it.
+fn same_reason<O: Operations>([n, k, y, w, t]: [usize; 5], rows: &[Row]) {
+    let name = format!("{n} inputs, type {y}, limit {w}, t {t}, {rows:?}");
+    let lent = LentRows::new(rows);
+    let due = within(|taken| O::why_not_records(n, k, y, w, t, rows, taken));
+    let got = within(|taken| Product::why_not_records(n, k, y, w, t, rows, taken));
+    assert_eq!(got, due, "{name}");
+    let got = within(|taken| Product::why_not(n, k, y, w, t, lent.list(), taken));
+    assert_eq!(got, due, "{name}");
+}
+
+/// Every number, and one past the last, of small lists with each weight limit, and one
+/// past that.
+#[test]
+fn reasons_of_every_number() {
+    for n in 1..=6 {
+        let random = &mut Random::new(n as u64);
+        for count in [1, 5, 16] {
+            let rows = inputs::rows(random, n, 2, count);
+            small_stack(move || {
+                for y in [FR, FD] {
+                    for w in 1..=n + 1 {
+                        (0..=1 << n).for_each(|t| same_reason::<Plain>([n, 2, y, w, t], &rows));
+                    }
+                }
+            });
+        }
+    }
+}
+
+/// Lists that the row method refuses with 9 have their answers here. They are the fast
+/// operation's, for the plain one takes long.
+#[test]
+fn reasons_of_lists_that_pass_512_rows() {
+    let random = &mut Random::new(7);
+    for (head, rows) in lists_past_512() {
+        let [n, k, y] = [head.n, head.k, head.block_type];
+        let mut taken = [0; ROW_INPUTS];
+        Fast::why_not_records(n, k, y, 3, 0, &rows, &mut taken);
+        let asked = [(); 3].map(|()| inputs::asked_number(random, n, 3, &taken[..n]));
+        small_stack(move || {
+            for t in asked {
+                same_reason::<Fast>([n, k, y, 3, t], &rows);
+            }
+        });
+    }
+}
+
+/// Every reason is the one that 02, Ticket 7, has, at each number of small blocks and at
+/// drawn ones of greater blocks.
+#[test]
+fn reasons_are_as_02_has_them() {
+    for n in 1..=16 {
+        for seed in 0..if n < 8 { 8 } else { 2 } {
+            small_stack(move || demands::reasons::<Product>(n, seed));
         }
     }
 }

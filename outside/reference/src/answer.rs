@@ -72,6 +72,20 @@ pub struct Smaller {
     pub rows: usize,
 }
 
+/// Why a number t was not taken (02, Ticket 7).
+#[derive(Clone, Copy, Debug, PartialEq, Eq)]
+pub enum Reason {
+    /// t is 0.
+    Zero,
+    /// t is over the weight limit: it has more one-bits.
+    Over,
+    /// t was taken at this step, from 1.
+    Taken { step: usize },
+    /// t is the XOR of the numbers taken at the steps of this set, each of which stands
+    /// before t: bit j - 1 stands for step j.
+    Xor { set: u32 },
+}
+
 /// The results of reading text: inputs, outputs, the type, whether its line stood
 /// there (1, else 0), and the number of rows.
 #[derive(Clone, Copy, Debug, Default, PartialEq, Eq)]

@@ -1,13 +1,14 @@
 //! An implementation against cases with their answers (outside/CASES.md): the
 //! files of `crates/run_operations/data` have one operation a line with its answer,
 //! `crates/run_texts/data` texts for the program with what it prints, and
-//! `crates/run_models/data` both for models. All but `ranges.txt` and a few texts are
-//! worked out by a third program. Lent storage is looked at in full: what an answer
+//! `crates/run_models/data` both for models. All but `ranges.txt`, `why_ranges.txt` and a
+//! few texts are worked out by a third program. Lent storage is looked at in full: what an answer
 //! does not write holds what it held.
 
 use crate::blif::{self, Network};
 use crate::inputs::LentRows;
-use crate::{Answer, Flat, ModelHead, Operations, Row, FD, FR, OUTPUTS, ROW_INPUTS};
+use crate::{read_text, Answer, Flat, ModelHead, Operations, Reason, Row, TextHead, FD, FR};
+use crate::{OUTPUTS, ROWS, ROW_INPUTS};
 use std::fmt::{Debug, Display};
 use std::fs;
 use std::path::PathBuf;
@@ -182,6 +183,7 @@ fn answer<O: Operations>(line: &str) -> (String, Option<Vec<u8>>) {
             let said = if got.results { "yes" } else { "no" };
             format!("{} {said}", places(&got))
         }
+        "why" => why_answer::<O>(block(), &words),
         "read" => read_answer::<O>(parse(words[1]), &text_of(words[2])),
         "write" => {
             let [n, k, block_type] = block();
@@ -379,6 +381,30 @@ fn row_method_answer<O: Operations>([n, k, block_type]: [usize; 3], words: &[&st
     )
 }
 
+/// Why a number was not taken, of records and of flat slices, which must agree. The
+/// line has the numbers of the set; all that were taken stand in the room.
+fn why_answer<O: Operations>([n, k, block_type]: [usize; 3], words: &[&str]) -> String {
+    let [w, t] = [parse(words[4]), parse(words[5])];
+    let list = rows(words[6]);
+    let [mut taken, mut same_taken] = [[HELD; ROW_INPUTS]; 2];
+    let got = O::why_not_records(n, k, block_type, w, t, &list, &mut taken);
+    let flat = LentRows::new(&list);
+    let same = O::why_not(n, k, block_type, w, t, flat.list(), &mut same_taken);
+    assert_eq!((got, taken), (same, same_taken));
+    let n = if got.number == 0 { n } else { 0 };
+    let taken = written(&taken, n, HELD);
+    let (word, step, set) = match got.results {
+        None => ("-", 0, 0),
+        Some(Reason::Zero) => ("zero", 0, 0),
+        Some(Reason::Over) => ("over", 0, 0),
+        Some(Reason::Taken { step }) => ("taken", step, 0),
+        Some(Reason::Xor { set }) => ("xor", 0, set),
+    };
+    let in_set = (0..n).filter(|j| set >> j & 1 == 1).map(|j| taken[j]);
+    let numbers = joined(&in_set.collect::<Vec<_>>());
+    format!("{} {word} {step} {set} {numbers}", places(&got))
+}
+
 /// Reading into records and into flat slices, which must agree.
 fn read_answer<O: Operations>(room: usize, text: &[u8]) -> String {
     let mut rows = vec![HELD_ROW; room];
@@ -459,7 +485,9 @@ pub fn check_operations<O: Operations>() {
         ("type_texts.txt", 102),
         ("spectrum.txt", 170),
         ("symmetric.txt", 200),
+        ("why.txt", 190),
         ("ranges.txt", 252),
+        ("why_ranges.txt", 41),
     ] {
         check_file::<O>("../../crates/run_operations/data", name, cases);
     }
@@ -537,4 +565,24 @@ pub fn check_lists<O: Operations>() {
         }
     }
     assert_eq!(count, 258);
+}
+
+/// The lists of `crates/run_texts/data` whose smaller rows pass 512 with weight limit 3, so
+/// that 9 stands beside their texts, with what these tell.
+pub fn lists_past_512() -> Vec<(TextHead, Vec<Row>)> {
+    let mut lists = Vec::new();
+    for entry in fs::read_dir(from_here("../../crates/run_texts/data")).unwrap() {
+        let path = entry.unwrap().path();
+        if path.extension().map_or(false, |end| end == "txt") {
+            let printed = fs::read_to_string(path.with_extension("sheet")).unwrap();
+            if printed.starts_with("refused 9 ") {
+                let mut rows = vec![Row::default(); ROWS];
+                let head = read_text(&fs::read(&path).unwrap(), &mut rows[..]).results;
+                rows.truncate(head.rows);
+                lists.push((head, rows));
+            }
+        }
+    }
+    assert_eq!(lists.len(), 17);
+    lists
 }

@@ -1,9 +1,10 @@
 //! What 02 asks to be shown of answers together, on inputs from a seed, for any
-//! implementation: symmetric blocks (Ticket 6). Not here: the demands on both methods,
-//! which are in tests/agree.rs.
+//! implementation: symmetric blocks (Ticket 6), and why a number was not taken (Ticket
+//! 7). Not here: the demands on both methods, which are in tests/agree.rs.
 
-use crate::inputs::{self, Random};
-use crate::{matrix, symmetric, Fast, Measures, Operations, FD, FR, NO_OUTPUT};
+use crate::inputs::{self, LentRows, Random};
+use crate::{matrix, symmetric, Fast, Measures, Operations, Reason, Row, FD, FR};
+use crate::{NO_OUTPUT, ROWS, ROW_INPUTS};
 
 /// A symmetric block of n inputs: its table is called symmetric, and with another entry
 /// it is not; R is equal at all numbers with as many one-bits; the measures are the sums
@@ -66,4 +67,84 @@ fn drawn_words(random: &mut Random, n: usize) -> (usize, usize, Vec<u16>) {
         open.for_each(|word| *word = 0);
     }
     (k, block_type, words)
+}
+
+/// What the numbers that an operation takes are lent before the call.
+const HELD: u32 = 0xABCD_1234;
+
+/// A list of n inputs and numbers that are asked of it, every one below 2^n up to 8
+/// inputs: each has the first of 02's reasons that holds of it, exactly where that holds;
+/// the set that is named is the only one of taken numbers with that XOR, and each number
+/// of it stands before t. The numbers that were taken come with every answer, the same
+/// ones, and are the columns of T. R is worked out by the reference.
+pub fn reasons<O: Operations>(n: usize, seed: u64) {
+    let random = &mut Random::new(seed);
+    let (numbers, rows) = drawn_list(random, n);
+    let [k, y, w] = numbers;
+    let name = format!("{n} inputs, seed {seed}");
+    let flat = LentRows::new(&rows);
+    let value = |t: u32| Fast::row_value_records(n, k, y, t as usize, &rows).results;
+    let place = |t: u32| matrix::place(t, value(t));
+    let ask = |t: u32| {
+        let [mut taken, mut same] = [[HELD; ROW_INPUTS]; 2];
+        let got = O::why_not_records(n, k, y, w, t as usize, &rows, &mut taken);
+        let also = O::why_not(n, k, y, w, t as usize, flat.list(), &mut same);
+        assert_eq!((got, taken), (also, same), "{name}, t {t}");
+        assert_eq!(got.number, 0, "{name}, t {t}");
+        assert!(taken[n..].iter().all(|&number| number == HELD), "{name}");
+        (got.results.expect("an answer has a reason"), taken)
+    };
+
+    let (_, lent) = ask(0);
+    let taken = &lent[..n];
+    let candidates: Vec<(u32, u64)> = matrix::candidates(n, w).map(|t| (t, value(t))).collect();
+    assert_eq!(taken, matrix::basis(n, &candidates), "{name}");
+    // entry z is the XOR of the numbers taken at the steps of the set z
+    let sums: Vec<u32> = (0..1 << n)
+        .map(|z| matrix::times_columns(taken, z))
+        .collect();
+
+    let asked: Vec<u32> = match n {
+        0..=8 => (0..1 << n).collect(),
+        _ => (0..24)
+            .map(|_| inputs::asked_number(random, n, w, taken) as u32)
+            .collect(),
+    };
+    for t in asked {
+        let name = format!("{name}, t {t}");
+        let (reason, same) = ask(t);
+        assert_eq!(same, lent, "{name}");
+        let over = t.count_ones() as usize > w;
+        let step = (1..=n).find(|&step| taken[step - 1] == t);
+        assert_eq!(reason == Reason::Zero, t == 0, "{name}");
+        assert_eq!(reason == Reason::Over, over, "{name}");
+        match (reason, step) {
+            (Reason::Taken { step }, due) => assert_eq!(Some(step), due, "{name}"),
+            (_, step) => assert_eq!(step, None, "{name}"),
+        }
+        if let Reason::Xor { set } = reason {
+            let sets: Vec<usize> = (0..1 << n).filter(|&z| sums[z] == t).collect();
+            assert_eq!(sets, [set as usize], "{name}");
+            let in_set = (0..n).filter(|j| set >> j & 1 == 1);
+            let own = place(t);
+            for number in in_set.map(|j| taken[j]) {
+                assert!(place(number) < own, "{name}, {number}");
+            }
+        }
+    }
+}
+
+/// k, the type, a weight limit and a list of n inputs; with many of these the limit is at
+/// most 4, for more numbers take long.
+fn drawn_list(random: &mut Random, n: usize) -> ([usize; 3], Vec<Row>) {
+    let k = random.between(1, 15);
+    let y = random.pick(&[FR, FD]);
+    let w = random.between(1, if n < 10 { n } else { 4 });
+    let count = random.pick(&[8, 24, ROWS]);
+    let count = random.between(1, count);
+    let rows = match random.below(2) {
+        0 => inputs::rows(random, n, k, count),
+        _ => inputs::hidden_rows(random, n, k, count),
+    };
+    ([k, y, w], rows)
 }

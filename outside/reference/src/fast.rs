@@ -10,7 +10,8 @@
 //! counted there by the one-bits of two copies of it. The steps then look for the
 //! greatest R outside the span of the chosen numbers, kept in echelon form. R of a
 //! table at every t is asked by its spectrum too, and not counted there (02, Ticket 5);
-//! a symmetric block's measures come from its words (02, Ticket 6).
+//! a symmetric block's measures come from its words (02, Ticket 6); why a number was not
+//! taken is found by elimination over the chosen ones (02, Ticket 7).
 
 use crate::list::{answer_method, check_fill, check_value, Found};
 use crate::matrix::highest;
@@ -22,12 +23,14 @@ use crate::{
 use std::iter::once;
 
 mod model;
+mod reasons;
 mod spectrum;
 mod symmetric;
 
 pub use crate::table::table_value;
 pub use crate::text::{read_text, write_text};
 pub use model::{model_value, print_model, read_model, write_model};
+pub use reasons::why_not;
 pub use spectrum::table_spectrum;
 pub use symmetric::{symmetric_block, table_symmetric};
 

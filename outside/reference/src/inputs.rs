@@ -1,14 +1,15 @@
 //! Inputs from a seed, the same for the same seed: tables, words of symmetric
-//! blocks, lists of disjoint rows, matrices, row texts, models ([`models`]), and all of these damaged; their
-//! types; numbers in and out of range; rooms short, exact and long. [`Case::new`]
-//! draws a whole call of one operation with everything it is lent.
+//! blocks, lists of disjoint rows, numbers that are asked of them, matrices, row texts,
+//! models ([`models`]), and all of these damaged; their types; numbers in and out of
+//! range; rooms short, exact and long. [`Case::new`] draws a whole call of one operation
+//! with everything it is lent.
 
 pub mod models;
 
 use crate::list::Step;
 use crate::{
-    fast, matrix, missing, write_text, Answer, Flat, FlatRoom, List, ModelHead, Operations, Row,
-    Smaller, TextHead, FD, FILL_ROWS, FR, MODEL_ROOM, NO_OUTPUT, OUTPUTS, ROWS, ROW_INPUTS,
+    fast, matrix, missing, write_text, Answer, Flat, FlatRoom, List, ModelHead, Operations, Reason,
+    Row, Smaller, TextHead, FD, FILL_ROWS, FR, MODEL_ROOM, NO_OUTPUT, OUTPUTS, ROWS, ROW_INPUTS,
     SHEET_ROOM, SMALLER_ROWS, TABLE_INPUTS, TEXT_ROOM,
 };
 
@@ -218,6 +219,30 @@ fn smaller_rows([n, k, block_type, w]: [usize; 4], rows: &[Row]) -> Option<usize
     let [t, s] = [&mut columns, &mut sigma];
     let answer = fast::row_method(n, k, block_type, w, rows, room, t, s);
     (answer.number == 0).then_some(answer.results.rows)
+}
+
+/// A number below 2^n for the question why it was not taken, with weight limit w, where
+/// these were: one of them, the XOR of two or three of them, one with as many one-bits as
+/// the limit allows or one more, or any.
+pub fn asked_number(random: &mut Random, n: usize, w: usize, taken: &[u32]) -> usize {
+    let xor_of = |random: &mut Random, count| {
+        let numbers = (0..count).map(|_| random.pick(taken));
+        numbers.fold(0, |sum, number| sum ^ number)
+    };
+    let t = match random.below(6) {
+        0 => random.pick(taken),
+        1 => xor_of(random, 2),
+        2 => xor_of(random, 3),
+        3 | 4 => {
+            let mut positions: Vec<usize> = (0..n).collect();
+            random.shuffle(&mut positions);
+            let ones = random.pick(&[w, w, w + 1]);
+            let ones = positions.iter().take(ones);
+            ones.fold(0, |sum, position| sum | 1 << position)
+        }
+        _ => random.word(n),
+    };
+    t as usize
 }
 
 /// A matrix of n rows: nonsingular, or any numbers below 2^n, or with one row
@@ -615,6 +640,15 @@ pub enum Case {
         columns: Vec<u32>,
         sigma: Vec<u32>,
     },
+    WhyNot {
+        n: usize,
+        k: usize,
+        block_type: usize,
+        w: usize,
+        t: usize,
+        rows: LentRows,
+        taken: [u32; ROW_INPUTS],
+    },
     Fill {
         n: usize,
         k: usize,
@@ -678,7 +712,7 @@ impl Case {
     /// The case of a seed.
     pub fn new(seed: u64) -> Case {
         let random = &mut Random::new(seed);
-        match random.below(17) {
+        match random.below(18) {
             0 => {
                 let ([n, k, block_type], table) = any_table(random);
                 let t = number(random, 0, (1 << n.min(16)) - 1);
@@ -898,13 +932,27 @@ impl Case {
                     smaller: entries(random, 1 << n.min(16)),
                 }
             }
-            _ => {
+            16 => {
                 let ([n, k, block_type], table) = any_entries(random, table_asked);
                 Case::TableSymmetric {
                     n,
                     k,
                     block_type,
                     table,
+                }
+            }
+            _ => {
+                let (numbers, rows) = method_list(random);
+                let [n, k, block_type, w] = numbers;
+                let t = any_asked(random, numbers, &rows);
+                Case::WhyNot {
+                    n,
+                    k,
+                    block_type,
+                    w,
+                    t,
+                    rows,
+                    taken: [(); ROW_INPUTS].map(|()| random.word(32)),
                 }
             }
         }
@@ -1009,6 +1057,18 @@ impl Case {
                     sigma,
                 ),
                 smaller_results,
+            ),
+            Case::WhyNot {
+                n,
+                k,
+                block_type,
+                w,
+                t,
+                rows,
+                taken,
+            } => flat(
+                O::why_not(*n, *k, *block_type, *w, *t, rows.list(), taken),
+                reason_results,
             ),
             Case::Fill {
                 n,
@@ -1128,6 +1188,21 @@ impl Case {
                 *smaller = LentRows::new(&room);
                 flat(answer, smaller_results)
             }
+            Case::WhyNot {
+                n,
+                k,
+                block_type,
+                w,
+                t,
+                rows,
+                taken,
+            } => {
+                let rows = rows.records()?;
+                flat(
+                    O::why_not_records(*n, *k, *block_type, *w, *t, &rows, taken),
+                    reason_results,
+                )
+            }
             Case::Fill {
                 n,
                 k,
@@ -1207,6 +1282,18 @@ fn flat<R>(answer: Answer<R>, results: impl FnOnce(R) -> Vec<u64>) -> Answer<Vec
 
 fn smaller_results(smaller: Smaller) -> Vec<u64> {
     vec![smaller.before, smaller.after, smaller.rows as u64]
+}
+
+/// Which reason it is, from 1 in 02's order, with its step and its set; all 0 with a
+/// refusal.
+fn reason_results(reason: Option<Reason>) -> Vec<u64> {
+    match reason {
+        None => vec![0, 0, 0],
+        Some(Reason::Zero) => vec![1, 0, 0],
+        Some(Reason::Over) => vec![2, 0, 0],
+        Some(Reason::Taken { step }) => vec![3, step as u64, 0],
+        Some(Reason::Xor { set }) => vec![4, 0, u64::from(set)],
+    }
 }
 
 fn head_results(head: TextHead) -> Vec<u64> {
@@ -1294,6 +1381,18 @@ fn method_list(random: &mut Random) -> ([usize; 4], LentRows) {
     let most = if n < 14 && random.one_in(20) { n } else { 4 };
     let w = number(random, 1, n.min(most).max(1));
     ([n, k, block_type, w], rows)
+}
+
+/// A t for the question why it was not taken, mostly below 2^n and near what was taken;
+/// of a list that is refused any numbers are.
+fn any_asked(random: &mut Random, [n, k, block_type, w]: [usize; 4], rows: &LentRows) -> usize {
+    let inputs = n.clamp(1, ROW_INPUTS);
+    if random.one_in(4) {
+        return number(random, 0, (1 << inputs) - 1);
+    }
+    let mut taken = [(); ROW_INPUTS].map(|()| random.word(inputs));
+    fast::why_not(n, k, block_type, w, 0, rows.list(), &mut taken);
+    asked_number(random, inputs, w.min(inputs), &taken[..inputs])
 }
 
 /// The list with harm at times: too many rows or none, records, overlaps,

@@ -1,15 +1,16 @@
 //! The operations of 01 in plain Rust, with the requests of 02 that are met. A
 //! client gets: single values of R, R at every t of a table by its spectrum, the
 //! table method, restoring, symmetric blocks by Gray decoding, the row method,
-//! filling, reading and writing row text, the sheet, models in BLIF, and what the
-//! program prints. Every operation takes any inputs and answers with a number, the
+//! why a number was not taken, filling, reading and writing row text, the sheet, models
+//! in BLIF, and what the program prints. Every operation takes any inputs and answers with a number, the
 //! places A and B, and its results. A type goes with every list and table.
 //!
 //! In order: [`answer`] and [`rows`] hold what goes in and out, [`types`] what a
 //! missing point means, [`checks`] the refusals, [`matrix`] the basis and its
 //! inverse, [`table`] and [`list`] the operations on full tables and on rows,
 //! [`spectrum`] R of a table by Walsh transforms, [`symmetric`] blocks that depend on
-//! the number of one-bits alone, [`text`], [`sheet`] and [`model`] the texts.
+//! the number of one-bits alone, [`reasons`] why a number was not taken, [`text`],
+//! [`sheet`] and [`model`] the texts.
 //! These are written to be read beside 01 and take the long way wherever that
 //! is the plain one. [`fast`] has the same operations as one would write them
 //! for speed, [`operations`] both under one trait, [`inputs`] makes inputs
@@ -31,6 +32,7 @@ pub mod list;
 pub mod matrix;
 pub mod model;
 pub mod operations;
+pub mod reasons;
 pub mod rows;
 pub mod sheet;
 pub mod spectrum;
@@ -39,7 +41,7 @@ pub mod table;
 pub mod text;
 pub mod types;
 
-pub use answer::{Answer, Measures, ModelHead, Refusal, Smaller, TextHead};
+pub use answer::{Answer, Measures, ModelHead, Reason, Refusal, Smaller, TextHead};
 pub use operations::{Fast, Operations, Plain};
 pub use plain::*;
 pub use rows::{Flat, FlatRoom, List, Room, Row};
@@ -49,6 +51,7 @@ pub use types::{missing, FD, FR};
 mod plain {
     pub use crate::list::{fill, row_method, row_value};
     pub use crate::model::{model_value, print_model, read_model, write_model};
+    pub use crate::reasons::why_not;
     pub use crate::sheet::{program, sheet};
     pub use crate::spectrum::table_spectrum;
     pub use crate::symmetric::{symmetric_block, table_symmetric};
@@ -59,7 +62,8 @@ mod plain {
 /// The table entry that stands for no output (01, Words and numbers).
 pub const NO_OUTPUT: u16 = 65_535;
 
-/// Most inputs of the row method, its single values, text and sheet.
+/// Most inputs of the row method, its single values, why a number was not taken, text
+/// and sheet.
 pub const ROW_INPUTS: usize = 16;
 
 /// Most inputs of the table method, its single values, its spectrum, filling,

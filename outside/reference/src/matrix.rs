@@ -14,10 +14,15 @@ pub fn candidates(n: usize, w: usize) -> impl Iterator<Item = u32> {
     (1..1u32 << n).filter(move |t| t.count_ones() as usize <= w)
 }
 
-/// The numbers chosen in n steps, from the candidates with their R. At each
-/// step the greatest R among those that are not an XOR of some set of the
-/// chosen; among candidates with equal R the one with fewer one-bits, then the
-/// smaller number (02, Ticket 1).
+/// Where a number with this R stands: the one with the smaller place stands before
+/// another. It goes by greater R; among numbers with equal R by fewer one-bits, then by
+/// the smaller number (02, Ticket 1).
+pub fn place(t: u32, r: u64) -> (Reverse<u64>, u32, u32) {
+    (Reverse(r), t.count_ones(), t)
+}
+
+/// The numbers chosen in n steps, from the candidates with their R: at each step the
+/// one that stands first among those that are not an XOR of some set of the chosen.
 pub fn basis(n: usize, candidates: &[(u32, u64)]) -> Vec<u32> {
     let mut chosen = Vec::new();
     // Every XOR of some set of the chosen numbers.
@@ -26,7 +31,7 @@ pub fn basis(n: usize, candidates: &[(u32, u64)]) -> Vec<u32> {
     is_sum[0] = true;
     for _ in 0..n {
         let left = candidates.iter().filter(|(t, _)| !is_sum[*t as usize]);
-        let first = left.min_by_key(|&&(t, r)| (Reverse(r), t.count_ones(), t));
+        let first = left.min_by_key(|&&(t, r)| place(t, r));
         let &(t, _) = first.expect("unit numbers are candidates");
         chosen.push(t);
         for i in 0..sums.len() {

@@ -1,7 +1,9 @@
 //! All operations under one trait, each operation on rows in both forms, so that
 //! one test or one timing runs over any implementation of 01 and 02.
 
-use crate::{Answer, Flat, FlatRoom, Measures, ModelHead, Row, Smaller, TextHead};
+use crate::{
+    Answer, Flat, FlatRoom, Measures, ModelHead, Reason, Row, Smaller, TextHead, ROW_INPUTS,
+};
 
 /// An implementation of 01 and 02. What a function is lent and gives is said at the
 /// function of the same name in this library.
@@ -79,6 +81,26 @@ pub trait Operations {
         columns: &mut [u32],
         sigma: &mut [u32],
     ) -> Answer<Smaller>;
+
+    fn why_not(
+        n: usize,
+        k: usize,
+        block_type: usize,
+        w: usize,
+        t: usize,
+        rows: Flat,
+        taken: &mut [u32; ROW_INPUTS],
+    ) -> Answer<Option<Reason>>;
+
+    fn why_not_records(
+        n: usize,
+        k: usize,
+        block_type: usize,
+        w: usize,
+        t: usize,
+        rows: &[Row],
+        taken: &mut [u32; ROW_INPUTS],
+    ) -> Answer<Option<Reason>>;
 
     fn fill(n: usize, k: usize, block_type: usize, rows: Flat, table: &mut [u16]) -> Answer<()>;
 
@@ -300,6 +322,32 @@ macro_rules! operations_of {
             ) -> Answer<Smaller> {
                 use $module as operations;
                 operations::row_method(n, k, block_type, w, rows, smaller, columns, sigma)
+            }
+
+            fn why_not(
+                n: usize,
+                k: usize,
+                block_type: usize,
+                w: usize,
+                t: usize,
+                rows: Flat,
+                taken: &mut [u32; ROW_INPUTS],
+            ) -> Answer<Option<Reason>> {
+                use $module as operations;
+                operations::why_not(n, k, block_type, w, t, rows, taken)
+            }
+
+            fn why_not_records(
+                n: usize,
+                k: usize,
+                block_type: usize,
+                w: usize,
+                t: usize,
+                rows: &[Row],
+                taken: &mut [u32; ROW_INPUTS],
+            ) -> Answer<Option<Reason>> {
+                use $module as operations;
+                operations::why_not(n, k, block_type, w, t, rows, taken)
             }
 
             fn fill(

@@ -2,11 +2,11 @@
 //! both forms of rows, and the demands that hold between operations.
 
 use reference::inputs::{self, Case, LentRows, Random};
-use reference::{demands, fast, matrix, Fast, Operations, Plain, Row, FD, FR, NO_OUTPUT};
+use reference::{data, demands, fast, matrix, Fast, Operations, Plain, Row, FD, FR, NO_OUTPUT};
 use std::collections::BTreeMap;
 
 /// How many seeds the cases below are drawn from.
-const SEEDS: u64 = 10_200;
+const SEEDS: u64 = 10_800;
 
 #[test]
 fn plain_and_fast_give_the_same_and_refusals_change_nothing() {
@@ -50,6 +50,7 @@ fn plain_and_fast_give_the_same_and_refusals_change_nothing() {
         ("TableSymmetric", &[0, 1, 2, 3, 4, 6]),
         ("RowValue", &[0, 1, 2, 3, 4, 6, 7]),
         ("RowMethod", &[0, 1, 2, 3, 4, 5, 6, 7, 9]),
+        ("WhyNot", &[0, 1, 2, 3, 4, 6, 7]),
         ("Fill", &[0, 1, 2, 3, 4, 5, 6, 7]),
         ("ReadText", &[0, 1, 2, 4, 5, 10]),
         ("WriteText", &[0, 1, 2, 3, 4, 5, 6]),
@@ -229,6 +230,46 @@ fn symmetric_blocks_are_as_02_has_them() {
             demands::symmetric_block::<Fast>(n, seed);
         }
     }
+}
+
+/// Every reason is the one that 02, Ticket 7, has, at each number of small blocks and at
+/// drawn ones of greater blocks.
+#[test]
+fn reasons_are_as_02_has_them() {
+    for n in 1..=16 {
+        for seed in 0..if n < 10 { 40 } else { 3 } {
+            demands::reasons::<Plain>(n, seed);
+            demands::reasons::<Fast>(n, seed);
+        }
+    }
+}
+
+/// Lists that the row method refuses with 9 have their answers here, as no row is moved.
+#[test]
+fn lists_that_pass_512_rows_have_reasons() {
+    let random = &mut Random::new(7);
+    for (head, rows) in data::lists_past_512() {
+        let [n, k, y] = [head.n, head.k, head.block_type];
+        let [mut taken, mut same] = [[7; 16]; 2];
+        let t = random.below(1 << n);
+        let plain = Plain::why_not_records(n, k, y, 3, t, &rows, &mut taken);
+        let fast = Fast::why_not_records(n, k, y, 3, t, &rows, &mut same);
+        assert_eq!(plain.number, 0);
+        assert_eq!((plain, taken), (fast, same));
+    }
+}
+
+/// The drawn calls meet each of the four reasons, each often.
+#[test]
+fn every_reason_is_met() {
+    let mut met = [0; 5];
+    for seed in 0..4_000 {
+        let mut case = Case::new(seed);
+        if matches!(case, Case::WhyNot { .. }) {
+            met[case.run::<Fast>().results[0] as usize] += 1;
+        }
+    }
+    assert!(met.iter().all(|&count| count >= 8), "{met:?}");
 }
 
 /// Text read and written again is the same bytes, rows written and read again

@@ -1,9 +1,10 @@
 //! 01's blocks to try by hand, cases a to j and those after them, read as fr, the
 //! sheet's example, Example 2 of document 000, blocks of either type (02, Ticket 2),
-//! the spectrum of some of these (02, Ticket 5), and symmetric blocks, document 002's
-//! among them (02, Ticket 6). Each is asked of the plain and of the fast operations.
+//! the spectrum of some of these (02, Ticket 5), symmetric blocks, document 002's
+//! among them (02, Ticket 6), and why a number was not taken (02, Ticket 7). Each is asked
+//! of the plain and of the fast operations.
 
-use reference::{fast, spectrum, symmetric, Row, FD, FR, NO_OUTPUT};
+use reference::{fast, spectrum, symmetric, Reason, Row, FD, FR, NO_OUTPUT};
 
 /// Rows as 01 writes them: "symbols word".
 fn list(lines: &[&str]) -> Vec<Row> {
@@ -138,6 +139,28 @@ fn is_symmetric(y: usize, [n, k]: [usize; 2], table: &[u16]) -> ([u32; 3], bool)
     let got = reference::table_symmetric(n, k, y, table);
     assert_eq!(got, fast::table_symmetric(n, k, y, table));
     ([got.number, got.a, got.b], got.results)
+}
+
+/// Number, A, B and the reason why t was not taken, and the numbers that were: none with
+/// a refusal. What lies beyond them holds what it held.
+type WhyAnswer = ([u32; 3], Option<Reason>, Vec<u32>);
+
+fn why_of(y: usize, [n, k, w, t]: [usize; 4], rows: &[Row]) -> WhyAnswer {
+    let [mut taken, mut fast_taken] = [[7; 16]; 2];
+    let got = reference::why_not(n, k, y, w, t, rows, &mut taken);
+    let fast = fast::why_not(n, k, y, w, t, rows, &mut fast_taken);
+    assert_eq!((got, taken), (fast, fast_taken));
+    let count = if got.number == 0 { n } else { 0 };
+    assert!(taken[count..].iter().all(|&number| number == 7));
+    let number = [got.number, got.a, got.b];
+    (number, got.results, taken[..count].to_vec())
+}
+
+/// The reasons of every t below 2^n, and the numbers taken, of a list of type fr.
+fn reasons_of([n, k, w]: [usize; 3], rows: &[Row]) -> (Vec<Reason>, Vec<u32>) {
+    let reason = |t| why_of(FR, [n, k, w, t], rows).1.unwrap();
+    let reasons = (0..1 << n).map(reason).collect();
+    (reasons, why_of(FR, [n, k, w, 0], rows).2)
 }
 
 const ANSWERED: [u32; 3] = [0, 0, 0];
@@ -634,6 +657,137 @@ fn refusals_of_symmetric_blocks() {
     assert_eq!(is_symmetric(FR, [2, 1], &table), ([6, 0, 1], false));
     assert_eq!(is_symmetric(FR, [2, 2], &table), (ANSWERED, true));
     assert_eq!(is_symmetric(FD, [2, 2], &table), ([6, 0, 3], false));
+}
+
+/// The sheet's block: R is 8 at 1, 6 and 7, and 0 at 2, 3, 4 and 5. With weight limit 3
+/// the numbers stand as 1, 6, 7, 2, 4, 3, 5, so that 1, 6 and 2 are taken, 7 being the XOR
+/// of the two before it. With 2 the number 7 is over the limit, with 1 all but the units
+/// are, and these are taken.
+#[test]
+fn reasons_by_hand() {
+    use Reason::{Over, Taken, Xor, Zero};
+    let rows = list(&SHEET_BLOCK);
+    let taken = |step| Taken { step };
+    let xor = |set| Xor { set };
+    let [first, second, third] = [taken(1), taken(2), taken(3)];
+    // 3 is 1 XOR 2, 4 is 6 XOR 2, 5 is 1 XOR 6 XOR 2
+    let [three, four, five] = [xor(0b101), xor(0b110), xor(0b111)];
+    let seven = xor(0b011);
+    let due = vec![Zero, first, third, three, four, five, second, seven];
+    assert_eq!(reasons_of([3, 2, 3], &rows), (due, vec![1, 6, 2]));
+    let due = vec![Zero, first, third, three, four, five, second, Over];
+    assert_eq!(reasons_of([3, 2, 2], &rows), (due, vec![1, 6, 2]));
+    let due = vec![Zero, first, second, Over, third, Over, Over, Over];
+    assert_eq!(reasons_of([3, 2, 1], &rows), (due, vec![1, 2, 4]));
+}
+
+/// One row over all points has R 2^n at every t, so that the one-bits and then the
+/// numbers decide: the units are taken, lowest first, and each other number is the XOR of
+/// its own units.
+#[test]
+fn reasons_where_r_is_equal() {
+    for n in [1, 4] {
+        let (reasons, taken) = reasons_of([n, 1, n], &[Row::default()]);
+        assert_eq!(taken, (0..n).map(|i| 1 << i).collect::<Vec<u32>>());
+        for (t, reason) in reasons.into_iter().enumerate() {
+            let due = match t.count_ones() {
+                0 => Reason::Zero,
+                1 => Reason::Taken {
+                    step: t.trailing_zeros() as usize + 1,
+                },
+                _ => Reason::Xor { set: t as u32 },
+            };
+            assert_eq!(reason, due, "t {t}");
+        }
+    }
+}
+
+/// Document 000, Example 2, whose T is 4, 10, 1, 7. R is 10 at 14 as at 10, which has
+/// fewer one-bits; and 6 at 5, 11 and 15, as at 1.
+#[test]
+fn reasons_of_document_000_example_2() {
+    let rows = list(&[
+        "0100 000", "0011 000", "1-00 001", "0-10 001", "0101 010", "000- 010", "1-1- 010",
+        "1-01 011", "0111 100",
+    ]);
+    let (reasons, taken) = reasons_of([4, 3, 4], &rows);
+    assert_eq!(taken, [4, 10, 1, 7]);
+    assert_eq!(reasons[7], Reason::Taken { step: 4 });
+    for (t, set) in [
+        (14, 0b0011),
+        (5, 0b0101),
+        (11, 0b0110),
+        (15, 0b0111),
+        (2, 0b1101),
+        (8, 0b1111),
+    ] {
+        assert_eq!(reasons[t], Reason::Xor { set }, "t {t}");
+    }
+}
+
+/// Points 1 and 2 have word 0. Under fr R is 2 at 3 and 0 at 1 and 2, so that 3 and 1 are
+/// taken; under fd every point has word 0 and R is 4 at each t, so that 1 and 2 are.
+#[test]
+fn reasons_go_by_the_type() {
+    let rows = list(&["01 0", "10 0"]);
+    let xor = Some(Reason::Xor { set: 0b11 });
+    let taken = |step| Some(Reason::Taken { step });
+    for (y, numbers, due) in [
+        (FR, vec![3, 1], [taken(2), xor, taken(1)]),
+        (FD, vec![1, 2], [taken(1), taken(2), xor]),
+    ] {
+        for (t, due) in (1..4).zip(due) {
+            let got = why_of(y, [2, 1, 2, t], &rows);
+            assert_eq!(got, (ANSWERED, due, numbers.clone()), "type {y}, t {t}");
+        }
+    }
+}
+
+#[test]
+fn refusals_of_why() {
+    let most = usize::MAX;
+    let bad = [
+        Row {
+            mask: 1,
+            values: 0,
+            word: 1,
+        },
+        Row {
+            mask: 1,
+            values: 2,
+            word: 1,
+        },
+        Row {
+            mask: 2,
+            values: 0,
+            word: 2,
+        },
+    ];
+    let refused = |number| (number, None, vec![]);
+    // Each is given before those after it, and all before "t is 0".
+    for n in [0, 17, 64, most] {
+        assert_eq!(why_of(0, [n, 0, 0, most], &bad), refused([1, 0, 0]));
+    }
+    for k in [0, 16, 64, most] {
+        assert_eq!(why_of(0, [2, k, 0, most], &bad), refused([2, 0, 0]));
+    }
+    for [y, w, t] in [
+        [0, 2, 0],
+        [3, 2, 0],
+        [FR, 0, 0],
+        [FD, 3, 0],
+        [FR, 2, 4],
+        [FD, 2, most],
+    ] {
+        assert_eq!(why_of(y, [2, 1, w, t], &[]), refused([3, 0, 0]));
+    }
+    assert_eq!(why_of(FR, [2, 1, 2, 0], &[]), refused([4, 0, 0]));
+    assert_eq!(why_of(FD, [2, 1, 2, 0], &[bad[0]; 129]), refused([4, 0, 0]));
+    assert_eq!(why_of(FR, [2, 1, 2, 0], &bad), refused([6, 0, 1]));
+    assert_eq!(why_of(FR, [2, 1, 2, 0], &bad[..1]).0, ANSWERED);
+    let shared = [bad[0], bad[2]];
+    assert_eq!(why_of(FD, [2, 1, 2, 0], &shared), refused([6, 0, 1]));
+    assert_eq!(why_of(FD, [2, 2, 2, 0], &shared), refused([7, 0, 1]));
 }
 
 #[test]
