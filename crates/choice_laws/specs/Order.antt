@@ -21,7 +21,7 @@ abbrev pub GreaterFirst : (ℕ → ℕ → Bool) → (ℕ → ℕ) → Type 0
 GreaterFirst order r = (a b : ℕ) → r b < r a → order a b ≡ true
 
 -- nothing stands before itself
-strict-self : (order : ℕ → ℕ → Bool) → Strict order → (a : ℕ) → order a a ≡ false
+pub strict-self : (order : ℕ → ℕ → Bool) → Strict order → (a : ℕ) → order a a ≡ false
 strict-self order s a = go (order a a) refl
   where
     go : (x : Bool) → order a a ≡ x → order a a ≡ false

@@ -4,18 +4,17 @@
 -- The laws of any block stand in crate reason_laws. Assumes nothing.
 use mathlib.Core.Path.{_≡_, refl, sym, ap, _∙_}
 use mathlib.Core.Bool.{Bool, true, false, not, cond, false≢true}
-use mathlib.Core.List.{List, _∷_}
+use mathlib.Core.List.{List}
 use mathlib.Core.Logic.{_↔_}
 use Prim.Native.Nat.{ℕ, _-_, _^_, _<_}
 use native.Mathlib.Omega.{arith}
 use borrow.Author.Tests.{eq-eqb, eqb-true, lt-ltb}
-use lib.Dec.{eqb}
 use Rattle.bits.specs.Digits.{bit}
 use Rattle.slices.specs.Places.{at}
 use Rattle.block.specs.Words.{missing, ofRows}
 use Rattle.block.specs.Measure.{shift}
 use Rattle.block.specs.Basis.{before, columns, apply, basisOf, sigmaOf}
-use Rattle.block.specs.Refusals.{Check, answer, verdict, answered}
+use Rattle.block.specs.Refusals.{answer, answered}
 use Rattle.block.specs.Lists.{methodChecks, rowMethodVerdict}
 use Rattle.block.specs.Reasons.{FirstToHold, reasonOf, whyVerdict, whyNot}
 use Rattle.block.specs.declared.Row.{Row}
@@ -24,7 +23,7 @@ use Rattle.block.specs.declared.Reason.{Reason}
 use Rattle.block.specs.declared.Reason.the-variants.{Zero, Taken, Xor}
 use Rattle.block.specs.declared.Why.{Why}
 use Rattle.block.specs.declared.Why.the-variants.{Given, Refused}
-use Rattle.refusal_laws.specs.Verdicts.{verdict-hit, verdict-miss, verdict-none}
+use Rattle.refusal_laws.specs.Verdicts.{verdict-miss, verdict-none, passed-over}
 use Rattle.choice_laws.specs.Order.{Ahead}
 use Rattle.answered_laws.specs.Passed.{WhyPassed, why-passed}
 use Rattle.reason_laws.specs.Blocks.{reason-first, reason-only, set-only, taken-sigma, xor-ahead}
@@ -106,27 +105,19 @@ module _ (n k y w t : ℕ) (rs : List Row) where
 
 -- ---- a list that the row method refuses with 9
 
--- a check with another number did not hold, and the rest refuse with 9
-past : (i : Check) (cs : List Check) → eqb (i .number) 9 ≡ false → verdict (i ∷ cs) .number ≡ 9 → (i .holds ≡ false) × (verdict cs .number ≡ 9)
-past i cs other e = go (i .holds) refl
-  where
-    go : (b : Bool) → i .holds ≡ b → (i .holds ≡ false) × (verdict cs .number ≡ 9)
-    go true d = absurd (false≢true (sym other ∙ eq-eqb (i .number) 9 (sym (ap (λ (v : Answer). v .number) (verdict-hit i cs d)) ∙ e)))
-    go false d = (d, sym (ap (λ (v : Answer). v .number) (verdict-miss i cs d)) ∙ e)
-
 -- it is answered here, for every t below 2^n: the list is not moved
 pub nine-answered : (n k y w t : ℕ) (rs : List Row) (roomT roomSigma roomRows : ℕ) → rowMethodVerdict n k y w rs roomT roomSigma roomRows .number ≡ 9
     → t < 2 ^ n → whyVerdict n k y w t rs ≡ answer 0 0 0
 unfolding rowMethodVerdict methodChecks whyVerdict
 nine-answered n k y w t rs roomT roomSigma roomRows h below =
-    let inputs = past _ _ refl h in
-    let columns = past _ _ refl (inputs .1) in
-    let typed = past _ _ refl (columns .1) in
-    let weight = past _ _ refl (typed .1) in
-    let count = past _ _ refl (weight .1) in
-    let room = past _ _ refl (count .1) in
-    let formed = past _ _ refl (room .1) in
-    let apart = past _ _ refl (formed .1) in
+    let inputs = passed-over 9 _ _ refl h in
+    let columns = passed-over 9 _ _ refl (inputs .1) in
+    let typed = passed-over 9 _ _ refl (columns .1) in
+    let weight = passed-over 9 _ _ refl (typed .1) in
+    let count = passed-over 9 _ _ refl (weight .1) in
+    let room = passed-over 9 _ _ refl (count .1) in
+    let formed = passed-over 9 _ _ refl (room .1) in
+    let apart = passed-over 9 _ _ refl (formed .1) in
     verdict-miss _ _ (inputs .0)
     ∙ verdict-miss _ _ (columns .0)
     ∙ verdict-miss _ _ (typed .0)

@@ -1,7 +1,7 @@
 -- The reasons for a block f with n inputs and any weight limit w from 1 on, under the order of candidates (02, Ticket 7: "the order of greater
 -- R, then Ticket 1"). "The reason given must be the true one, and the set named is the only such set." Assumes nothing.
 use mathlib.Core.Path.{_≡_, sym, ap, _∙_}
-use Prim.Native.Nat.{ℕ, _-_, _^_, _≤_, _<_}
+use Prim.Native.Nat.{ℕ, _^_, _≤_, _<_}
 use Rattle.bits.specs.Digits.{bit}
 use Rattle.slices.specs.Places.{at}
 use Rattle.block.specs.Measure.{shift}

@@ -1,6 +1,6 @@
 -- The first reason that holds (02, Ticket 7), of numbers that were taken one by one under any order: the reason that is found is that one, and no
 -- other is. So each is found exactly where it is the first that holds, and always one of the four does. Assumes nothing.
-use mathlib.Core.Path.{_≡_, refl, sym, ap, _∙_}
+use mathlib.Core.Path.{_≡_, sym, ap, _∙_}
 use mathlib.Core.Bool.{Bool, true, false, cond, false≢true}
 use Prim.Native.Nat.{ℕ, suc, _-_, _^_, _≤_, _<_}
 use native.Mathlib.Decide.{ℕ-discrete, decLt}
@@ -17,7 +17,7 @@ use Rattle.block.specs.Basis.{span, columns, apply, inverse}
 use Rattle.block.specs.Reasons.{XorOf, Holds, FirstToHold, placeOf, setOf, reason}
 use Rattle.block.specs.declared.Reason.{Reason}
 use Rattle.block.specs.declared.Reason.the-variants.{Zero, Over, Taken, Xor}
-use Rattle.choice_laws.specs.Order.{Strict}
+use Rattle.choice_laws.specs.Order.{Strict, strict-self}
 use Rattle.matrix_laws.specs.Linear.{columns-unit, apply-lt}
 use Rattle.matrix_laws.specs.Reached.{Independent}
 use Rattle.matrix_laws.specs.Inverse.{sigma-columns, columns-sigma}
@@ -57,14 +57,10 @@ module _ (order : ℕ → ℕ → Bool) (n w : ℕ) (c : ℕ → ℕ) (g : Taken
   xor-untaken s t z q step held =
       absurd
       (false≢true
-      (sym (self (order t t) refl)
+      (sym (strict-self order s t)
       ∙ ap (λ (x : ℕ). order x t) (sym (held .2))
       ∙ q .before (step - 1) (omega (arith, held .0, held .1)) (rw (← own) (bit-pow-same (step - 1)))))
     where
-      self : (x : Bool) → order t t ≡ x → order t t ≡ false
-      self true e = s .asymmetric t t e
-      self false e = e
-
       own : 2 ^ (step - 1) ≡ z
       own =
           let l : step - 1 < n = omega (arith, held .0, held .1) in

@@ -67,14 +67,22 @@ answered-clear (c ∷ cs) nn e j h = go (answered-clear cs (nn .1)) (c .holds) r
 pub zero-too : {v u : Answer} → v ≡ u → v .number ≡ 0 → u .number ≡ 0
 zero-too e h = sym (ap (λ (v : Answer). v .number) e) ∙ h
 
--- the same check by check: the first does not hold, and the rest answer 0
+-- where the verdict has the number m, a check with another number does not hold, and the rest have the number m
+pub passed-over : (m : ℕ) (c : Check) (cs : List Check) → eqb (c .number) m ≡ false → verdict (c ∷ cs) .number ≡ m
+    → (c .holds ≡ false) × (verdict cs .number ≡ m)
+passed-over m c cs n e = go (c .holds) refl
+  where
+    number-of : {v : Answer} → verdict (c ∷ cs) ≡ v → v .number ≡ m
+    number-of d = sym (ap (λ (v : Answer). v .number) d) ∙ e
+
+    go : (b : Bool) → c .holds ≡ b → (c .holds ≡ false) × (verdict cs .number ≡ m)
+    go true d = absurd (false≢true (sym n ∙ eq-eqb (c .number) m (number-of (verdict-hit c cs d))))
+    go false d = (d, number-of (verdict-miss c cs d))
+
+-- an answer of 0 check by check: the first does not hold, and the rest answer 0
 pub passes : (c : Check) (cs : List Check) → eqb (c .number) 0 ≡ false → verdict (c ∷ cs) .number ≡ 0
     → (c .holds ≡ false) × (verdict cs .number ≡ 0)
-passes c cs n e = go (c .holds) refl
-  where
-    go : (b : Bool) → c .holds ≡ b → (c .holds ≡ false) × (verdict cs .number ≡ 0)
-    go true d = absurd (false≢true (sym n ∙ eq-eqb (c .number) 0 (zero-too (verdict-hit c cs d) e)))
-    go false d = (d, zero-too (verdict-miss c cs d) e)
+passes = passed-over 0
 
 -- ---- a list in two parts: the second counts where the first answers 0
 
