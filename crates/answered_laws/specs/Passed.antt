@@ -3,7 +3,7 @@
 -- slices that hold the rows (crate flat_rows). Assumes nothing.
 use mathlib.Core.Path.{_≡_, refl, ap, _∙_}
 use mathlib.Core.Bool.{Bool, true, false, not}
-use mathlib.Core.List.{List, [], _∷_, _++_}
+use mathlib.Core.List.{List, [], _∷_, _++_, map}
 use Prim.Native.Nat.{ℕ, suc, _-_, _^_, _≤_, _<_}
 use native.Mathlib.Omega.{arith}
 use borrow.Author.Tests.{lt-ltb, le-ltb, ltb-true, ltb-false, not-false}
@@ -11,12 +11,13 @@ use lib.Dec.{ltb}
 use lib.ListN.{length}
 use Rattle.slices.specs.Least.{first-below}
 use Rattle.block.specs.Limits.{listInputs, tableInputs, outputs, givenRows, smallerRows}
-use Rattle.block.specs.Words.{fr, fd, missing}
+use Rattle.block.specs.Words.{fr, fd, missing, wordPart}
 use Rattle.block.specs.Refusals.{Check, check, answer, verdict, outside, typedChecks, badRow, rowAt, sharing}
 use Rattle.block.specs.Lists.{countCheck, badRowCheck, rowChecks, rowValueVerdict, rowsAfter, passing, passingCheck, methodChecked, methodChecks, smallerList, fillVerdict}
 use Rattle.block.specs.Reasons.{whyVerdict}
 use Rattle.block.specs.declared.Row.{Row}
 use Rattle.refusal_laws.specs.Verdicts.{verdict-miss, verdict-none, none-passes, passes, Numbered}
+use Rattle.refusal_laws.specs.Driven.{AllDriven, check-driven, driven-check}
 use Rattle.shared_checks.specs.Sizes.{inside, within, sizes-pass}
 use Rattle.pair_laws.specs.Cube.{Sound}
 use Rattle.pair_laws.specs.Theorem.{Every, Disjoint}
@@ -30,11 +31,12 @@ pub record InRange (inputs most n k : ℕ) (rs : List Row) : Type 0 where
   pub columns : (1 ≤ k) × (k ≤ outputs)
   pub count : (1 ≤ length rs) × (length rs ≤ most)
 
--- and the rows pass: none is malformed, and no two share a point
+-- and the rows pass: none is malformed, no two share a point, and they drive every column
 pub record Passed (inputs most n k : ℕ) (rs : List Row) : Type 0 where
   pub range : InRange inputs most n k rs
   pub good : Every (λ r. badRow n k r ≡ false) rs
   pub disjoint : Disjoint n rs
+  pub columns-driven : AllDriven k (map wordPart rs)
 
 -- the row method, but for 9
 pub record MethodPassed (n k y w : ℕ) (rs : List Row) (short : Bool) : Type 0 where
@@ -69,7 +71,7 @@ in-range-more wider more h l p =
 
 -- each has a number of its own
 pub rows-numbered : (n k : ℕ) (rs : List Row) → Numbered (rowChecks n k rs)
-rows-numbered n k rs = (refl, (refl, tt))
+rows-numbered n k rs = (refl, (refl, (refl, tt)))
 
 -- 6 passes: each row is sound
 pub formed-sound : (n k : ℕ) (rs : List Row) → verdict (badRowCheck n k rs ∷ []) .number ≡ 0 → Every (Sound n) rs
@@ -79,20 +81,24 @@ pub rows-pass : (inputs most n k : ℕ) (rs : List Row) (rest : List Check) → 
     → verdict (rowChecks n k rs ++ rest) .number ≡ 0 → Passed inputs most n k rs × (verdict rest .number ≡ 0)
 rows-pass inputs most n k rs rest p h =
     let formed = passes _ _ refl h in
-    let apart = passes _ _ refl (formed .1) in (
+    let apart = passes _ _ refl (formed .1) in
+    let told = passes _ _ refl (apart .1) in (
       record {
         range = p;
         good = every-good n k rs (formed .0);
         disjoint = checked-disjoint n k rs (p .columns .1) (formed .0) (apart .0);
+        columns-driven = check-driven k (map wordPart rs) (told .0);
       },
-      apart .1,
+      told .1,
     )
 
 -- a list whose rows pass is asked what comes next
 pub rows-answer : {inputs most : ℕ} (n k : ℕ) (rs : List Row) (rest : List Check) → Passed inputs most n k rs
     → verdict (rowChecks n k rs ++ rest) ≡ verdict rest
 rows-answer n k rs rest p =
-    verdict-miss _ _ (none-passes (length rs) (λ i. badRow n k (rowAt rs i)) (p .good)) ∙ verdict-miss _ _ (no-share (ltb (sharing n rs) (length rs)) refl)
+    verdict-miss _ _ (none-passes (length rs) (λ i. badRow n k (rowAt rs i)) (p .good))
+    ∙ verdict-miss _ _ (no-share (ltb (sharing n rs) (length rs)) refl)
+    ∙ verdict-miss _ _ (driven-check k (map wordPart rs) (p .columns-driven))
   where
     no-share : (b : Bool) → ltb (sharing n rs) (length rs) ≡ b → ltb (sharing n rs) (length rs) ≡ false
     no-share true e = absurd (apart-sharing n rs (p .disjoint .apart) (ltb-true (sharing n rs) (length rs) e))

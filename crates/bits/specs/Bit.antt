@@ -1,16 +1,16 @@
--- Laws of single bits: two numbers with equal bits are equal; bits of XOR, AND, of a block of digits, of a digit's multiple and of
+-- Laws of single bits: two numbers with equal bits are equal; bits of XOR, AND and OR, of a block of digits, of a digit's multiple and of
 -- a power of two. Assumes nothing.
-use mathlib.Core.Path.{_≡_, refl, sym, ap, ap₂, _∙_}
-use Prim.Native.Nat.{ℕ, zero, suc, _+_, _*_, _/_, _%_, _^_, _<_, min}
+use mathlib.Core.Path.{_≡_, sym, ap, ap₂, _∙_}
+use Prim.Native.Nat.{ℕ, zero, suc, _+_, _*_, _/_, _%_, _^_, _<_, min, max}
 use native.Mathlib.Decide.{decLt}
 use native.Mathlib.Nat.{mod-lt, zero-lt-suc, div-eq-of-lt, mul-zero, mul-one}
 use native.Mathlib.Numerals.{one-add}
 use native.Mathlib.Omega.{arith}
-use lib.Bits.{bitAnd, bitXor, xor-shr, and-shr, block-odd, block-half, and-block, and-comm, and-mask}
+use lib.Bits.{bitAnd, bitOr, bitXor, xor-shr, and-shr, or-shr, block-odd, block-half, and-block, and-comm, and-mask}
 use lib.Pow.{shr-shr, shr-lt, high, pow-pos, pow-lt, split}
 use Rattle.bits.specs.Digits.{bit, parity}
 use Rattle.bits.specs.Parity.{parity-0, ones-pow}
-use Rattle.bits.specs.Xor.{dig-ext, xor-odd, and-odd}
+use Rattle.bits.specs.Xor.{dig-ext, xor-odd, and-odd, or-odd}
 
 pub bit-zero : (x : ℕ) → bit x 0 ≡ x % 2
 bit-zero x = omega arith
@@ -34,6 +34,9 @@ bit-xor a b i = ap (λ (x : ℕ). x % 2) (xor-shr a b i) ∙ xor-odd (a / 2 ^ i)
 
 pub bit-and : (a b i : ℕ) → bit (bitAnd a b) i ≡ min (bit a i) (bit b i)
 bit-and a b i = ap (λ (x : ℕ). x % 2) (and-shr a b i) ∙ and-odd (a / 2 ^ i) (b / 2 ^ i)
+
+pub bit-or : (a b i : ℕ) → bit (bitOr a b) i ≡ max (bit a i) (bit b i)
+bit-or a b i = ap (λ (x : ℕ). x % 2) (or-shr a b i) ∙ or-odd (a / 2 ^ i) (b / 2 ^ i)
 
 -- of digits a above n digits r: the low bits are r's, and bit n is a's lowest
 pub bit-low : (n i a r : ℕ) → i < n → bit (a * 2 ^ n + r) i ≡ bit r i

@@ -1,13 +1,13 @@
--- Laws of XOR and AND, beside those of the kit's lib.Bits: by halves and lowest digits; associative; an XOR undoes itself; AND
+-- Laws of XOR and AND, and the lowest digit of OR, beside those of the kit's lib.Bits: by halves and lowest digits; associative; an XOR undoes itself; AND
 -- distributes; what keeps an equation's truth. Assumes nothing.
 use mathlib.Core.Path.{_≡_, refl, sym, ap, _∙_}
-use Prim.Native.Nat.{ℕ, zero, suc, _+_, _*_, _/_, _%_, _<_, min}
+use Prim.Native.Nat.{ℕ, zero, suc, _+_, _*_, _/_, _%_, _<_, min, max}
 use native.Mathlib.Decide.{ℕ-discrete}
 use native.Mathlib.Nat.{mul-zero, mul-one}
 use native.Mathlib.Omega.{arith}
 use borrow.Author.Tests.{eq-eqb, ne-eqb}
 use lib.Arith.{bin-ind}
-use lib.Bits.{bitAnd, bitXor, differ, and-step, xor-step, xor-shr, and-shr, xor-self, xor-comm, xor-zero-r, and-zero-r}
+use lib.Bits.{bitAnd, bitOr, bitXor, differ, and-step, or-step, xor-step, xor-shr, and-shr, xor-self, xor-comm, xor-zero-r, and-zero-r}
 use lib.Dec.{eqb}
 
 -- halves and lowest digits decide a number
@@ -34,6 +34,9 @@ xor-odd a b = omega (arith, xor-step a b, differ-mod (a % 2) (b % 2) (omega arit
 
 pub and-odd : (a b : ℕ) → bitAnd a b % 2 ≡ min (a % 2) (b % 2)
 and-odd a b = omega (arith, and-step a b)
+
+pub or-odd : (a b : ℕ) → bitOr a b % 2 ≡ max (a % 2) (b % 2)
+or-odd a b = omega (arith, or-step a b)
 
 add3 : (a b c : ℕ) → ((a + b) % 2 + c) % 2 ≡ (a + (b + c) % 2) % 2
 add3 a b c = omega arith

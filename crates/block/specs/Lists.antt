@@ -1,17 +1,17 @@
 -- The operations on lists of rows (01, Numbers that come back): for each its checks in their order, its answer and its results.
 -- Assumes nothing.
 use mathlib.Core.Bool.{Bool, not, _||_}
-use mathlib.Core.List.{List, [], _∷_, _++_}
+use mathlib.Core.List.{List, [], _∷_, _++_, map}
 use Prim.Native.Nat.{ℕ, suc, _+_, _^_}
 use lib.Dec.{ltb}
 use lib.ListN.{length}
 use Rattle.slices.specs.Places.{at, tab, first}
 use Rattle.block.specs.Limits.{listInputs, tableInputs, givenRows, smallerRows}
-use Rattle.block.specs.Words.{missing, ofRows}
+use Rattle.block.specs.Words.{missing, ofRows, wordPart}
 use Rattle.block.specs.Measure.{shift, measure}
 use Rattle.block.specs.Basis.{basisOf, smallerOf}
 use Rattle.block.specs.Rows.{moved}
-use Rattle.block.specs.Refusals.{Check, check, verdict, carried, outside, typedChecks, some, badRow, rowAt, second, sharing}
+use Rattle.block.specs.Refusals.{Check, check, verdict, carried, outside, typedChecks, some, badRow, rowAt, second, sharing, undriven}
 use Rattle.block.specs.Tables.{withValue}
 use Rattle.block.specs.declared.Row.{Row}
 use Rattle.block.specs.declared.Answer.{Answer}
@@ -31,9 +31,13 @@ badRowCheck n k rs =
 abbrev pub shareCheck : ℕ → List Row → Check
 shareCheck n rs = check (ltb (sharing n rs) (length rs)) 7 (sharing n rs) (second n rs (sharing n rs))
 
--- what every operation that takes a list to work on asks of its rows, last of all but 9: 6, 7
+-- 11: the lowest output bit that none of a list's words drives (02, Ticket 8: "after 7 and before 9")
+abbrev pub undrivenCheck : ℕ → List ℕ → Check
+undrivenCheck k words = check (ltb (undriven k words) k) 11 (undriven k words) 0
+
+-- what every operation that takes a list to work on asks of its rows, last of all but 9: 6, 7, 11
 abbrev pub rowChecks : ℕ → ℕ → List Row → List Check
-rowChecks n k rs = badRowCheck n k rs ∷ shareCheck n rs ∷ []
+rowChecks n k rs = badRowCheck n k rs ∷ shareCheck n rs ∷ undrivenCheck k (map wordPart rs) ∷ []
 
 -- ---- a single shift value of a list of type y: 1, 2, 3 (y, t), 4, and its rows
 

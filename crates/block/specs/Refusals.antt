@@ -1,12 +1,13 @@
 -- Numbers that come back (01, the section of that name): a refusal is the first check that holds, in the order of the numbers; the
 -- conditions that several operations share; what lent storage holds at the end. Each operation's list of checks stands with its
 -- answer, in `Tables`, `Lists`, `Text` and `Sheet`. Assumes nothing.
-use mathlib.Core.Bool.{Bool, not, cond, _&&_, _||_}
+use mathlib.Core.Bool.{Bool, false, not, cond, _&&_, _||_}
 use mathlib.Core.List.{List, [], _∷_}
 use Prim.Native.Nat.{ℕ, _^_}
 use lib.Bits.{bitAnd}
 use lib.Dec.{eqb, ltb}
 use lib.ListN.{length, getD}
+use Rattle.bits.specs.Digits.{bit}
 use Rattle.slices.specs.Places.{at, first, over}
 use Rattle.block.specs.Limits.{outputs}
 use Rattle.block.specs.Words.{fr, fd, row, under}
@@ -97,6 +98,15 @@ second n rs i = first (length rs) (λ j. ltb i j && share n (rowAt rs i) (rowAt 
 -- 7: the least row that shares a point with a later one; the number of rows where there is none
 unfoldable pub sharing : ℕ → List Row → ℕ
 sharing n rs = first (length rs) (λ i. ltb (second n rs i) (length rs))
+
+-- 11: some word of a list's has a 1 in column j, so that output bit j is driven (02, Ticket 8)
+unfoldable pub driven : List ℕ → ℕ → Bool
+driven [] j = false
+driven (w ∷ ws) j = eqb (bit w j) 1 || driven ws j
+
+-- 11: the least column "that is 0 in every row", "the lowest such output bit"; k where there is none
+unfoldable pub undriven : ℕ → List ℕ → ℕ
+undriven k ws = first k (λ j. not (driven ws j))
 
 -- 8: the least matrix row that is the XOR of some set of earlier rows; n where there is none
 unfoldable pub dependent : ℕ → (ℕ → ℕ) → ℕ

@@ -1,6 +1,6 @@
 -- The blocks that 01 marks P (01, Blocks to try by hand), read as fr, blocks with missing points under both types (02, Ticket 2), symmetric
--- blocks (02, Ticket 6) and why numbers were not taken (02, Ticket 7), as one statement over a table: each question has the numbers that stand
--- beside it. Every question goes through the answer that an operation's contract cites. Assumes nothing.
+-- blocks (02, Ticket 6), why numbers were not taken (02, Ticket 7) and columns that no row drives (02, Ticket 8), as one statement over a table:
+-- each question has the numbers that stand beside it. Every question goes through the answer that an operation's contract cites. Assumes nothing.
 use mathlib.Core.Path.{_≡_, refl, ap₂}
 use mathlib.Core.Bool.{Bool, true, cond, _&&_}
 use mathlib.Core.List.{List, [], _∷_, _++_}
@@ -15,7 +15,7 @@ use Rattle.block.specs.Words.{fr, fd, missing, ofTable, ofRows, row}
 use Rattle.block.specs.Measure.{same, shift, measure}
 use Rattle.block.specs.Basis.{span, candidate, before, better, best, next, chosen, columns, apply, inverse, basisOf, sigmaOf, smallerOf}
 use Rattle.block.specs.Rows.{highest, partner, exchange, rest, shear, reached, splitRow, splitRows, moved}
-use Rattle.block.specs.Refusals.{verdict, answered, badRow, share, second, sharing, dependent}
+use Rattle.block.specs.Refusals.{verdict, answered, badRow, share, second, sharing, driven, undriven, dependent}
 use Rattle.block.specs.Tables.{tableValueVerdict, tableValue, tableMethodVerdict, tableMethod, smallerTable, restoreVerdict, restored}
 use Rattle.block.specs.Lists.{rowValueVerdict, rowValue, rowsAfter, passing, methodChecks, rowMethodVerdict, rowMethod, smallerList, fillVerdict, filled}
 use Rattle.block.specs.Text.{equal}
@@ -132,6 +132,10 @@ rowsH = row 2 0 0 ∷ row 1 0 0 ∷ []
 pub rowsM : List Row
 rowsM = row 3 0 1 ∷ row 3 3 2 ∷ []
 
+-- "0 010", "1 000": of three columns the lowest and the highest are 0 in every row
+pub rowsU : List Row
+rowsU = row 1 0 2 ∷ row 1 1 0 ∷ []
+
 -- a table without an output at 01
 pub tableM : List ℕ
 tableM = 0 ∷ 65535 ∷ 1 ∷ 0 ∷ []
@@ -139,7 +143,9 @@ tableM = 0 ∷ 65535 ∷ 1 ∷ 0 ∷ []
 -- the cases a to j, read as fr; then missing points under both types, and a number that is no type; then symmetric blocks: the parity of two,
 -- 2 of 3, at least 2 of 3, whose measures are equal, 3 of 5, the block of the README, and one without an output at two one-bits; then why, of
 -- every t of block e, whose T is 1, 6, 2, of two with the weight limit 1, where T is 1, 2, 4, and of two of block g, whose T is 6, 2, 1; and
--- refusals, which come before the reason that t is 0
+-- refusals, which come before the reason that t is 0; then columns that no row drives: block e with a third output, in every operation on
+-- lists, two of block u, of which the lowest is named, and a table, which is not asked for them. In case h, where rows share a point too, 7
+-- comes first
 pub table : List Case
 table =
     case (tableValues 2 1 fr 0 tableA) (0 ∷ 0 ∷ 0 ∷ 4 ∷ [])
@@ -213,6 +219,12 @@ table =
     ∷ case (whyNots 3 2 fr 3 8 rowsE) (3 ∷ 0 ∷ 0 ∷ 0 ∷ 0 ∷ 0 ∷ [])
     ∷ case (whyNots 3 2 fr 0 0 rowsE) (3 ∷ 0 ∷ 0 ∷ 0 ∷ 0 ∷ 0 ∷ [])
     ∷ case (whyNots 2 1 fr 2 0 rowsH) (7 ∷ 0 ∷ 1 ∷ 0 ∷ 0 ∷ 0 ∷ [])
+    ∷ case (rowValues 3 3 fr 1 rowsE) (11 ∷ 2 ∷ 0 ∷ 0 ∷ [])
+    ∷ case (rowMethods 3 3 fd 3 rowsE) (11 ∷ 2 ∷ 0 ∷ 0 ∷ 0 ∷ 0 ∷ [])
+    ∷ case (fills 3 3 fr rowsE) (11 ∷ 2 ∷ 0 ∷ [])
+    ∷ case (whyNots 3 3 fr 3 0 rowsE) (11 ∷ 2 ∷ 0 ∷ 0 ∷ 0 ∷ 0 ∷ [])
+    ∷ case (rowMethods 1 3 fr 1 rowsU) (11 ∷ 0 ∷ 0 ∷ 0 ∷ 0 ∷ 0 ∷ [])
+    ∷ case (tableValues 2 2 fr 3 tableA) (0 ∷ 0 ∷ 0 ∷ 4 ∷ [])
     ∷ []
 
 -- the test of a table of cases, which antt computes
@@ -235,9 +247,9 @@ right-all (c ∷ cs) h = (
 
 pub cases : Right table
 unfolding
-    ask flat table right tableA rowsC rowsD rowsE rowsF rowsG rowsH rowsM tableM ones onesIn parity tab first sum count ofRows same shift measure
+    ask flat table right tableA rowsC rowsD rowsE rowsF rowsG rowsH rowsM rowsU tableM ones onesIn parity tab first sum count ofRows same shift measure
     span candidate before better best next chosen columns apply inverse basisOf sigmaOf smallerOf highest partner exchange rest shear
-    reached splitRow splitRows moved verdict badRow share second sharing dependent tableValueVerdict tableValue tableMethodVerdict
+    reached splitRow splitRows moved verdict badRow share second sharing driven undriven dependent tableValueVerdict tableValue tableMethodVerdict
     tableMethod smallerTable restoreVerdict restored rowValueVerdict rowValue rowsAfter passing methodChecks rowMethodVerdict
     rowMethod smallerList fillVerdict filled equal symmetricTable grayColumn grayTable isSymmetric symmetricVerdict symmetricBlock
     tableSymmetricVerdict tableSymmetric reason reasonOf whyVerdict whyNot

@@ -11,7 +11,7 @@ use Rattle.block.specs.Words.{fd, ofRows, row}
 use Rattle.block.specs.Measure.{same, shift, measure}
 use Rattle.block.specs.Basis.{span, candidate, before, better, best, next, chosen, columns, inverse, basisOf, sigmaOf, smallerOf}
 use Rattle.block.specs.Rows.{highest, partner, exchange, rest, shear, reached, splitRow, splitRows, moved}
-use Rattle.block.specs.Refusals.{verdict, badRow, share, second, sharing}
+use Rattle.block.specs.Refusals.{verdict, badRow, share, second, sharing, driven, undriven}
 use Rattle.block.specs.Lists.{rowsAfter, passing, methodChecks, smallerList}
 use Rattle.block.specs.Text.{digits, symbols, bits, rowLine, rowLines, headLine, textOf, lines, equal, every, numeral, headForm, rowForm, spelled, rowOn, typeLineIn, typeIn, headPlace, headFault, bodyDue, bodyFault, rowsOn, readVerdict, rowsIn}
 use Rattle.block.specs.Sheet.{section, numberLines, matrixLines, sheetOf, sheetText, sheetVerdict, orRefused, printedList, printed}
@@ -61,7 +61,7 @@ pub example-sheet : printed input ≡ sheetLines
 unfolding
     input sheetLines ones onesIn parity tab first sum count ofRows same shift measure span candidate before better best next chosen
     columns inverse basisOf sigmaOf smallerOf highest partner exchange rest shear reached splitRow splitRows moved verdict badRow
-    share second sharing rowsAfter passing methodChecks smallerList digits symbols bits rowLine rowLines lines equal every numeral
+    share second sharing driven undriven rowsAfter passing methodChecks smallerList digits symbols bits rowLine rowLines lines equal every numeral
     headForm rowForm spelled rowOn typeLineIn typeIn headPlace headFault bodyDue bodyFault rowsOn readVerdict rowsIn section numberLines matrixLines sheetOf sheetText sheetVerdict
     orRefused printedList printed
 example-sheet = refl

@@ -4,7 +4,7 @@
 -- to 16 inputs. Assumes nothing.
 use mathlib.Core.Path.{_≡_, refl, sym, ap, _∙_}
 use mathlib.Core.Bool.{Bool, true, false, not, cond, _||_, and-false}
-use mathlib.Core.List.{List, [], _∷_}
+use mathlib.Core.List.{List, [], _∷_, map}
 use Prim.Native.Nat.{ℕ, suc, _^_, _≤_, _<_}
 use native.Mathlib.Omega.{arith}
 use borrow.Author.Tests.{lt-ltb, le-ltb, eq-eqb}
@@ -13,10 +13,10 @@ use lib.ListN.{length}
 use Rattle.slices.specs.Places.{at}
 use Rattle.slices.specs.Filled.{tab-at, tab-cong, length-tab}
 use Rattle.block.specs.Limits.{tableInputs, outputs, smallerRows}
-use Rattle.block.specs.Words.{none, fr, fd, missing, ofTable, under, ofRows}
+use Rattle.block.specs.Words.{none, fr, fd, missing, ofTable, under, ofRows, wordPart}
 use Rattle.block.specs.Measure.{shift}
 use Rattle.block.specs.Basis.{columns, inverse, apply, basisOf, sigmaOf, smallerOf}
-use Rattle.block.specs.Refusals.{answer, badEntry, badRow}
+use Rattle.block.specs.Refusals.{answer, badEntry, badRow, driven}
 use Rattle.block.specs.Tables.{tableMethodVerdict, tableMethod, smallerTable, restoreVerdict, restored}
 use Rattle.block.specs.Lists.{rowMethodVerdict, rowMethod, smallerList, fillVerdict, filled}
 use Rattle.block.specs.declared.Row.{Row}
@@ -31,6 +31,7 @@ use Rattle.pair_laws.specs.Theorem.{Every, Apart}
 use Rattle.pair_laws.specs.Share.{good-word}
 use Rattle.answered_laws.specs.Passed.{Passed, MethodAnswered, method-answered, fill-answers}
 use Rattle.step_laws.specs.Smaller as M
+use Rattle.step_laws.specs.Driven.{smaller-driven}
 use Rattle.demands.specs.Restoring.{restoring-answers}
 
 -- the basis goes by the block's points alone, and so do sigma and the smaller block
@@ -101,6 +102,7 @@ fillable n k y w rs short p hn =
       range = record { size = (r .size .0, hn); columns = r .columns; count = (r .count .0, omega (arith, r .count .1)) };
       good = p .passed .list .good;
       disjoint = p .passed .list .disjoint;
+      columns-driven = p .passed .list .columns-driven;
     }
 
 refillable : (n k y w : ℕ) (rs : List Row) (short : Bool) → MethodAnswered n k y w rs short → n ≤ tableInputs
@@ -117,6 +119,7 @@ refillable n k y w rs short p hn =
           };
       good = M.smaller-good (missing y) n w hw rs k (list .good);
       disjoint = M.smaller-disjoint (missing y) n w hw rs (list .disjoint);
+      columns-driven = λ j l. smaller-driven (missing y) n w rs j ∙ list .columns-driven j l;
     }
 
 -- ---- demand 3
@@ -193,6 +196,14 @@ pub list-apart : (n k y w : ℕ) (rs : List Row) (roomT roomSigma roomRows : ℕ
 list-apart n k y w rs roomT roomSigma roomRows h =
     let p = method-passes n k y w rs roomT roomSigma roomRows h .passed in
     M.smaller-disjoint (missing y) n w (p .weight .0) rs (p .list .disjoint) .apart
+
+-- and they drive every column, as the list does (02, Ticket 8)
+pub list-driven : (n k y w : ℕ) (rs : List Row) (roomT roomSigma roomRows : ℕ)
+    → rowMethodVerdict n k y w rs roomT roomSigma roomRows .number ≡ 0 → (j : ℕ) → j < k
+    → (driven (map wordPart rs) j ≡ true) × (driven (map wordPart (smallerList (missing y) n w rs)) j ≡ true)
+list-driven n k y w rs roomT roomSigma roomRows h j l =
+    let d = method-passes n k y w rs roomT roomSigma roomRows h .passed .list .columns-driven j l in
+    (d, smaller-driven (missing y) n w rs j ∙ d)
 
 -- up to 12 inputs the smaller rows filled, then restored with sigma, are the list filled
 pub list-restored : (n k y w : ℕ) (rs : List Row) (roomT roomSigma roomRows room : ℕ)

@@ -118,6 +118,7 @@ nine-answered n k y w t rs roomT roomSigma roomRows h below =
     let room = passed-over 9 _ _ refl (count .1) in
     let formed = passed-over 9 _ _ refl (room .1) in
     let apart = passed-over 9 _ _ refl (formed .1) in
+    let driven = passed-over 9 _ _ refl (apart .1) in
     verdict-miss _ _ (inputs .0)
     ∙ verdict-miss _ _ (columns .0)
     ∙ verdict-miss _ _ (typed .0)
@@ -126,4 +127,5 @@ nine-answered n k y w t rs roomT roomSigma roomRows h below =
     ∙ verdict-miss _ _ (count .0)
     ∙ verdict-miss _ _ (formed .0)
     ∙ verdict-miss _ _ (apart .0)
+    ∙ verdict-miss _ _ (driven .0)
     ∙ verdict-none

@@ -1,9 +1,9 @@
 -- 01's conditions in its words, number by number, and that each check of an operation decides its own: ranges (1 to 4), the type (3, of
--- 02) and rooms (5), the least malformed thing (6), the first pair of rows that share a point (7), the least dependent matrix row (8) and
--- the first step that passes 512 rows (9). Not here: the form of a line (`Forms`). Assumes nothing.
+-- 02) and rooms (5), the least malformed thing (6), the first pair of rows that share a point (7), the lowest column that no row drives (11,
+-- of 02), the least dependent matrix row (8) and the first step that passes 512 rows (9). Not here: the form of a line (`Forms`). Assumes nothing.
 use mathlib.Core.Path.{_≡_, refl, sym, ap, ap₂, _∙_}
 use mathlib.Core.Bool.{Bool, true, false, not, _&&_, _||_, false≢true}
-use mathlib.Core.List.{List, _∷_}
+use mathlib.Core.List.{List, [], _∷_, map}
 use mathlib.Core.Logic.{_⊎_, _↔_, inl, inr}
 use Prim.Native.Nat.{ℕ, zero, suc, _^_, _≤_, _<_, min}
 use native.Mathlib.Decide.{decLt, ℕ-discrete}
@@ -21,10 +21,10 @@ use Rattle.bits.specs.Bit.{bit-lt, bit-and, bit-none, bit-ext}
 use Rattle.slices.specs.Places.{at, first}
 use Rattle.slices.specs.Least.{first-is, first-below, first-passes, first-found}
 use Rattle.block.specs.Limits.{outputs, smallerRows}
-use Rattle.block.specs.Words.{fr, fd, under}
+use Rattle.block.specs.Words.{fr, fd, under, wordPart}
 use Rattle.block.specs.Basis.{span, columns}
-use Rattle.block.specs.Refusals.{Check, check, outside, typedChecks, some, badEntry, badNumber, badRow, malformed, rowAt, share, second, sharing, dependent}
-use Rattle.block.specs.Lists.{badRowCheck, shareCheck, rowsAfter, passing, passingCheck}
+use Rattle.block.specs.Refusals.{Check, check, outside, typedChecks, some, badEntry, badNumber, badRow, malformed, rowAt, share, second, sharing, driven, undriven, dependent}
+use Rattle.block.specs.Lists.{badRowCheck, shareCheck, undrivenCheck, rowsAfter, passing, passingCheck}
 use Rattle.block.specs.declared.Row.{Row}
 use Rattle.matrix_laws.specs.Linear.{columns-none, columns-more, columns-xor, columns-unit}
 use Rattle.exactly.specs.General.{Reason, placed, plain, Decides, Decided, _also_}
@@ -323,6 +323,44 @@ module _ (n : ℕ) (rs : List Row) where
                 λ i h k. let w = second-least i k in f .before i (second n rs i) h (w .holds .0) (w .below) (w .holds .1);
           }) in
           (lt-ltb _ _ (s .0), s .1, ap (second n rs) (s .1) ∙ t .1)
+
+-- ---- 11: a column is 0 in every row
+
+abbrev pub ZeroColumn : List Row → ℕ → Type 0
+ZeroColumn rs j = (i : ℕ) → i < length rs → bit (rowAt rs i .word) j ≡ 0
+
+driven-zero : (rs : List Row) (j : ℕ) → driven (map wordPart rs) j ≡ false → ZeroColumn rs j
+unfolding driven
+driven-zero [] j e i l = absurd (omega arith)
+driven-zero (r ∷ rs) j e i l = go (driven-zero rs j) (eqb (bit (r .word) j) 1) refl e i l
+  where
+    go : (driven (map wordPart rs) j ≡ false → ZeroColumn rs j) → (b : Bool) → eqb (bit (r .word) j) 1 ≡ b
+        → b || driven (map wordPart rs) j ≡ false → ZeroColumn (r ∷ rs) j
+    go ih true d e i l = absurd (false≢true (sym e))
+    go ih false d e zero l =
+        let n : bit (r .word) j ≡ 1 → ⊥ = eqb-false (bit (r .word) j) 1 d in
+        omega (arith, bit-lt (r .word) j)
+    go ih false d e (suc i) l = ih e i (omega arith)
+
+zero-driven : (rs : List Row) (j : ℕ) → ZeroColumn rs j → driven (map wordPart rs) j ≡ false
+unfolding driven
+zero-driven [] j z = refl
+zero-driven (r ∷ rs) j z =
+    rw (ne-eqb (bit (r .word) j) 1 (λ e. omega (arith, z 0 (omega arith)))) (zero-driven rs j (λ i l. z (suc i) (omega arith)))
+
+column-says : (rs : List Row) (j : ℕ) → Says (not (driven (map wordPart rs) j)) (ZeroColumn rs j)
+column-says rs j = (λ e. driven-zero rs j (not-true _ e), λ z. ap not (zero-driven rs j z))
+
+pub undriven-decided : (k : ℕ) (rs : List Row) → Decides (undrivenCheck k (map wordPart rs)) (placed 11 (λ a b. Least k (ZeroColumn rs) a × (b ≡ 0)))
+unfolding undriven
+undriven-decided k rs =
+    record {
+      same = refl;
+      refuses = λ e. omega arith;
+      sound = λ e. (first-least k _ (ZeroColumn rs) (λ j l. column-says rs j) (ltb-true _ _ e), refl);
+      only =
+          λ a b (z, e). let f = least-first k _ (ZeroColumn rs) (λ j l. column-says rs j) a z in (lt-ltb _ _ (f .0), f .1, sym e);
+    }
 
 -- ---- 8: a matrix row is the XOR of some set of earlier rows
 

@@ -29,6 +29,8 @@ use Rattle.exactly.specs.Conditions.{
   bad-row-decided,
   FirstPair,
   pair-decided,
+  ZeroColumn,
+  undriven-decided,
   FirstPassing,
   passing-decided,
 }
@@ -39,13 +41,14 @@ use Rattle.exactly.specs.Conditions.{
 abbrev pub rowReason : ℕ → ℕ → List Row → Reason
 rowReason n k rs = placed 6 (λ a b. (a ≡ 0) × Least (length rs) (λ i. MalformedRow n k (rowAt rs i)) b)
 
--- what every operation asks of its rows: 6, 7
+-- what every operation asks of its rows: 6, 7, 11 (02, Ticket 8)
 abbrev pub rowReasons : ℕ → ℕ → List Row → List Reason → List Reason
-rowReasons n k rs rest = rowReason n k rs ∷ placed 7 (FirstPair n rs) ∷ rest
+rowReasons n k rs rest =
+    rowReason n k rs ∷ placed 7 (FirstPair n rs) ∷ placed 11 (λ a b. Least k (ZeroColumn rs) a × (b ≡ 0)) ∷ rest
 
 pub rows-decided : {cs : List Check} {rest : List Reason} (n k : ℕ) (rs : List Row) → Decided cs rest
     → Decided (rowChecks n k rs ++ cs) (rowReasons n k rs rest)
-rows-decided n k rs d = bad-row-decided n k rs also pair-decided n rs also d
+rows-decided n k rs d = bad-row-decided n k rs also pair-decided n rs also undriven-decided k rs also d
 
 -- ---- a single shift value
 

@@ -101,7 +101,7 @@ model-checked n k y w rs room =
     ap (λ (v : Answer). andThen v (verdict (lengthCheck n k y w rs room ∷ []))) (own-room n k y w rs)
     ∙ sym
     (verdict-parts (modelChecked n k y w rs) (lengthCheck n k y w rs room ∷ [])
-    (refl, (refl, (refl, (refl, (refl, (refl, (refl, (refl, tt)))))))))
+    (refl, (refl, (refl, (refl, (refl, (refl, (refl, (refl, (refl, tt))))))))))
 
 pub write-model-exactly : (n k y w : ℕ) (rs : List Row) (room : ℕ)
     → Exactly (writeModelReasons n k y w rs room) (modelVerdict n k y w rs room)

@@ -2,16 +2,16 @@
 -- rows says of the slices. Assumes nothing.
 use mathlib.Core.Path.{_≡_, refl, sym, ap, _∙_}
 use mathlib.Core.Bool.{Bool, true, false, cond, _&&_}
-use mathlib.Core.List.{List, []}
+use mathlib.Core.List.{List, [], map}
 use Prim.Native.Nat.{ℕ, _≤_, _<_}
 use native.Mathlib.Omega.{arith}
 use borrow.Author.Tests.{eq-eqb, ne-eqb, eqb-true}
 use lib.Dec.{eqb}
 use lib.ListN.{length}
 use Rattle.slices.specs.Places.{at, tab, first}
-use Rattle.slices.specs.Filled.{length-tab, tab-at}
+use Rattle.slices.specs.Filled.{length-tab, tab-at, map-tab, tab-list}
 use Rattle.slices.specs.Least.{first-is}
-use Rattle.block.specs.Words.{row, rowsOf}
+use Rattle.block.specs.Words.{row, rowsOf, wordPart}
 use Rattle.block.specs.Refusals.{badRow, rowAt}
 use Rattle.block.specs.declared.Row.{Row}
 
@@ -34,6 +34,14 @@ module _ (masks values words : List ℕ) where
   row-at e f i h =
       ap (λ (l : List Row). rowAt l i) (rows-of e f)
       ∙ tab-at (length masks) (λ i. row (at masks i) (at values i) (at words i)) (row 0 0 0) i h
+
+  -- the words of the rows are those of the slice
+  pub rows-words : length values ≡ length masks → length words ≡ length masks → map wordPart (rowsOf masks values words) ≡ words
+  rows-words e f =
+      ap (map wordPart) (rows-of e f)
+      ∙ map-tab wordPart (length masks) (λ i. row (at masks i) (at values i) (at words i))
+      ∙ ap (λ (m : ℕ). tab m (at words)) (sym f)
+      ∙ tab-list 0 words
 
   -- slices of unequal lengths are no list
   pub no-rows : (length values ≡ length masks → ⊥) → length (rowsOf masks values words) ≡ 0

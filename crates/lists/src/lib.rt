@@ -10,7 +10,7 @@ ghost use Rattle.block.specs.Words.{rowsOf};
 ghost use Rattle.promises.specs.Lent.{lentFlat};
 ghost use Rattle.promises.specs.Lists.{RowValuePromise, RowMethodPromise, FillPromise};
 
-// R(t) of a list. Refuses with 1, 2, 3 (the type, t), 4, 6 and 7.
+// R(t) of a list. Refuses with 1, 2, 3 (the type, t), 4, 6, 7 and 11.
 pub fn row_value(
     n: usize,
     k: usize,
@@ -41,7 +41,7 @@ pub fn row_value(
     }
 }
 
-// Fills the table of a list, of up to 512 rows. Refuses with 1, 2, 3 (the type), 4, 5 (2^n entries), 6 and 7.
+// Fills the table of a list, of up to 512 rows. Refuses with 1, 2, 3 (the type), 4, 5 (2^n entries), 6, 7 and 11.
 pub fn fill_table(
     n: usize,
     k: usize,
@@ -64,7 +64,7 @@ pub fn fill_table(
 }
 
 // T, sigma, the smaller rows and both measures of a list, with weight limit w. Of the three slices for the smaller rows the shortest is
-// the room. Refuses with 1, 2, 3 (the type, w), 4, 5 (n numbers for each matrix, 512 rows), 6, 7 and 9.
+// the room. Refuses with 1, 2, 3 (the type, w), 4, 5 (n numbers for each matrix, 512 rows), 6, 7, 11 and 9.
 pub fn row_method(
     n: usize,
     k: usize,

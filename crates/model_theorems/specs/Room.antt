@@ -228,7 +228,7 @@ model-fits n k sigma rs hn hk hr =
 -- each check of the row method has a number of its own
 all-numbered : (n k y w : ℕ) (rs : List Row) (short : Bool) → Numbered (methodChecks n k y w rs short)
 unfolding methodChecks
-all-numbered n k y w rs short = (refl, (refl, (refl, (refl, (refl, (refl, (refl, (refl, (refl, tt)))))))))
+all-numbered n k y w rs short = (refl, (refl, (refl, (refl, (refl, (refl, (refl, (refl, (refl, (refl, tt))))))))))
 
 -- no check that holds has the number m
 abbrev Without : ℕ → List Check → Type 0
@@ -285,5 +285,5 @@ module _ (n k y w : ℕ) (rs : List Row) where
   unfolding methodChecks
   never-short room h e =
       let five = eq-eqb _ 5 (sym (ap (λ (v : Answer). v .number) (room-enough room h)) ∙ e) in
-      let others : Without 5 (methodChecks n k y w rs false) = (refl, (refl, (refl, (refl, (refl, (refl, (refl, (refl, (refl, refl))))))))) in
+      let others : Without 5 (methodChecks n k y w rs false) = (refl, (refl, (refl, (refl, (refl, (refl, (refl, (refl, (refl, (refl, refl)))))))))) in
       false≢true (sym (verdict-without 5 (methodChecks n k y w rs false) others) ∙ five)

@@ -10,7 +10,7 @@ ghost use Rattle.block.specs.Words.{rowsOf};
 ghost use Rattle.block.specs.ModelRead.{patternsFlat};
 ghost use Rattle.promises.specs.Models.{WriteModelPromise, ReadModelPromise, ModelValuePromise};
 
-// Writes the model of the rows with weight limit w to the front of out. Refuses with 1, 2, 3 (the type, w), 4, 6, 7 and 9, as the row
+// Writes the model of the rows with weight limit w to the front of out. Refuses with 1, 2, 3 (the type, w), 4, 6, 7, 11 and 9, as the row
 // method does, and then with 5 where out is shorter than the model.
 pub fn write_model(
     n: usize,

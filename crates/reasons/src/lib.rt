@@ -9,7 +9,7 @@ ghost use Rattle.block.specs.Reasons.{whyNumbers};
 ghost use Rattle.promises.specs.Reasons.{WhyNotPromise};
 
 // Why t was not taken, with weight limit w; the taken numbers, T by columns, go to the front of `taken`. Refuses with 1, 2, 3 (the type, w,
-// t), 4, 6 and 7.
+// t), 4, 6, 7 and 11.
 pub fn why_not(
     n: usize,
     k: usize,

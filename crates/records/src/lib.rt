@@ -21,7 +21,7 @@ ghost use Rattle.promises.specs.Texts.{WritePromise, ReadPromise};
 ghost use Rattle.promises.specs.Sheets.{SheetPromise};
 ghost use Rattle.promises.specs.Models.{WriteModelPromise};
 
-// R(t) of a list. Refuses with 1, 2, 3 (the type, t), 4, 6 and 7.
+// R(t) of a list. Refuses with 1, 2, 3 (the type, t), 4, 6, 7 and 11.
 pub fn row_value(n: usize, k: usize, block_type: usize, t: usize, rows: &[Row]) -> ValueAnswer
     ensures { λ r. ⌜ RowValuePromise n k «block_type» t (now (rows .entry)) r ⌝ }
 {
@@ -31,7 +31,7 @@ pub fn row_value(n: usize, k: usize, block_type: usize, t: usize, rows: &[Row]) 
 }
 
 // T, sigma, the smaller rows and both measures of a list, with weight limit w: the smaller rows are the first records of `smaller`, and
-// the others hold what they held. Refuses with 1, 2, 3 (the type, w), 4, 5 (n numbers for each matrix, 512 rows), 6, 7 and 9.
+// the others hold what they held. Refuses with 1, 2, 3 (the type, w), 4, 5 (n numbers for each matrix, 512 rows), 6, 7, 11 and 9.
 pub fn row_method(
     n: usize,
     k: usize,
@@ -53,7 +53,7 @@ pub fn row_method(
 }
 
 // Why t was not taken, with weight limit w; the taken numbers, T by columns, go to the front of `taken`. Refuses with 1, 2, 3 (the type, w,
-// t), 4, 6 and 7.
+// t), 4, 6, 7 and 11.
 pub fn why_not(
     n: usize,
     k: usize,
@@ -70,7 +70,7 @@ pub fn why_not(
     record_reasons::why_of(n, k, block_type, w, t, flat, m, taken)
 }
 
-// Fills the table of a list, of up to 512 rows. Refuses with 1, 2, 3 (the type), 4, 5 (2^n entries), 6 and 7.
+// Fills the table of a list, of up to 512 rows. Refuses with 1, 2, 3 (the type), 4, 5 (2^n entries), 6, 7 and 11.
 pub fn fill_table(n: usize, k: usize, block_type: usize, rows: &[Row], table: &mut [u16]) -> Answer
     ensures { λ r. ⌜ FillPromise n k «block_type» (now (rows .entry)) (now (table .entry)) r (now (table .exit)) ⌝ }
 {
@@ -116,7 +116,7 @@ pub fn read_numbers(text: &[u8], rows: &mut [Row]) -> ReadAnswer
 }
 
 // Writes the sheet of the rows with weight limit w to the front of out. Refuses with 1, 2, 3 (the type, w), 4, 5 (17,518 bytes),
-// 6, 7 and 9.
+// 6, 7, 11 and 9.
 pub fn sheet(
     n: usize,
     k: usize,
@@ -132,7 +132,7 @@ pub fn sheet(
     record_work::sheet_of(n, k, block_type, w, flat, m, out)
 }
 
-// Writes the model of the rows with weight limit w to the front of out. Refuses with 1, 2, 3 (the type, w), 4, 6, 7 and 9, as the row
+// Writes the model of the rows with weight limit w to the front of out. Refuses with 1, 2, 3 (the type, w), 4, 6, 7, 11 and 9, as the row
 // method does, and then with 5 where out is shorter than the model.
 pub fn write_model(
     n: usize,

@@ -1,2 +1,3 @@
--- Laws of verdicts, the same for every operation.
+-- Laws of verdicts, the same for every operation; and of the columns that a list's words drive.
 pub mod Verdicts
+pub mod Driven

@@ -22,7 +22,7 @@ pub fn then_count(v: Answer, most: usize, masks: &[u32], values: &[u32], words: 
     shared_checks::then_where(v, shared_checks::is_outside(1, most, count), 4, 0, 0)
 }
 
-// What every operation asks of its rows: 6, 7.
+// What every operation asks of its rows: 6, 7, 11.
 pub fn then_rows(
     v: Answer,
     n: usize,
@@ -38,7 +38,8 @@ pub fn then_rows(
         return v;
     }
     let formed = flat_rows::rows_formed(n, k, masks, values, words);
-    shared_points::then_apart(formed, masks, values)
+    let apart = shared_points::then_apart(formed, masks, values);
+    driven_columns::then_driven(apart, k, words)
 }
 
 // The verdict on a single shift value of a list.

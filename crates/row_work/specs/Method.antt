@@ -51,7 +51,7 @@ module _ (n k y w : ℕ) (rs : List Row) (short : Bool) (t s m v d : List ℕ) (
         words = l .words ∙ kept u _ (map (λ (r : Row). r .word) (smallerList (missing y) n w rs)) d q h;
       }
 
-  -- one of the checks from 1 to 7 refuses
+  -- one of the checks before 9 refuses
   pub method-refused : (c .number ≡ 0 → ⊥)
       → MethodDone n k y w rs short t s m v d t s m v d
       (record { number = c .number; a = c .a; b = c .b; before = 0; after = 0; count = 0 })

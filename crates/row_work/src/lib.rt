@@ -1,4 +1,4 @@
-// The row method for any arguments: its checks from 1 to 7, and then its work, which says 9 or 0. The function here is inner.
+// The row method for any arguments: its checks but 9, and then its work, which says 9 or 0. The function here is inner.
 use block::RowMethodAnswer;
 ghost use mathlib.Core.Path.{_≡_};
 ghost use mathlib.Core.Bool.{false};

@@ -6,7 +6,7 @@ ghost use Rattle.block.specs.Words.{rowsOf};
 ghost use Rattle.promises.specs.Sheets.{SheetPromise};
 
 // Writes the sheet of the rows with weight limit w to the front of out. Refuses with 1, 2, 3 (the type, w), 4, 5 (17,518 bytes),
-// 6, 7 and 9.
+// 6, 7, 11 and 9.
 pub fn sheet(
     n: usize,
     k: usize,

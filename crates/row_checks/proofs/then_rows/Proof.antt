@@ -1,11 +1,12 @@
 -- `row_checks::then_rows` meets its contract: the earlier refusal, or the checks of the rows in their order; the search for 7 is told
 -- that no row is malformed. Assumes nothing.
 use mathlib.Core.Path.{refl, _∙_}
+use native.Mathlib.Omega.{arith}
 use denote.Ref.{now}
 use Rattle.block.specs.Limits.{smallerRows}
 use Rattle.block.specs.Words.{rowsOf}
 use Rattle.refusal_laws.specs.Verdicts.{zero-too, then-refused, then-answered, asked-then}
-use Rattle.flat_rows.specs.Listing.{listed-rows}
+use Rattle.flat_rows.specs.Listing.{rows-words, listed-rows}
 use Rattle.answered_laws.specs.Passed.{formed-sound}
 use Rattle.row_checks.proofs.then_rows.Statement.{statement}
 use Rattle.row_checks.proofs.then_rows.Tie as tie
@@ -25,19 +26,27 @@ then-apart-requires c κs =
     let p = s .pre (c .before .if1 .left) in
     listed-rows smallerRows (now (s .args .masks)) (now (s .args .values)) (now (s .args .words)) (p .count) .values-too
 
+then-driven-requires : tie.Need-then-driven-requires
+then-driven-requires c κs h =
+    let s = c .before .before .before .before .before .before .before in
+    omega (arith, s .pre (c .before .before .if1 .left) .columns .1)
+
 returns-2 : tie.Need-returns-2
 returns-2 c =
-    let s = c .before .before .before .before .before .before .before in
+    let s = c .before .before .before .before .before .before .before .before in
     let a = s .args in
-    let formed = c .before .rows-formed in
-    let zero = c .before .before .if1 .left in
+    let formed = c .before .before .rows-formed in
+    let zero = c .before .before .before .if1 .left in
     let l = listed-rows smallerRows (now (a .masks)) (now (a .values)) (now (a .words)) (s .pre zero .count) in
     let apart =
-    c .then-apart .ensures (a .n) (now (a .words)) (l .words-too)
+    c .before .then-apart .ensures (a .n) (now (a .words)) (l .words-too)
     (λ h.
     formed-sound (a .n) (a .k) (rowsOf (now (a .masks)) (now (a .values)) (now (a .words)))
     (zero-too (formed .ensures) h)) in
-    asked-then _ _ (record { numbered = (refl, tt); told = formed .ensures }) (refl, tt) apart .told ∙ then-answered _ _ zero
+    let words = rows-words (now (a .masks)) (now (a .values)) (now (a .words)) (l .values-too) (l .words-too) in
+    asked-then _ _ (asked-then _ _ (record { numbered = (refl, tt); told = formed .ensures }) (refl, tt) apart) (refl, tt)
+    (rw words (c .then-driven .ensures)) .told
+    ∙ then-answered _ _ zero
 
 pub then-rows-spec : {M : Type 1} → statement M
-then-rows-spec = tie.close (tie.spec returns rows-formed-requires then-apart-requires returns-2)
+then-rows-spec = tie.close (tie.spec returns rows-formed-requires then-apart-requires then-driven-requires returns-2)

@@ -1,4 +1,5 @@
--- `row_work::method_rows` meets its contract: the checks up to 7, then the work, which says 9 or 0. Assumes nothing.
+-- `row_work::method_rows` meets its contract: the checks before 9, then the work, which says 9 or 0. Assumes nothing.
+use native.Mathlib.Omega.{arith}
 use denote.Ref.{now}
 use Rattle.block.specs.Limits.{givenRows}
 use Rattle.block.specs.Words.{rowsOf}
@@ -21,7 +22,8 @@ returns c =
     let checked = c .before .before in
     let a = checked .before .before .before .before .before .before .before .before .before .before .args in
     method-refused (a .n) (a .k) (a .block-type) (a .w) (rowsOf (now (a .masks)) (now (a .values)) (now (a .words))) (a .short) (now (a .basis)) (now (a .sigma))
-    (now (a .out-masks)) (now (a .out-values)) (now (a .out-words)) _ (checked .method-checked .ensures) (c .if1 .taken)
+    (now (a .out-masks)) (now (a .out-values)) (now (a .out-words)) _ (checked .method-checked .ensures)
+    (λ e. omega (arith, c .if1 .taken))
 
 work-rows-requires : tie.Need-work-rows-requires
 work-rows-requires c κs =
@@ -31,7 +33,7 @@ work-rows-requires c κs =
     let a = start .args in
     let p =
     method-passed (a .n) (a .k) (a .block-type) (a .w) (rowsOf (now (a .masks)) (now (a .values)) (now (a .words))) (a .short)
-    (zero-too (checked .method-checked .ensures) (passed .if1 .left)) in
+    (zero-too (checked .method-checked .ensures) (omega (arith, passed .if1 .left))) in
     let size = p .list .range .size .1 in
     let lent = start .pre (p .room) size in
     let listed = listed-rows givenRows (now (a .masks)) (now (a .values)) (now (a .words)) (p .list .range .count) in
