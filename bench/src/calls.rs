@@ -2,7 +2,7 @@
 
 use crate::timing::{medians, once};
 use reference::inputs::Case;
-use reference::{Answer, Operations};
+use reference::{Answer, Fast, Operations};
 use std::mem::forget;
 use std::ptr::read_volatile;
 use std::time::Duration;
@@ -39,8 +39,10 @@ pub struct Call {
 }
 
 impl Call {
-    /// One call on flat slices.
+    /// One call on flat slices, which is answered.
     pub fn new(name: impl Into<String>, case: Case) -> Call {
+        let answer = case.clone().run::<Fast>();
+        assert_eq!(answer.number, 0, "a refusal would be timed");
         Call::all(name, vec![case])
     }
 

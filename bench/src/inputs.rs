@@ -2,7 +2,7 @@
 
 use crate::calls::Call;
 use reference::inputs::models::rooms_due;
-use reference::inputs::{hidden_rows, rows, table, text, Case, LentRows, Random};
+use reference::inputs::{driven_text, hidden_rows, rows, table, Case, LentRows, Random};
 use reference::{
     Fast, Operations, Reason, Row, TextHead, FD, FR, MODEL_ROOM, OUTPUTS, ROW_INPUTS, SHEET_ROOM,
     SMALLER_ROWS,
@@ -37,7 +37,7 @@ fn operations() -> Table {
         worded(rows(random, 16, 15, 128), 0..1)
     });
     // R is the same at every t, so that the one-bits decide each comparison.
-    let whole = LentRows::new(&[Row::default()]);
+    let whole = LentRows::new(&worded(vec![Row::default()], 0..1));
     let rows_12 = rows(&mut Random::new(12), 12, 12, 512);
     let table_12 = table(&mut Random::new(3), 12, 12);
     Table {
@@ -200,7 +200,9 @@ fn text_parts() -> Table {
             ),
             Call::all(
                 "row method on each list",
-                each(|(head, rows)| row_method(head.n, head.block_type, 3.min(head.n), rows)),
+                read.iter()
+                    .map(|(head, rows)| method(block(head), rows))
+                    .collect(),
             ),
             Call::all(
                 "sheet of each list",
@@ -268,18 +270,20 @@ fn by_weight() -> Table {
     }
 }
 
-/// So many rows, with the words 0 to 7 in turn, so that lists of different
-/// lengths have the same share of pairs with equal words.
+/// So many rows, with eight words in turn, so that lists of different lengths have the
+/// same share of pairs with equal words.
 fn plain(n: usize, count: usize, limits: &[usize]) -> LentRows {
     list(n, count, &[FR], limits, 1, |random| {
         worded(rows(random, n, 15, count), 0..8)
     })
 }
 
-/// The rows with these words in turn.
+/// The rows with these words in turn; in place of the last of them stands the one that
+/// drives all 15 columns, for a list with a column that no row drives is refused.
 fn worded(mut rows: Vec<Row>, words: Range<u32>) -> Vec<Row> {
+    let last = words.end - 1;
     for (row, word) in rows.iter_mut().zip(words.cycle()) {
-        row.word = word;
+        row.word = if word == last { 32_767 } else { word };
     }
     rows
 }
@@ -312,9 +316,13 @@ fn list(
 }
 
 fn row_method(n: usize, block_type: usize, w: usize, rows: &LentRows) -> Case {
+    method([n, 15, block_type, w], rows)
+}
+
+fn method([n, k, block_type, w]: [usize; 4], rows: &LentRows) -> Case {
     Case::RowMethod {
         n,
-        k: 15,
+        k,
         block_type,
         w,
         rows: rows.clone(),
@@ -498,7 +506,7 @@ fn table_symmetric() -> Case {
 
 /// The row text of a seed.
 fn row_text(seed: u64) -> Vec<u8> {
-    text(&mut Random::new(seed))
+    driven_text(&mut Random::new(seed))
 }
 
 /// The program's input for so many lists.

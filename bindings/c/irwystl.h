@@ -66,7 +66,8 @@ enum irwystl_number {
   IRWYSTL_SHARED = 7,    /* rows a and b, counted from 0, share a point */
   IRWYSTL_DEPENDENT = 8, /* matrix row a, counted from 0, is the XOR of some rows before it, or 0 */
   IRWYSTL_PASSED = 9,    /* at step a, counted from 1, the smaller rows pass 512 */
-  IRWYSTL_FORM = 10      /* line a of the text, counted from 1, is not of the form due there */
+  IRWYSTL_FORM = 10,     /* line a of the text, counted from 1, is not of the form due there */
+  IRWYSTL_UNDRIVEN = 11  /* output bit a, counted from 0, is 0 in every row's word; looked for after 7 and before 9 */
 };
 
 /* ---- why a number t was not taken; the first of these that holds is answered */
@@ -211,13 +212,13 @@ irwystl_value_answer irwystl_table_symmetric(size_t n, size_t k, size_t type, co
 
 /* ---- lists of rows as records, of 1 to 16 inputs; rows_length counts records */
 
-/* R(t) of a list of 1 to 128 rows. Refuses with 1, 2, 3 (type, t), 4, 6, 7. Promise: records::row_value. */
+/* R(t) of a list of 1 to 128 rows. Refuses with 1, 2, 3 (type, t), 4, 6, 7, 11. Promise: records::row_value. */
 irwystl_value_answer irwystl_records_row_value(size_t n, size_t k, size_t type, size_t t, const irwystl_row *rows, size_t rows_length);
 
 /*
  * T, sigma, the smaller rows and both measures of a list of 1 to 128 rows, with weight limit w; T is chosen as for a table. basis and sigma
  * are room for at least n numbers each, smaller for at least IRWYSTL_SMALLER_ROWS rows, of which the first `count` are written. Refuses
- * with 1, 2, 3 (type, w), 4, 5, 6, 7, 9. Promise: records::row_method.
+ * with 1, 2, 3 (type, w), 4, 5, 6, 7, 11, 9. Promise: records::row_method.
  */
 irwystl_row_method_answer irwystl_records_row_method(size_t n, size_t k, size_t type, size_t w, const irwystl_row *rows,
                                                      size_t rows_length, uint32_t *basis, size_t basis_length, uint32_t *sigma,
@@ -227,15 +228,15 @@ irwystl_row_method_answer irwystl_records_row_method(size_t n, size_t k, size_t 
  * Why t was not taken for T, of a list of 1 to 128 rows with weight limit w: the first irwystl_reason that holds. Numbers stand in the order
  * of greater R, at equal R of fewer one-bits, then of the smaller number, and no other set of taken numbers has the XOR t. taken is room for
  * exactly IRWYSTL_MOST_LIST_INPUTS numbers: T's n columns come to its front, the number of step 1 first, whatever the reason. No row is moved,
- * so that a list which irwystl_records_row_method refuses with 9 has its answer here. Refuses with 1, 2, 3 (type, w, t), 4, 6, 7. Promise:
- * records::why_not, its answer in numbers.
+ * so that a list which irwystl_records_row_method refuses with 9 has its answer here. Refuses with 1, 2, 3 (type, w, t), 4, 6, 7, 11.
+ * Promise: records::why_not, its answer in numbers.
  */
 irwystl_why_answer irwystl_records_why_not(size_t n, size_t k, size_t type, size_t w, size_t t, const irwystl_row *rows, size_t rows_length,
                                            uint32_t *taken);
 
 /*
  * The full table of a list of 1 to 512 rows and at most 12 inputs; at points under no row it has IRWYSTL_NO_OUTPUT or 0, by the type.
- * table is room for at least 2^n entries. Refuses with 1, 2, 3 (type), 4, 5, 6, 7. Promise: records::fill_table.
+ * table is room for at least 2^n entries. Refuses with 1, 2, 3 (type), 4, 5, 6, 7, 11. Promise: records::fill_table.
  */
 irwystl_answer irwystl_records_fill_table(size_t n, size_t k, size_t type, const irwystl_row *rows, size_t rows_length, uint16_t *table,
                                           size_t table_length);
@@ -243,21 +244,22 @@ irwystl_answer irwystl_records_fill_table(size_t n, size_t k, size_t type, const
 /*
  * A list of 1 to 128 rows as row text, without the type line where type_line is 0, else with it; what irwystl_records_read_text answers
  * gives the text that was read. Under IRWYSTL_FR the line has to stand, for a text without it is of the other type. out is room for at
- * least IRWYSTL_TEXT_ROOM bytes. Whether rows share a point is not looked at. Refuses with 1, 2, 3 (type, or IRWYSTL_FR with type_line 0),
- * 4, 5, 6. Promise: records::write_text.
+ * least IRWYSTL_TEXT_ROOM bytes. Whether rows share a point or drive every column is not looked at. Refuses with 1, 2, 3 (type, or
+ * IRWYSTL_FR with type_line 0), 4, 5, 6. Promise: records::write_text.
  */
 irwystl_text_answer irwystl_records_write_text(size_t n, size_t k, size_t type, size_t type_line, const irwystl_row *rows,
                                                size_t rows_length, uint8_t *out, size_t out_length);
 
 /*
- * The rows of a row text: any bytes. rows is room for as many as the text tells, at most IRWYSTL_MOST_ROWS. Whether rows share a point is
- * not looked at. Refuses with 10 (a heading, the type line among them), 1, 2, 4, 5, 10 (any other line). Promise: records::read_numbers.
+ * The rows of a row text: any bytes. rows is room for as many as the text tells, at most IRWYSTL_MOST_ROWS. Whether rows share a point or
+ * drive every column is not looked at. Refuses with 10 (a heading, the type line among them), 1, 2, 4, 5, 10 (any other line). Promise:
+ * records::read_numbers.
  */
 irwystl_read_answer irwystl_records_read_text(const uint8_t *text, size_t text_length, irwystl_row *rows, size_t rows_length);
 
 /*
  * The sheet of a list of 1 to 128 rows with weight limit w; the type does not stand on it. out is room for at least IRWYSTL_SHEET_ROOM
- * bytes. Refuses with 1, 2, 3 (type, w), 4, 5, 6, 7, 9. Promise: records::sheet.
+ * bytes. Refuses with 1, 2, 3 (type, w), 4, 5, 6, 7, 11, 9. Promise: records::sheet.
  */
 irwystl_text_answer irwystl_records_sheet(size_t n, size_t k, size_t type, size_t w, const irwystl_row *rows, size_t rows_length,
                                           uint8_t *out, size_t out_length);
@@ -265,7 +267,7 @@ irwystl_text_answer irwystl_records_sheet(size_t n, size_t k, size_t type, size_
 /*
  * The model of a list of 1 to 128 rows with weight limit w, for the T that the sheet has. Evaluated at x it gives the block's word, wherever
  * the block has an output. out is room for at least as many bytes as this model has, and IRWYSTL_MODEL_ROOM is enough for any. Refuses with
- * 1, 2, 3 (type, w), 4, 6, 7, 9, 5. Promise: records::write_model.
+ * 1, 2, 3 (type, w), 4, 6, 7, 11, 9, 5. Promise: records::write_model.
  */
 irwystl_text_answer irwystl_records_write_model(size_t n, size_t k, size_t type, size_t w, const irwystl_row *rows, size_t rows_length,
                                                 uint8_t *out, size_t out_length);
@@ -318,10 +320,11 @@ irwystl_text_answer irwystl_write_model(size_t n, size_t k, size_t type, size_t 
 /* ---- models, of 1 to 16 inputs */
 
 /*
- * What a model says, from its text: any bytes. Read is what the writer can print, and no other BLIF; the patterns may be any. matrix gets
- * sigma's n rows, counts for each output, lowest first, how many patterns it has, masks and values the patterns of all outputs one after the
- * other. Each is room for at least that many; a pattern's line has at least 4 bytes, so that text_length / 4 patterns are enough for any
- * text. Refuses with 10 (the first line outside the subset), 5 (of masks and values the shorter is the room), 8. Promise: models::read_model.
+ * What a model says, from its text: any bytes. Read is the form that the writer prints, and no other BLIF; the patterns may be any, and an
+ * output may have none. matrix gets sigma's n rows, counts for each output, lowest first, how many patterns it has, masks and values the
+ * patterns of all outputs one after the other. Each is room for at least that many; a pattern's line has at least 4 bytes, so that
+ * text_length / 4 patterns are enough for any text. Refuses with 10 (the first line outside the subset), 5 (of masks and values the shorter
+ * is the room), 8. Promise: models::read_model.
  */
 irwystl_model_answer irwystl_read_model(const uint8_t *text, size_t text_length, uint32_t *matrix, size_t matrix_length, size_t *counts,
                                         size_t counts_length, uint32_t *masks, size_t masks_length, uint32_t *values,
@@ -341,7 +344,7 @@ irwystl_value_answer irwystl_model_value(size_t n, size_t k, size_t x, const uin
 
 /*
  * Writes to the front of out what the program prints, and returns how many bytes that is: the sheet, which begins with the word sheet, or
- * one line "refused N A B", where N is 1, 2, 4, 7, 9 or 10. out is room for IRWYSTL_SHEET_ROOM bytes. Promise: printing::print_text.
+ * one line "refused N A B", where N is 1, 2, 4, 7, 9, 10 or 11. out is room for IRWYSTL_SHEET_ROOM bytes. Promise: printing::print_text.
  */
 size_t irwystl_print_text(const uint8_t *text, size_t text_length, uint8_t *out);
 
@@ -355,7 +358,7 @@ size_t irwystl_print_model(const uint8_t *text, size_t text_length, uint8_t *out
  * One list of a bulk import: the sheet of the text, and the line that says what came of it, without its end: the name, and then
  * "sheet ROWS BEFORE AFTER" or "refused N A B". Of a longer name the line has the first 4,096 bytes, and a control byte in it is shown as
  * "?". sheet is room for IRWYSTL_SHEET_ROOM bytes, line for IRWYSTL_LINE_ROOM. With a refusal the sheet's room holds what it held, and the
- * line is written. Refuses with 10, 1, 2, 4, 7, 9. Promise: importing::import_text.
+ * line is written. Refuses with 10, 1, 2, 4, 7, 11, 9. Promise: importing::import_text.
  */
 irwystl_import_answer irwystl_import_text(const uint8_t *name, size_t name_length, const uint8_t *text, size_t text_length, uint8_t *sheet,
                                           uint8_t *line);

@@ -300,7 +300,7 @@ static void run_lines(void) {
 /* The model of a row text, or the refusal, as the program prints it. */
 static void run_list(void) {
   load(file, &model);
-  load(is_there(with_end("blif")) ? with_end("blif") : with_end("answer"), &expected_bytes);
+  load(is_there(with_end("answer")) ? with_end("answer") : with_end("blif"), &expected_bytes);
   lend();
   size_t count = irwystl_print_model(model.at, model.length, out.at);
   differs = count != expected_bytes.length || !are_bytes(&expected_bytes);

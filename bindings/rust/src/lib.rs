@@ -348,7 +348,7 @@ pub fn table_symmetric(
         .map(|value| value == 1)
 }
 
-/// R(t) of a list of 1 to 128 rows. Refuses with 1, 2, 3 (the type, t), 4, 6 and 7.
+/// R(t) of a list of 1 to 128 rows. Refuses with 1, 2, 3 (the type, t), 4, 6, 7 and 11.
 ///
 /// ```
 /// use irwystl::{row_value, Refusal, Row, FD, FR};
@@ -359,6 +359,9 @@ pub fn table_symmetric(
 /// assert_eq!(row_value(2, 1, FD, 0, &rows[..1]), Ok(4));
 /// let refused = row_value(2, 1, FR, 0, &rows);
 /// assert_eq!(refused, Err(Refusal::SharedPoint { first: 0, second: 1 }));
+/// // with two outputs no row drives the upper one
+/// let refused = row_value(2, 2, FR, 0, &rows[..1]);
+/// assert_eq!(refused, Err(Refusal::UndrivenColumn { bit: 1 }));
 /// ```
 pub fn row_value(
     n: usize,
@@ -374,7 +377,7 @@ pub fn row_value(
 /// T, sigma, the smaller rows and both measures of a list of 1 to 128 rows, with
 /// weight limit w; T is chosen as for a table. `basis` and `sigma` are room for n
 /// numbers each, `smaller` for [`SMALLER_ROWS`] rows, of which the first `count`
-/// are written. Refuses with 1, 2, 3 (the type, w), 4, 5, 6, 7 and 9.
+/// are written. Refuses with 1, 2, 3 (the type, w), 4, 5, 6, 7, 11 and 9.
 ///
 /// ```
 /// use irwystl::{row_method, Row, FD, FR, SMALLER_ROWS};
@@ -419,7 +422,7 @@ pub fn row_method(
 }
 
 /// The full table of a list of 1 to 512 rows and at most 12 inputs. `table` is
-/// room for 2^n entries. Refuses with 1, 2, 3 (the type), 4, 5, 6 and 7.
+/// room for 2^n entries. Refuses with 1, 2, 3 (the type), 4, 5, 6, 7 and 11.
 ///
 /// ```
 /// use irwystl::{fill_table, Row, FD, FR, NO_OUTPUT};
@@ -454,8 +457,9 @@ pub fn fill_table(
 /// A list of 1 to 128 rows as row text: the number of its bytes. The type line is
 /// left out where `type_line` is 0; under [`FR`] it has to stand, for a text
 /// without it is of type [`FD`]. With what [`read_text`] told, the text is the one
-/// that was read. `out` is room for [`TEXT_ROOM`] bytes. Whether rows share a point
-/// is not looked at. Refuses with 1, 2, 3 (the type, or its line), 4, 5 and 6.
+/// that was read. `out` is room for [`TEXT_ROOM`] bytes. Whether rows share a point or
+/// drive every column is not looked at. Refuses with 1, 2, 3 (the type, or its line), 4, 5
+/// and 6.
 ///
 /// ```
 /// use irwystl::{write_text, Refusal, Row, FD, FR, TEXT_ROOM};
@@ -492,8 +496,9 @@ pub fn write_text(
 }
 
 /// The rows of a row text. `rows` is room for as many as the text tells, at most
-/// [`MOST_ROWS`]. Whether rows share a point is not looked at. Refuses with 10 (a
-/// heading, the type line among them), 1, 2, 4, 5 and 10 (any other line).
+/// [`MOST_ROWS`]. Whether rows share a point or drive every column is not looked at.
+/// Refuses with 10 (a heading, the type line among them), 1, 2, 4, 5 and 10 (any other
+/// line).
 ///
 /// ```
 /// use irwystl::{read_text, Refusal, Row, FD, FR, MOST_ROWS};
@@ -515,7 +520,7 @@ pub fn read_text(text: &[u8], rows: &mut [Row]) -> Result<Headings, Refusal> {
 
 /// The sheet of a list of 1 to 128 rows with weight limit w: the number of its
 /// bytes. The type does not stand on it. `out` is room for [`SHEET_ROOM`] bytes.
-/// Refuses with 1, 2, 3 (the type, w), 4, 5, 6, 7 and 9.
+/// Refuses with 1, 2, 3 (the type, w), 4, 5, 6, 7, 11 and 9.
 ///
 /// ```
 /// use irwystl::{sheet, Row, FR, SHEET_ROOM};
@@ -606,7 +611,7 @@ pub fn import_text(
 }
 
 /// The sheet of a text, with the weight limit of [`print_text`]. Refuses with 10,
-/// 1, 2, 4, 7 and 9.
+/// 1, 2, 4, 7, 11 and 9.
 ///
 /// ```
 /// let refused = irwystl::sheet_of(b".i 3\n.o 2\n").unwrap_err();

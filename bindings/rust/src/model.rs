@@ -72,7 +72,7 @@ impl Model {
 /// [`sheet`](crate::sheet()): the number of its bytes. Evaluated at x it gives the
 /// block's word, wherever the block has an output. `out` is room for this model;
 /// [`MODEL_ROOM`] bytes are enough for any. Refuses with 1, 2, 3 (the type, w), 4, 6,
-/// 7, 9 and, last, 5.
+/// 7, 11, 9 and, last, 5.
 ///
 /// ```
 /// use irwystl::{write_model, Row, FD, MODEL_ROOM};
@@ -108,9 +108,9 @@ pub fn write_model(
     .result()
 }
 
-/// What a model says. Read is what [`write_model`] can write, and no other BLIF; the
-/// patterns may be any. Refuses with 10 and 8. ([`flat::read_model`] reads into rooms
-/// of the caller's.)
+/// What a model says. Read is the form that [`write_model`] writes, and no other BLIF;
+/// the patterns may be any, and an output may have none. Refuses with 10 and 8.
+/// ([`flat::read_model`] reads into rooms of the caller's.)
 ///
 /// ```
 /// use irwystl::{model_of, read_model, Pattern, Refusal};
@@ -145,7 +145,7 @@ pub fn read_model(text: &[u8]) -> Result<Model, Refusal> {
 }
 
 /// The model of a text, with the weight limit of [`print_text`](crate::print_text).
-/// Refuses with 10, 1, 2, 4, 7 and 9.
+/// Refuses with 10, 1, 2, 4, 7, 11 and 9.
 ///
 /// ```
 /// let model = irwystl::model_of(b".i 1\n.o 1\n.p 1\n0 1\n.e\n")?;

@@ -57,7 +57,7 @@ pub struct Why {
 /// first [`Reason`] that holds. Numbers stand in the order of greater R, at equal R of
 /// fewer one-bits, then of the smaller number. No row is moved, so that a list which
 /// [`row_method`](crate::row_method) refuses with 9 has its answer here. Refuses with 1, 2,
-/// 3 (the type, w, t), 4, 6 and 7.
+/// 3 (the type, w, t), 4, 6, 7 and 11.
 ///
 /// ```
 /// use irwystl::{why_not, Reason, Refusal, Row, Taken, FR};

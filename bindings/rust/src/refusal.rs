@@ -35,6 +35,9 @@ pub enum Refusal {
     TooManyRows { step: usize },
     /// 10: a line of the text, counted from 1, is not of the form due there.
     Line { line: usize },
+    /// 11: an output bit, counted from 0, is 0 in every row's word, so that no row drives
+    /// that column; the lowest such bit. Looked for after 7 and before 9.
+    UndrivenColumn { bit: usize },
 }
 
 impl Refusal {
@@ -53,11 +56,12 @@ impl Refusal {
             Refusal::DependentRow { index } => (8, index, 0),
             Refusal::TooManyRows { step } => (9, step, 0),
             Refusal::Line { line } => (10, line, 0),
+            Refusal::UndrivenColumn { bit } => (11, bit, 0),
         }
     }
 
     /// The refusal of a number and its places; none for 0. The library gives no
-    /// number above 10, so the last case is 10.
+    /// number above 11, so the last case is 11.
     pub(crate) fn of(number: u32, a: usize, b: usize) -> Option<Refusal> {
         Some(match number {
             0 => return None,
@@ -74,7 +78,8 @@ impl Refusal {
             },
             8 => Refusal::DependentRow { index: a },
             9 => Refusal::TooManyRows { step: a },
-            _ => Refusal::Line { line: a },
+            10 => Refusal::Line { line: a },
+            _ => Refusal::UndrivenColumn { bit: a },
         })
     }
 
@@ -125,6 +130,7 @@ impl fmt::Display for Refusal {
                 write!(out, "at step {step} the smaller rows pass 512")
             }
             Refusal::Line { line } => write!(out, "line {line} is not of the form due there"),
+            Refusal::UndrivenColumn { bit } => write!(out, "no row drives output bit {bit}"),
         }
     }
 }

@@ -50,7 +50,7 @@ fn every_text_has_its_sheet_or_refusal() {
         let got = sheet_of(text).unwrap_or_else(told);
         assert_eq!(&got, due);
     }
-    assert_eq!(texts.len(), 258);
+    assert_eq!(texts.len(), 319);
 }
 
 #[test]

@@ -423,11 +423,42 @@ fn a_word_is_named_by_its_count() {
     assert_eq!(rooms, [[7; 4]; 2]);
 }
 
+/// A column that no row drives is told by its output bit, of either type.
+#[test]
+fn an_undriven_column_is_named_by_its_bit() {
+    let rows = [irwystl::Row {
+        mask: 0,
+        values: 0,
+        word: 0b1011,
+    }];
+    for y in [irwystl::FR, irwystl::FD] {
+        let refused = irwystl::row_value(1, 4, y, 0, &rows);
+        assert_eq!(refused, Err(Refusal::UndrivenColumn { bit: 2 }));
+        let said = refused.unwrap_err().to_string();
+        assert_eq!(said, "no row drives output bit 2");
+    }
+    let text = b".i 1\n.o 2\n.p 1\n- 01\n.e\n";
+    let refused = Refusal::UndrivenColumn { bit: 1 };
+    assert_eq!(irwystl::sheet_of(text), Err(refused));
+    assert_eq!(irwystl::model_of(text), Err(refused));
+}
+
+/// What 02, Ticket 8, says of columns that no row drives.
+#[test]
+fn undriven_columns_are_refused_as_02_has_them() {
+    for seed in 0..60 {
+        demands::driven_columns::<Safe>(seed);
+    }
+}
+
 /// Each reason in words.
 #[test]
 fn reasons_in_words() {
     // one row over both points of one input, and over all points of three
-    let whole = [irwystl::Row::default()];
+    let whole = [irwystl::Row {
+        word: 1,
+        ..irwystl::Row::default()
+    }];
     let said = |n, w, t| {
         let why = irwystl::why_not(n, 1, irwystl::FD, w, t, &whole).unwrap();
         why.reason.to_string()

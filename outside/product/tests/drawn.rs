@@ -4,7 +4,7 @@
 //! for, and against the values that are counted; symmetric blocks with rooms near what
 //! they ask for, and what 02 asks to be shown of them; why each number of small blocks was
 //! not taken, and numbers of lists that pass 512 rows, and what 02 says of the reasons;
-//! models there and back, damaged, and with rooms near what they ask for; imports of drawn
+//! what it says of columns that no row drives; models there and back, damaged, and with rooms near what they ask for; imports of drawn
 //! texts; then the cases with answers (outside/CASES.md). Lent storage holds a pattern
 //! before each call and is never cleared, so that a stray write shows. Each call of the
 //! product runs in a thread with 1 MiB of stack.
@@ -262,6 +262,15 @@ fn reasons_are_as_02_has_them() {
         for seed in 0..if n < 8 { 8 } else { 2 } {
             small_stack(move || demands::reasons::<Product>(n, seed));
         }
+    }
+}
+
+/// Lists with columns that no row drives are refused as 02, Ticket 8, has it; the smaller
+/// rows of the others drive the same columns, and are filled.
+#[test]
+fn undriven_columns_are_refused_as_02_has_them() {
+    for seed in 0..draws() / 10 {
+        small_stack(move || demands::driven_columns::<Product>(seed));
     }
 }
 

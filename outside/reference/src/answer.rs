@@ -1,7 +1,7 @@
 //! What comes back (01, Numbers that come back): the answer, the refusal, and
 //! the results of each operation that has more than one.
 
-/// A refusal: its number from 1 to 10 and its places, 0 where not named.
+/// A refusal: its number from 1 to 11 and its places, 0 where not named.
 #[derive(Clone, Copy, Debug, PartialEq, Eq)]
 pub struct Refusal {
     pub number: u32,
@@ -17,8 +17,8 @@ impl Refusal {
 
     /// The refusal with this number and these places.
     pub fn at(number: u32, a: usize, b: usize) -> Self {
-        // Places are indices of rows, of table entries, of patterns, of steps and
-        // of lines, so they fit for everything that fits in memory here.
+        // Places are indices of rows, of table entries, of patterns, of steps, of output
+        // bits and of lines, so they fit for everything that fits in memory here.
         let place = |p| u32::try_from(p).expect("a place fits in 32 bits");
         Refusal {
             number,

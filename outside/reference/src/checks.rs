@@ -1,6 +1,7 @@
-//! The refusals 1 to 8 (01, Numbers that come back; 02), one function each. An
-//! operation calls them in the order of the numbers. Not here: 9, which the row
-//! method finds at its steps, and 10, which the reader of text finds.
+//! The refusals 1 to 8 and 11 (01, Numbers that come back; 02), one function each. An
+//! operation calls them in the order of the numbers, but for 11, which comes after 7.
+//! Not here: 9, which the row method finds at its steps, and 10, which the reader of
+//! text finds.
 
 use crate::model::Pattern;
 use crate::{missing, Refusal, Row, FD, FR, OUTPUTS};
@@ -116,6 +117,23 @@ pub fn disjoint(rows: &[Row]) -> Check {
         }
     }
     Ok(())
+}
+
+/// 11: the lowest output bit whose column is 0 in every row (02, Ticket 8).
+pub fn driven(k: usize, rows: &[Row]) -> Check {
+    let is_zero = |bit: &usize| rows.iter().all(|row| row.word >> bit & 1 == 0);
+    match (0..k).find(is_zero) {
+        Some(bit) => Err(Refusal::at(11, bit, 0)),
+        None => Ok(()),
+    }
+}
+
+/// 6, 7 and 11: what every operation that works on a list asks of its rows. Reading and
+/// writing row text don't look for 7, nor for 11.
+pub fn list(n: usize, k: usize, rows: &[Row]) -> Check {
+    records(n, k, rows)?;
+    disjoint(rows)?;
+    driven(k, rows)
 }
 
 /// 8: the least index of a matrix row that is the XOR of some set of earlier

@@ -1,10 +1,11 @@
 //! What 02 asks to be shown of answers together, on inputs from a seed, for any
-//! implementation: symmetric blocks (Ticket 6), and why a number was not taken (Ticket
-//! 7). Not here: the demands on both methods, which are in tests/agree.rs.
+//! implementation: symmetric blocks (Ticket 6), why a number was not taken (Ticket
+//! 7), and columns that no row drives (Ticket 8). Not here: the demands on both methods,
+//! which are in tests/agree.rs.
 
 use crate::inputs::{self, LentRows, Random};
 use crate::{matrix, symmetric, Fast, Measures, Operations, Reason, Row, FD, FR};
-use crate::{NO_OUTPUT, ROWS, ROW_INPUTS};
+use crate::{MODEL_ROOM, NO_OUTPUT, ROWS, ROW_INPUTS, SHEET_ROOM, SMALLER_ROWS, TEXT_ROOM};
 
 /// A symmetric block of n inputs: its table is called symmetric, and with another entry
 /// it is not; R is equal at all numbers with as many one-bits; the measures are the sums
@@ -147,4 +148,64 @@ fn drawn_list(random: &mut Random, n: usize) -> ([usize; 3], Vec<Row>) {
         _ => inputs::hidden_rows(random, n, k, count),
     };
     ([k, y, w], rows)
+}
+
+/// A list of at most 12 inputs with columns taken away, or none: where a column is 0 in
+/// every row, all six operations that look for it answer 11 with the lowest such output
+/// bit, and writing its text does not; else the smaller rows drive the same columns as the
+/// rows given, and they are filled.
+pub fn driven_columns<O: Operations>(seed: u64) {
+    let name = format!("seed {seed}");
+    let random = &mut Random::new(seed);
+    let n = random.between(1, 12);
+    let ([k, y, w], mut rows) = drawn_list(random, n);
+    if random.one_in(2) {
+        inputs::undrive(random, k, &mut rows);
+    }
+    // The bits from the lowest one that are driven, counted: k where all are.
+    let ones = |rows: &[Row]| rows.iter().fold(0, |ones, row| ones | row.word);
+    let lowest = ones(&rows).trailing_ones();
+    let due = match lowest as usize == k {
+        true => [0, 0, 0],
+        false => [11, lowest, 0],
+    };
+
+    let mut text = vec![0; TEXT_ROOM];
+    let wrote = O::write_text_records(n, k, y, 1, &rows, &mut text);
+    assert_eq!(wrote.number, 0, "{name}");
+    let t = random.below(1 << n);
+    let value = O::row_value_records(n, k, y, t, &rows);
+    assert_eq!([value.number, value.a, value.b], due, "{name}");
+    let why = O::why_not_records(n, k, y, w, t, &rows, &mut [0; ROW_INPUTS]);
+    assert_eq!([why.number, why.a, why.b], due, "{name}");
+    let fill = |rows: &[Row]| {
+        let mut table = vec![0; 1 << n];
+        let filled = O::fill_records(n, k, y, rows, &mut table);
+        [filled.number, filled.a, filled.b]
+    };
+    assert_eq!(fill(&rows), due, "{name}");
+
+    // The list may pass 512 rows where all columns are driven.
+    let due = |number| match (due, number) {
+        ([0, ..], 9) => None,
+        _ => Some(due),
+    };
+    let mut smaller = vec![Row::default(); SMALLER_ROWS];
+    let [mut columns, mut sigma] = [[0; ROW_INPUTS]; 2];
+    let [t, s] = [&mut columns, &mut sigma];
+    let moved = O::row_method_records(n, k, y, w, &rows, &mut smaller, t, s);
+    let sheet = O::sheet_records(n, k, y, w, &rows, &mut vec![0; SHEET_ROOM]);
+    let model = O::write_model_records(n, k, y, w, &rows, &mut vec![0; MODEL_ROOM]);
+    for got in [
+        [moved.number, moved.a, moved.b],
+        [sheet.number, sheet.a, sheet.b],
+        [model.number, model.a, model.b],
+    ] {
+        assert_eq!(got, due(got[0]).unwrap_or(got), "{name}");
+    }
+    if moved.number == 0 {
+        let smaller = &smaller[..moved.results.rows];
+        assert_eq!(ones(smaller), ones(&rows), "{name}");
+        assert_eq!(fill(smaller), [0, 0, 0], "{name}");
+    }
 }

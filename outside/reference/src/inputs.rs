@@ -144,7 +144,7 @@ pub fn table_asked(random: &mut Random, n: usize, k: usize) -> Vec<u16> {
 }
 
 /// Disjoint rows, at most `count`, in some order: the whole space split again
-/// and again, with some of the parts left out.
+/// and again, with some of the parts left out. They drive every column.
 pub fn rows(random: &mut Random, n: usize, k: usize, count: usize) -> Vec<Row> {
     let words = words(random, k);
     let mut rows = vec![Row::default()];
@@ -170,11 +170,57 @@ pub fn rows(random: &mut Random, n: usize, k: usize, count: usize) -> Vec<Row> {
     for row in &mut rows {
         row.word = random.pick(&words);
     }
+    drive(random, k, &mut rows);
     rows
 }
 
+/// The columns that no row has a 1 in, as the bits of a number.
+pub fn undriven_columns(k: usize, rows: &[Row]) -> u32 {
+    let driven = rows.iter().fold(0, |columns, row| columns | row.word);
+    ((1 << k) - 1) & !driven
+}
+
+/// Puts a 1 into every column that has none: into one of the words, wherever it stands,
+/// so that the words that were equal still are, and no others. Word 0 stays where there
+/// is another; where there is none, one row alone gets the new word.
+fn drive(random: &mut Random, k: usize, rows: &mut [Row]) {
+    let undriven = undriven_columns(k, rows);
+    let words: Vec<u32> = rows.iter().map(|row| row.word).collect();
+    let not_0: Vec<u32> = words.iter().copied().filter(|&word| word != 0).collect();
+    if not_0.is_empty() {
+        let index = random.below(rows.len());
+        rows[index].word = undriven;
+        return;
+    }
+    let word = random.pick(&not_0);
+    for row in rows.iter_mut().filter(|row| row.word == word) {
+        row.word |= undriven;
+    }
+}
+
+/// Makes columns 0 in every row: one, at times the lowest or the highest, some, all but
+/// one, or all.
+pub fn undrive(random: &mut Random, k: usize, rows: &mut [Row]) {
+    let any = 1 << random.below(k);
+    let all = (1 << k) - 1;
+    let some = random.word(k);
+    let columns = random.pick(&[any, any, 1, 1 << (k - 1), some, some, all & !any, all]);
+    for row in rows {
+        row.word &= !columns;
+    }
+}
+
+/// Puts a column that is 0 in every row among the k columns, so that words are equal
+/// where they were.
+pub fn mislay_column(random: &mut Random, k: usize, rows: &mut [Row]) {
+    let below = (1 << random.below(k + 1)) - 1;
+    for row in rows {
+        row.word = row.word & below | (row.word & !below) << 1;
+    }
+}
+
 /// Disjoint rows with hidden XORs: a list of at most `count` rows carried
-/// through steps of its own, as long as it stays within `count`.
+/// through steps of its own, as long as it stays within `count`. They drive every column.
 pub fn hidden_rows(random: &mut Random, n: usize, k: usize, count: usize) -> Vec<Row> {
     let start = random.between(1, (count + 1) / 2);
     let mut rows = rows(random, n, k, start);
@@ -351,11 +397,24 @@ pub fn text_of(head: TextHead, rows: &[Row]) -> Vec<u8> {
 }
 
 /// A row text that has form and ranges, with a type line or without; its rows may
-/// share points.
+/// share points, and they may leave columns undriven.
 pub fn text(random: &mut Random) -> Vec<u8> {
+    let undriven = random.one_in(8);
+    text_with(random, undriven)
+}
+
+/// The same with every column driven, for timing.
+pub fn driven_text(random: &mut Random) -> Vec<u8> {
+    text_with(random, false)
+}
+
+fn text_with(random: &mut Random, undriven: bool) -> Vec<u8> {
     let n = random.between(1, ROW_INPUTS);
     let k = random.between(1, OUTPUTS);
     let mut rows = any_rows(random, n, k, ROWS);
+    if undriven {
+        undrive(random, k, &mut rows);
+    }
     if random.one_in(12) {
         overlap(random, n, &mut rows);
         rows.truncate(ROWS);
@@ -504,7 +563,8 @@ fn edit_line(text: &mut Vec<u8>, line: usize, edit: impl FnOnce(&mut Vec<u8>)) {
     *text = lines.join(&b'\n');
 }
 
-/// Disjoint rows of one of the kinds above, at most `most`, at times near that.
+/// Disjoint rows of one of the kinds above, at most `most`, at times near that. They
+/// drive every column.
 fn any_rows(random: &mut Random, n: usize, k: usize, most: usize) -> Vec<Row> {
     let count = match random.below(6) {
         0 => random.between(most - most / 16, most),
@@ -1373,8 +1433,14 @@ fn any_list(random: &mut Random, inputs: usize, most: usize) -> ([usize; 3], Len
 /// smaller rows.
 fn method_list(random: &mut Random) -> ([usize; 4], LentRows) {
     if random.one_in(12) {
-        let (numbers, rows) = rows_near_512(random, 24);
-        return (numbers, LentRows::new(&rows));
+        let ([n, k, block_type, w], mut rows) = rows_near_512(random, 24);
+        // With a column more that is 0 in every row R and T are the same, so that a list
+        // that passes 512 rows still would.
+        if k < OUTPUTS && random.one_in(4) {
+            mislay_column(random, k, &mut rows);
+            return ([n, k + 1, block_type, w], LentRows::new(&rows));
+        }
+        return ([n, k, block_type, w], LentRows::new(&rows));
     }
     let ([n, k, block_type], rows) = any_list(random, ROW_INPUTS, ROWS);
     // Few cases with many candidates, for they take long.
@@ -1395,9 +1461,12 @@ fn any_asked(random: &mut Random, [n, k, block_type, w]: [usize; 4], rows: &Lent
     asked_number(random, inputs, w.min(inputs), &taken[..inputs])
 }
 
-/// The list with harm at times: too many rows or none, records, overlaps,
-/// unequal lengths.
+/// The list with harm at times: columns undriven, and beside that too many rows or none,
+/// records, overlaps, unequal lengths.
 fn harmed(random: &mut Random, n: usize, k: usize, most: usize, rows: &mut Vec<Row>) -> LentRows {
+    if random.one_in(6) {
+        undrive(random, k.clamp(1, OUTPUTS), rows);
+    }
     match random.below(32) {
         0 => rows.clear(),
         1 => rows.resize(most + 1, Row::default()),

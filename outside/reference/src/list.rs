@@ -92,8 +92,7 @@ pub(crate) fn check_value(
     checks::block_type(block_type)?;
     checks::shift(t, n)?;
     checks::rows_given(rows.len(), ROWS)?;
-    checks::records(n, k, rows)?;
-    checks::disjoint(rows)
+    checks::list(n, k, rows)
 }
 
 /// A way to find the row method's results: from n, the type, w and the rows.
@@ -171,8 +170,7 @@ pub(crate) fn check_method(
     checks::weight_limit(w, n)?;
     checks::rows_given(rows.len(), ROWS)?;
     room()?;
-    checks::records(n, k, rows)?;
-    checks::disjoint(rows)
+    checks::list(n, k, rows)
 }
 
 /// The row method on a list that was checked: T, sigma, the measures and the
@@ -327,6 +325,5 @@ pub(crate) fn check_fill(
     checks::block_type(block_type)?;
     checks::rows_given(rows.len(), FILL_ROWS)?;
     checks::room(room, 1 << n)?;
-    checks::records(n, k, rows)?;
-    checks::disjoint(rows)
+    checks::list(n, k, rows)
 }

@@ -73,6 +73,5 @@ pub(crate) fn check_why(
     checks::weight_limit(w, n)?;
     checks::shift(t, n)?;
     checks::rows_given(rows.len(), ROWS)?;
-    checks::records(n, k, rows)?;
-    checks::disjoint(rows)
+    checks::list(n, k, rows)
 }

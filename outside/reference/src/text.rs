@@ -1,5 +1,6 @@
 //! Row text (01, Row text), with its type line (02, Ticket 2): reading and
-//! writing. Neither looks for rows that share a point.
+//! writing. Neither looks for rows that share a point, nor for columns that no row
+//! drives.
 
 use crate::{
     checks, Answer, List, Refusal, Room, Row, TextHead, FD, FR, ROWS, ROW_INPUTS, TEXT_ROOM,

@@ -48,18 +48,18 @@ fn plain_and_fast_give_the_same_and_refusals_change_nothing() {
         ("Restore", &[0, 1, 2, 3, 4, 5, 6, 8]),
         ("SymmetricBlock", &[0, 1, 2, 3, 4, 5, 6]),
         ("TableSymmetric", &[0, 1, 2, 3, 4, 6]),
-        ("RowValue", &[0, 1, 2, 3, 4, 6, 7]),
-        ("RowMethod", &[0, 1, 2, 3, 4, 5, 6, 7, 9]),
-        ("WhyNot", &[0, 1, 2, 3, 4, 6, 7]),
-        ("Fill", &[0, 1, 2, 3, 4, 5, 6, 7]),
+        ("RowValue", &[0, 1, 2, 3, 4, 6, 7, 11]),
+        ("RowMethod", &[0, 1, 2, 3, 4, 5, 6, 7, 9, 11]),
+        ("WhyNot", &[0, 1, 2, 3, 4, 6, 7, 11]),
+        ("Fill", &[0, 1, 2, 3, 4, 5, 6, 7, 11]),
         ("ReadText", &[0, 1, 2, 4, 5, 10]),
         ("WriteText", &[0, 1, 2, 3, 4, 5, 6]),
-        ("Sheet", &[0, 1, 2, 3, 4, 5, 6, 7, 9]),
-        ("Program", &[0, 1, 2, 4, 7, 10]),
-        ("WriteModel", &[0, 1, 2, 3, 4, 5, 6, 7, 9]),
+        ("Sheet", &[0, 1, 2, 3, 4, 5, 6, 7, 9, 11]),
+        ("Program", &[0, 1, 2, 4, 7, 10, 11]),
+        ("WriteModel", &[0, 1, 2, 3, 4, 5, 6, 7, 9, 11]),
         ("ReadModel", &[0, 5, 8, 10]),
         ("ModelValue", &[0, 1, 2, 3, 4, 6, 8]),
-        ("PrintModel", &[0, 1, 2, 4, 7, 10]),
+        ("PrintModel", &[0, 1, 2, 4, 7, 10, 11]),
     ] {
         let met: Vec<u32> = seen
             .keys()
@@ -257,6 +257,73 @@ fn lists_that_pass_512_rows_have_reasons() {
         assert_eq!(plain.number, 0);
         assert_eq!((plain, taken), (fast, same));
     }
+}
+
+/// Lists with undriven columns are refused as 02, Ticket 8, has it, and with no others; the
+/// smaller rows of the others drive the same columns, and are filled.
+#[test]
+fn undriven_columns_are_refused_as_02_has_them() {
+    for seed in 0..600 {
+        demands::driven_columns::<Plain>(seed);
+        demands::driven_columns::<Fast>(seed);
+    }
+}
+
+/// A list that passes 512 rows is refused with 11 where a column is undriven.
+#[test]
+fn undriven_columns_come_before_9() {
+    let random = &mut Random::new(11);
+    let mut mislaid = 0;
+    for (head, mut rows) in data::lists_past_512() {
+        let [n, k, y] = [head.n, head.k, head.block_type];
+        let numbers_of = |k, rows: &[Row]| {
+            let (mut sheet, mut model) = (vec![0; 17_518], vec![0; 9_999]);
+            let sheet = Fast::sheet_records(n, k, y, 3, rows, &mut sheet);
+            let model = Fast::write_model_records(n, k, y, 3, rows, &mut model);
+            [[sheet.number, sheet.a], [model.number, model.a]]
+        };
+        assert_eq!(numbers_of(k, &rows).map(|[number, _]| number), [9, 9]);
+        if k < 15 {
+            inputs::mislay_column(random, k, &mut rows);
+            let bit = inputs::undriven_columns(k + 1, &rows).trailing_zeros();
+            assert_eq!(numbers_of(k + 1, &rows), [[11, bit]; 2]);
+            mislaid += 1;
+        }
+    }
+    assert!(mislaid > 8, "{mislaid}");
+}
+
+/// The drawn calls on lists have undriven columns beside each other thing that may be
+/// wrong: what comes before 11 is then given, and what comes after it is not.
+#[test]
+fn undriven_columns_are_drawn_beside_other_faults() {
+    let mut met: BTreeMap<u32, usize> = BTreeMap::new();
+    let mut columns = [0; 16];
+    for seed in 0..SEEDS {
+        let mut case = Case::new(seed);
+        let (k, rows) = match &case {
+            Case::RowValue { k, rows, .. }
+            | Case::RowMethod { k, rows, .. }
+            | Case::WhyNot { k, rows, .. }
+            | Case::Fill { k, rows, .. }
+            | Case::Sheet { k, rows, .. }
+            | Case::WriteModel { k, rows, .. } => (*k, rows.records()),
+            _ => continue,
+        };
+        let undriven = match rows {
+            Some(rows) if k <= 15 => inputs::undriven_columns(k, &rows),
+            _ => 0,
+        };
+        if undriven != 0 {
+            let number = case.run::<Fast>().number;
+            *met.entry(number).or_default() += 1;
+            columns[undriven.count_ones() as usize] += usize::from(number == 11);
+        }
+    }
+    let numbers: Vec<u32> = met.keys().copied().collect();
+    assert_eq!(numbers, [1, 3, 4, 5, 6, 7, 11], "{met:?}");
+    assert!(met.values().all(|&count| count >= 4), "{met:?}");
+    assert!(columns[1..].iter().all(|&count| count > 0), "{columns:?}");
 }
 
 /// The drawn calls meet each of the four reasons, each often.

@@ -1,8 +1,9 @@
 //! 01's blocks to try by hand, cases a to j and those after them, read as fr, the
 //! sheet's example, Example 2 of document 000, blocks of either type (02, Ticket 2),
 //! the spectrum of some of these (02, Ticket 5), symmetric blocks, document 002's
-//! among them (02, Ticket 6), and why a number was not taken (02, Ticket 7). Each is asked
-//! of the plain and of the fast operations.
+//! among them (02, Ticket 6), why a number was not taken (02, Ticket 7), and lists with a
+//! column that no row drives (02, Ticket 8). Each is asked of the plain and of the fast
+//! operations.
 
 use reference::{fast, spectrum, symmetric, Reason, Row, FD, FR, NO_OUTPUT};
 
@@ -329,13 +330,20 @@ fn the_order_in_which_text_is_refused() {
 
 #[test]
 fn ranges() {
-    let one = [Row::default()];
+    // A row over all points that drives every column.
+    let over_all = |word| {
+        [Row {
+            word,
+            ..Row::default()
+        }]
+    };
+    let one = over_all(1);
     assert_eq!(row_number(16, 1, 1, &one), 0);
     assert_eq!(row_number(17, 1, 1, &one), 1);
     assert_eq!(row_number(0, 1, 1, &one), 1);
-    assert_eq!(row_number(3, 15, 1, &one), 0);
-    assert_eq!(row_number(3, 16, 1, &one), 2);
-    assert_eq!(row_number(3, 0, 1, &one), 2);
+    assert_eq!(row_number(3, 15, 1, &over_all(32_767)), 0);
+    assert_eq!(row_number(3, 16, 1, &over_all(65_535)), 2);
+    assert_eq!(row_number(3, 0, 1, &over_all(0)), 2);
     assert_eq!(row_number(3, 1, 3, &one), 0);
     assert_eq!(row_number(3, 1, 4, &one), 3);
     assert_eq!(row_number(3, 1, 0, &one), 3);
@@ -344,7 +352,7 @@ fn ranges() {
             .map(|values| Row {
                 mask: 255,
                 values,
-                word: values & 1,
+                word: !values & 1,
             })
             .collect()
     };
@@ -378,11 +386,11 @@ fn flat_slices_of_unequal_length() {
         words,
     };
     assert_eq!(
-        reference::row_value(1, 1, FR, 0, flat(&[0], &[0], &[0, 0])).number,
+        reference::row_value(1, 1, FR, 0, flat(&[0], &[0], &[1, 1])).number,
         4
     );
     assert_eq!(
-        reference::row_value(1, 1, FR, 0, flat(&[0], &[0], &[0])).number,
+        reference::row_value(1, 1, FR, 0, flat(&[0], &[0], &[1])).number,
         0
     );
     let mut long = [[5; 512], [5; 512]];
@@ -393,7 +401,7 @@ fn flat_slices_of_unequal_length() {
         values,
         words: &mut short,
     };
-    let list = flat(&[0], &[0], &[0]);
+    let list = flat(&[0], &[0], &[1]);
     let got = reference::row_method(1, 1, FR, 1, list, room, &mut [0], &mut [0]);
     assert_eq!(got.number, 5);
     assert_eq!((long, short), ([[5; 512], [5; 512]], [5; 511]));
@@ -686,8 +694,9 @@ fn reasons_by_hand() {
 /// its own units.
 #[test]
 fn reasons_where_r_is_equal() {
-    for n in [1, 4] {
-        let (reasons, taken) = reasons_of([n, 1, n], &[Row::default()]);
+    let symbols = ["- 1", "---- 1"];
+    for (n, symbols) in [1, 4].into_iter().zip(symbols) {
+        let (reasons, taken) = reasons_of([n, 1, n], &list(&[symbols]));
         assert_eq!(taken, (0..n).map(|i| 1 << i).collect::<Vec<u32>>());
         for (t, reason) in reasons.into_iter().enumerate() {
             let due = match t.count_ones() {
@@ -725,11 +734,12 @@ fn reasons_of_document_000_example_2() {
     }
 }
 
-/// Points 1 and 2 have word 0. Under fr R is 2 at 3 and 0 at 1 and 2, so that 3 and 1 are
-/// taken; under fd every point has word 0 and R is 4 at each t, so that 1 and 2 are.
+/// Points 1 and 2 have word 0 and point 3 has word 1. Under fr R is 2 at 3 and 0 at 1 and 2,
+/// so that 3 and 1 are taken; under fd point 0 has word 0 too and R is 2 at each t but 0, so
+/// that 1 and 2 are.
 #[test]
 fn reasons_go_by_the_type() {
-    let rows = list(&["01 0", "10 0"]);
+    let rows = list(&["01 0", "10 0", "11 1"]);
     let xor = Some(Reason::Xor { set: 0b11 });
     let taken = |step| Some(Reason::Taken { step });
     for (y, numbers, due) in [
@@ -788,6 +798,106 @@ fn refusals_of_why() {
     let shared = [bad[0], bad[2]];
     assert_eq!(why_of(FD, [2, 1, 2, 0], &shared), refused([6, 0, 1]));
     assert_eq!(why_of(FD, [2, 2, 2, 0], &shared), refused([7, 0, 1]));
+}
+
+/// The numbers of all operations that give 11, in this order: a single value, the row
+/// method, filling, the sheet, writing a model, why. The answers of the plain and the fast
+/// ones are the same, and with a refusal every lent thing holds what it held.
+fn numbers_of_list(y: usize, [n, k, w]: [usize; 3], rows: &[Row]) -> [[u32; 3]; 6] {
+    let (method, ..) = row_method_of(y, [n, k, w], rows);
+    let (why, ..) = why_of(y, [n, k, w, 0], rows);
+    let value = reference::row_value(n, k, y, 0, rows);
+    assert_eq!(value, fast::row_value(n, k, y, 0, rows));
+    let value = [value.number, value.a, value.b];
+    let mut table = vec![9; 1 << n];
+    let mut fast_table = table.clone();
+    let filled = reference::fill(n, k, y, rows, &mut table);
+    assert_eq!(filled, fast::fill(n, k, y, rows, &mut fast_table));
+    assert_eq!(table, fast_table);
+    assert!(filled.number == 0 || table.iter().all(|&entry| entry == 9));
+    let filled = [filled.number, filled.a, filled.b];
+    let written = |write: &dyn Fn(&mut [u8]) -> reference::Answer<usize>, room| {
+        let mut bytes = vec![b'x'; room];
+        let got = write(&mut bytes);
+        assert!(bytes[got.results..].iter().all(|&byte| byte == b'x'));
+        assert_eq!(got.number == 0, got.results > 0);
+        [got.number, got.a, got.b]
+    };
+    let sheet = written(&|bytes| reference::sheet(n, k, y, w, rows, bytes), 17_518);
+    let model = |room| {
+        written(
+            &|bytes| reference::write_model(n, k, y, w, rows, bytes),
+            room,
+        )
+    };
+    // With no room at all 5 is what is left where nothing else is wrong.
+    let [with_room, without] = [model(9_999), model(0)];
+    let answered = with_room[0] == 0;
+    assert_eq!(without, if answered { [5, 0, 0] } else { with_room });
+    [value, method, filled, sheet, with_room, why]
+}
+
+/// A column that is 0 in every row, of either type: the lowest such output bit. Under fd
+/// the missing points drive nothing.
+#[test]
+fn undriven_columns() {
+    for y in [FR, FD] {
+        let number = |k, rows: &[&str]| {
+            let all = numbers_of_list(y, [2, k, 2], &list(rows));
+            assert_eq!(all, [all[0]; 6]);
+            all[0]
+        };
+        assert_eq!(number(1, &["-- 0"]), [11, 0, 0]);
+        assert_eq!(number(1, &["-- 1"]), ANSWERED);
+        assert_eq!(number(1, &["00 0", "11 0"]), [11, 0, 0]);
+        assert_eq!(number(1, &["00 0", "11 1"]), ANSWERED);
+        assert_eq!(number(2, &["0- 01", "1- 00"]), [11, 1, 0]);
+        assert_eq!(number(2, &["0- 10", "1- 00"]), [11, 0, 0]);
+        assert_eq!(number(2, &["0- 10", "1- 01"]), ANSWERED);
+        // The lowest of several.
+        assert_eq!(number(4, &["0- 0001", "1- 0100"]), [11, 1, 0]);
+        assert_eq!(number(4, &["0- 0000", "1- 0000"]), [11, 0, 0]);
+        // Only the highest of 15, and only the last row drives it.
+        assert_eq!(number(15, &["0- 011111111111111"]), [11, 14, 0]);
+        let rows = ["0- 011111111111111", "1- 100000000000000"];
+        assert_eq!(number(15, &rows), ANSWERED);
+        // 6 and 7 come first; a word's bits beyond k drive nothing and are 6.
+        assert_eq!(number(1, &["0- 0", "1- 10"]), [6, 0, 1]);
+        assert_eq!(number(2, &["0- 01", "-0 01"]), [7, 0, 1]);
+        assert_eq!(number(2, &["0- 01", "-0 10"]), [7, 0, 1]);
+    }
+}
+
+/// 11 comes after 5 where room is looked at before the rows.
+#[test]
+fn short_room_beside_an_undriven_column() {
+    let rows = list(&["0- 01", "1- 00"]);
+    let rows = &rows[..];
+    assert_eq!(reference::fill(2, 2, FR, rows, &mut [0; 3]).number, 5);
+    assert_eq!(reference::fill(2, 2, FR, rows, &mut [0; 4]).number, 11);
+    let sheet = |room| reference::sheet(2, 2, FD, 2, rows, &mut vec![0; room]).number;
+    assert_eq!([sheet(17_517), sheet(17_518)], [5, 11]);
+    let method = |room| {
+        let mut smaller = vec![Row::default(); room];
+        let [mut t, mut s] = [[0; 2]; 2];
+        reference::row_method(2, 2, FD, 2, rows, &mut smaller[..], &mut t, &mut s).number
+    };
+    assert_eq!([method(511), method(512)], [5, 11]);
+    // Row text and operations on tables don't look for it.
+    let mut text = [0; 4_255];
+    let wrote = reference::write_text(2, 2, FD, 0, rows, &mut text);
+    assert_eq!(wrote.number, 0);
+    let mut same = [Row::default(); 2];
+    let read = reference::read_text(&text[..wrote.results], &mut same[..]);
+    assert_eq!((read.number, &same[..]), (0, rows));
+    assert_eq!(table_method_of(FD, [2, 2, 2], &[1, 1, 0, 0]).0, ANSWERED);
+    assert_eq!(spectrum_of(FD, [2, 2], &[1, 1, 0, 0]).0, ANSWERED);
+    for program in [reference::program, fast::program] {
+        assert_eq!(program(&text[..wrote.results]), b"refused 11 1 0\n");
+    }
+    for print in [reference::print_model, fast::print_model] {
+        assert_eq!(print(&text[..wrote.results]), b"refused 11 1 0\n");
+    }
 }
 
 #[test]
