@@ -1,5 +1,5 @@
--- Laws of XOR and AND, and the lowest digit of OR, beside those of the kit's lib.Bits: by halves and lowest digits; associative; an XOR undoes itself; AND
--- distributes; what keeps an equation's truth. Assumes nothing.
+-- Laws of XOR and AND, and the lowest digit of OR, beside those of the kit's lib.Bits: by halves and lowest digits; associative; an XOR
+-- undoes itself; AND distributes; what keeps an equation's truth. Assumes nothing.
 use mathlib.Core.Path.{_≡_, refl, sym, ap, _∙_}
 use Prim.Native.Nat.{ℕ, zero, suc, _+_, _*_, _/_, _%_, _<_, min, max}
 use native.Mathlib.Decide.{ℕ-discrete}

@@ -4,10 +4,11 @@
 //! for, and against the values that are counted; symmetric blocks with rooms near what
 //! they ask for, and what 02 asks to be shown of them; why each number of small blocks was
 //! not taken, and numbers of lists that pass 512 rows, and what 02 says of the reasons;
-//! what it says of columns that no row drives; models there and back, damaged, and with rooms near what they ask for; imports of drawn
-//! texts; then the cases with answers (outside/CASES.md). Lent storage holds a pattern
-//! before each call and is never cleared, so that a stray write shows. Each call of the
-//! product runs in a thread with 1 MiB of stack.
+//! what it says of columns that no row drives; models there and back, damaged, and with
+//! rooms near what they ask for; imports of drawn texts; then the cases with answers
+//! (outside/CASES.md). Lent storage holds a pattern before each call and is never cleared,
+//! so that a stray write shows. Each call of the product runs in a thread with 1 MiB of
+//! stack.
 
 use irwystl::{import_text, LINE_ROOM};
 use product::Product;

@@ -2,8 +2,8 @@
 //! files of `crates/run_operations/data` have one operation a line with its answer,
 //! `crates/run_texts/data` texts for the program with what it prints, and
 //! `crates/run_models/data` both for models. All but `ranges.txt`, `why_ranges.txt`,
-//! `undriven_ranges.txt` and a few texts are worked out by a third program. Lent storage is looked at in full: what an answer
-//! does not write holds what it held.
+//! `undriven_ranges.txt` and a few texts are worked out by a third program. Lent storage
+//! is looked at in full: what an answer does not write holds what it held.
 
 use crate::blif::{self, Network};
 use crate::inputs::LentRows;
