@@ -12,9 +12,10 @@ use lib.ListN.{length}
 use Rattle.slices.specs.Least.{first-below}
 use Rattle.block.specs.Limits.{listInputs, tableInputs, outputs, givenRows, smallerRows}
 use Rattle.block.specs.Words.{fr, fd, missing, wordPart}
-use Rattle.block.specs.Refusals.{Check, check, answer, verdict, outside, typedChecks, badRow, rowAt, sharing}
-use Rattle.block.specs.Lists.{countCheck, badRowCheck, rowChecks, rowValueVerdict, rowsAfter, passing, passingCheck, methodChecked, methodChecks, smallerList, fillVerdict}
+use Rattle.block.specs.Refusals.{Check, check, answer, verdict, outside, sizeChecks, typedChecks, badRow, rowAt, sharing}
+use Rattle.block.specs.Lists.{countCheck, badRowCheck, shareCheck, rowChecks, rowValueVerdict, rowsAfter, passing, passingCheck, methodChecked, methodChecks, smallerList, fillVerdict}
 use Rattle.block.specs.Reasons.{whyVerdict}
+use Rattle.block.specs.Joins.{joinVerdict}
 use Rattle.block.specs.declared.Row.{Row}
 use Rattle.refusal_laws.specs.Verdicts.{verdict-miss, verdict-none, none-passes, passes, Numbered}
 use Rattle.refusal_laws.specs.Driven.{AllDriven, check-driven, driven-check}
@@ -57,6 +58,12 @@ pub record WhyPassed (n k y w t : ℕ) (rs : List Row) : Type 0 where
   pub weight : (1 ≤ w) × (w ≤ n)
   pub number : t < 2 ^ n
 
+-- joining: whether the rows drive every column is not asked
+pub record JoinPassed (n k : ℕ) (rs : List Row) : Type 0 where
+  pub range : InRange listInputs smallerRows n k rs
+  pub good : Every (λ r. badRow n k r ≡ false) rs
+  pub disjoint : Disjoint n rs
+
 -- greater limits hold too
 pub in-range-more : {inputs most n k : ℕ} {rs : List Row} (wider more : ℕ) → inputs ≤ wider → most ≤ more → InRange inputs most n k rs
     → InRange wider more n k rs
@@ -77,16 +84,33 @@ rows-numbered n k rs = (refl, (refl, (refl, tt)))
 pub formed-sound : (n k : ℕ) (rs : List Row) → verdict (badRowCheck n k rs ∷ []) .number ≡ 0 → Every (Sound n) rs
 formed-sound n k rs h i l = good-sound n k _ (every-good n k rs (passes _ _ refl h .0) i l)
 
+-- 6 and 7
+disjoint-pass : (n k : ℕ) (rs : List Row) (rest : List Check) → k ≤ outputs → verdict (badRowCheck n k rs ∷ shareCheck n rs ∷ rest) .number ≡ 0
+    → Every (λ r. badRow n k r ≡ false) rs × Disjoint n rs × (verdict rest .number ≡ 0)
+disjoint-pass n k rs rest hk h =
+    let formed = passes _ _ refl h in
+    let apart = passes _ _ refl (formed .1) in
+    (every-good n k rs (formed .0), checked-disjoint n k rs hk (formed .0) (apart .0), apart .1)
+
+disjoint-answer : (n k : ℕ) (rs : List Row) (rest : List Check) → Every (λ r. badRow n k r ≡ false) rs → Disjoint n rs
+    → verdict (badRowCheck n k rs ∷ shareCheck n rs ∷ rest) ≡ verdict rest
+disjoint-answer n k rs rest good d =
+    verdict-miss _ _ (none-passes (length rs) (λ i. badRow n k (rowAt rs i)) good)
+    ∙ verdict-miss _ _ (no-share (ltb (sharing n rs) (length rs)) refl)
+  where
+    no-share : (b : Bool) → ltb (sharing n rs) (length rs) ≡ b → ltb (sharing n rs) (length rs) ≡ false
+    no-share true e = absurd (apart-sharing n rs (d .apart) (ltb-true (sharing n rs) (length rs) e))
+    no-share false e = e
+
 pub rows-pass : (inputs most n k : ℕ) (rs : List Row) (rest : List Check) → InRange inputs most n k rs
     → verdict (rowChecks n k rs ++ rest) .number ≡ 0 → Passed inputs most n k rs × (verdict rest .number ≡ 0)
 rows-pass inputs most n k rs rest p h =
-    let formed = passes _ _ refl h in
-    let apart = passes _ _ refl (formed .1) in
-    let told = passes _ _ refl (apart .1) in (
+    let apart = disjoint-pass n k rs _ (p .columns .1) h in
+    let told = passes _ _ refl (apart .2) in (
       record {
         range = p;
-        good = every-good n k rs (formed .0);
-        disjoint = checked-disjoint n k rs (p .columns .1) (formed .0) (apart .0);
+        good = apart .0;
+        disjoint = apart .1;
         columns-driven = check-driven k (map wordPart rs) (told .0);
       },
       told .1,
@@ -96,13 +120,7 @@ rows-pass inputs most n k rs rest p h =
 pub rows-answer : {inputs most : ℕ} (n k : ℕ) (rs : List Row) (rest : List Check) → Passed inputs most n k rs
     → verdict (rowChecks n k rs ++ rest) ≡ verdict rest
 rows-answer n k rs rest p =
-    verdict-miss _ _ (none-passes (length rs) (λ i. badRow n k (rowAt rs i)) (p .good))
-    ∙ verdict-miss _ _ (no-share (ltb (sharing n rs) (length rs)) refl)
-    ∙ verdict-miss _ _ (driven-check k (map wordPart rs) (p .columns-driven))
-  where
-    no-share : (b : Bool) → ltb (sharing n rs) (length rs) ≡ b → ltb (sharing n rs) (length rs) ≡ false
-    no-share true e = absurd (apart-sharing n rs (p .disjoint .apart) (ltb-true (sharing n rs) (length rs) e))
-    no-share false e = e
+    disjoint-answer n k rs _ (p .good) (p .disjoint) ∙ verdict-miss _ _ (driven-check k (map wordPart rs) (p .columns-driven))
 
 -- ---- a single shift value
 
@@ -246,4 +264,39 @@ module _ (n k y w t : ℕ) (rs : List Row) where
       ∙ verdict-miss _ _ (ap not (lt-ltb t (2 ^ n) (p .number)))
       ∙ verdict-miss _ _ (within 1 givenRows (length rs) (r .count .0) (r .count .1))
       ∙ rows-answer n k rs [] (p .list)
+      ∙ verdict-none
+
+-- ---- joining
+
+module _ (n k : ℕ) (rs : List Row) where
+  pub join-ranges : (rest : List Check) → verdict (sizeChecks listInputs n k (countCheck smallerRows rs ∷ rest)) .number ≡ 0
+      → InRange listInputs smallerRows n k rs × (verdict rest .number ≡ 0)
+  join-ranges rest h =
+      let inputs = passes _ _ refl h in
+      let columns = passes _ _ refl (inputs .1) in
+      let count = passes _ _ refl (columns .1) in (
+        record {
+          size = inside 1 listInputs n (inputs .0);
+          columns = inside 1 outputs k (columns .0);
+          count = inside 1 smallerRows (length rs) (count .0);
+        },
+        count .1,
+      )
+
+  pub join-passed : joinVerdict n k rs .number ≡ 0 → JoinPassed n k rs
+  unfolding joinVerdict
+  join-passed h =
+      let r = join-ranges _ h in
+      let d = disjoint-pass n k rs [] (r .0 .columns .1) (r .1) in
+      record { range = r .0; good = d .0; disjoint = d .1 }
+
+  -- a list with those facts is answered
+  pub join-answers : JoinPassed n k rs → joinVerdict n k rs ≡ answer 0 0 0
+  unfolding joinVerdict
+  join-answers p =
+      let r = p .range in
+      verdict-miss _ _ (within 1 listInputs n (r .size .0) (r .size .1))
+      ∙ verdict-miss _ _ (within 1 outputs k (r .columns .0) (r .columns .1))
+      ∙ verdict-miss _ _ (within 1 smallerRows (length rs) (r .count .0) (r .count .1))
+      ∙ disjoint-answer n k rs [] (p .good) (p .disjoint)
       ∙ verdict-none

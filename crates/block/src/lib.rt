@@ -98,6 +98,15 @@ pub struct TextAnswer {
     pub count: usize,
 }
 
+// The answer of joining: the number of rows that are left.
+#[repr(C)]
+pub struct JoinAnswer {
+    pub number: u32,
+    pub a: usize,
+    pub b: usize,
+    pub count: usize,
+}
+
 // What the work of a sheet comes to: beside the number of bytes the measures and the number of smaller rows, for the line of an import.
 #[repr(C)]
 pub struct SheetWork {

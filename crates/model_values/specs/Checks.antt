@@ -20,7 +20,7 @@ use Rattle.block.specs.ModelRead.{patternsFlat, badPattern, patternAt, total}
 use Rattle.block.specs.declared.Pattern.{Pattern}
 use Rattle.block.specs.declared.Answer.{Answer}
 use Rattle.refusal_laws.specs.Verdicts.{passes-none, zero-too, passes, then-answered, Asked, asked-then, asked-where}
-use Rattle.shared_checks.specs.Sizes.{inside, or-left, or-right}
+use Rattle.shared_checks.specs.Sizes.{inside, or-left, or-right, untyped}
 
 -- pattern i of two flat slices is malformed
 abbrev pub badAt : ℕ → List ℕ → List ℕ → ℕ → Bool
@@ -103,18 +103,13 @@ module _ (n k x size : ℕ) (sigma counts : List ℕ) (ps : List Pattern) (power
     (sizes point whole : Answer) (first : sizes ≡ verdict (typedChecks listInputs n k fd []))
     (second : point ≡ andThen sizes (verdict (check (not (ltb x size)) 3 0 0 ∷ [])))
     (third : whole ≡ andThen point (verdict (check unfit 4 0 0 ∷ []))) where
-  -- either type passes
-  untyped : verdict (typedChecks listInputs n k fd []) ≡ verdict (sizeChecks listInputs n k [])
-  unfolding verdict
-  untyped = refl
-
   abbrev lengths : Bool
   lengths = not (eqb (length sigma) n) || (not (eqb (length counts) k) || not (eqb (total counts) (length ps)))
 
   whole-asked : Asked (sizeChecks listInputs n k (check (not (ltb x (2 ^ n))) 3 0 0 ∷ check lengths 4 0 0 ∷ [])) whole
   whole-asked =
       asked-where unfit lengths 4 0 0 whole
-      (asked-where _ (not (ltb x (2 ^ n))) 3 0 0 point (record { numbered = (refl, (refl, tt)); told = first ∙ untyped }) refl second
+      (asked-where _ (not (ltb x (2 ^ n))) 3 0 0 point (record { numbered = (refl, (refl, tt)); told = first ∙ untyped listInputs n k }) refl second
       (λ h. ap (λ (p : ℕ). not (ltb x p)) (power (in-range n k [] h))))
       refl third (λ h. test)
 

@@ -12,3 +12,4 @@ pub mod Sheets
 pub mod Models
 pub mod Symmetric
 pub mod Reasons
+pub mod Joins

@@ -4,6 +4,7 @@ use mathlib.Core.Path.{_≡_, refl, sym, ap, _∙_}
 use mathlib.Core.Bool.{Bool, true, false, cond, false≢true}
 use mathlib.Core.List.{List, [], _∷_, _++_}
 use Prim.Native.Nat.{ℕ, zero, suc, _<_}
+use native.Mathlib.Decide.{ℕ-discrete}
 use native.Mathlib.Omega.{arith}
 use borrow.Author.Tests.{eqb-true, eq-eqb, ne-eqb, le-ltb, ltb-false}
 use lib.Dec.{eqb}
@@ -120,6 +121,14 @@ then-refused v u h = rw (ne-eqb (v .number) 0 h)
 
 pub then-answered : (v u : Answer) → v .number ≡ 0 → u ≡ andThen v u
 then-answered v u h = rw (eq-eqb (v .number) 0 h)
+
+-- where the later answer is 0, so was the earlier
+pub then-zero : (v u : Answer) → andThen v u .number ≡ 0 → v .number ≡ 0
+then-zero v u h = go (ℕ-discrete (v .number) 0)
+  where
+    go : Dec (v .number ≡ 0) → v .number ≡ 0
+    go (yes z) = z
+    go (no z) = zero-too (sym (then-refused v u z)) h
 
 -- v is the verdict of the checks so far
 pub record Asked (cs : List Check) (v : Answer) : Type 0 where

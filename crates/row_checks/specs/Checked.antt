@@ -11,12 +11,13 @@ use Rattle.block.specs.Limits.{listInputs, tableInputs, givenRows, smallerRows}
 use Rattle.block.specs.Words.{rowsOf}
 use Rattle.block.specs.Refusals.{rowAt}
 use Rattle.block.specs.Lists.{rowValueVerdict, fillVerdict}
+use Rattle.block.specs.Joins.{joinVerdict}
 use Rattle.block.specs.declared.Row.{Row}
 use Rattle.block.specs.declared.Answer.{Answer}
 use Rattle.refusal_laws.specs.Verdicts.{zero-too}
 use Rattle.pair_laws.specs.Share.{good-word}
 use Rattle.flat_rows.specs.Listing.{listed-rows, rows-count, row-at}
-use Rattle.answered_laws.specs.Passed.{Passed, value-passed, fill-passed}
+use Rattle.answered_laws.specs.Passed.{Passed, JoinPassed, value-passed, fill-passed, join-passed}
 
 -- a single value
 pub value-checked : (n k y t : ℕ) (masks values words : List ℕ) (v : Answer) → v ≡ rowValueVerdict n k y t (rowsOf masks values words)
@@ -29,6 +30,11 @@ pub fill-checked : (n k y : ℕ) (masks values words : List ℕ) (room : ℕ) (v
     → Passed tableInputs smallerRows n k (rowsOf masks values words) × (2 ^ n ≤ room)
 fill-checked n k y masks values words room v e h =
     fill-passed n k y (rowsOf masks values words) room (zero-too e h)
+
+-- joining
+pub join-checked : (n k : ℕ) (masks values words : List ℕ) (v : Answer) → v ≡ joinVerdict n k (rowsOf masks values words) → v .number ≡ 0
+    → JoinPassed n k (rowsOf masks values words)
+join-checked n k masks values words v e h = join-passed n k (rowsOf masks values words) (zero-too e h)
 
 -- each word is below 2^15, and so fits a table's entry
 pub checked-words : (inputs most n k : ℕ) (masks values words : List ℕ) → Passed inputs most n k (rowsOf masks values words)

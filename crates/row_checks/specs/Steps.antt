@@ -1,21 +1,41 @@
 -- The verdicts on lists as their functions reach them: each step asks one more check of the answer so far. For each operation two
 -- facts: where the steps before the rows answer 0, n, k and the number of rows are in range; and with the rows they are its verdict.
 -- Assumes nothing.
-use mathlib.Core.Path.{_≡_, refl, ap}
+use mathlib.Core.Path.{_≡_, refl, sym, ap, _∙_}
 use mathlib.Core.Bool.{Bool, not}
-use mathlib.Core.List.{List, [], _∷_}
+use mathlib.Core.List.{List, [], _∷_, map}
 use Prim.Native.Nat.{ℕ, _^_, _≤_}
+use native.Mathlib.Decide.{ℕ-discrete}
 use native.Mathlib.Omega.{arith}
 use lib.Dec.{ltb}
 use Rattle.block.specs.Limits.{listInputs, tableInputs, givenRows, smallerRows}
-use Rattle.block.specs.Refusals.{check, verdict, andThen, outside, typedChecks}
-use Rattle.block.specs.Lists.{countCheck, rowChecks, rowValueVerdict, methodChecked, fillVerdict}
+use Rattle.block.specs.Words.{fd, wordPart}
+use Rattle.block.specs.Refusals.{check, verdict, andThen, outside, sizeChecks, typedChecks}
+use Rattle.block.specs.Lists.{countCheck, badRowCheck, shareCheck, undrivenCheck, rowChecks, rowValueVerdict, methodChecked, fillVerdict}
 use Rattle.block.specs.Reasons.{whyVerdict}
+use Rattle.block.specs.Joins.{joinVerdict}
 use Rattle.block.specs.declared.Row.{Row}
 use Rattle.block.specs.declared.Answer.{Answer}
-use Rattle.refusal_laws.specs.Verdicts.{zero-too, Asked, asked-then, asked-where}
-use Rattle.shared_checks.specs.Sizes.{asked-sizes, sizes-pass}
-use Rattle.answered_laws.specs.Passed.{InRange, in-range-more, rows-numbered, value-ranges, fill-ranges, method-ranges, why-ranges}
+use Rattle.refusal_laws.specs.Verdicts.{zero-too, then-refused, then-answered, Asked, asked-then, asked-where}
+use Rattle.shared_checks.specs.Sizes.{asked-sizes, sizes-pass, untyped}
+use Rattle.answered_laws.specs.Passed.{InRange, in-range-more, rows-numbered, value-ranges, fill-ranges, method-ranges, why-ranges, join-ranges}
+
+-- ---- the rows: 6 and 7 after an earlier answer, and then 11
+
+pub rows-verdict : (n k : ℕ) (rs : List Row) (words : List ℕ) (v apart r : Answer) → (v .number ≡ 0 → map wordPart rs ≡ words)
+    → apart ≡ andThen v (verdict (badRowCheck n k rs ∷ shareCheck n rs ∷ [])) → r ≡ andThen apart (verdict (undrivenCheck k words ∷ []))
+    → r ≡ andThen v (verdict (rowChecks n k rs))
+rows-verdict n k rs words v apart r e first second = go (ℕ-discrete (v .number) 0)
+  where
+    go : Dec (v .number ≡ 0) → r ≡ andThen v (verdict (rowChecks n k rs))
+    go (yes z) =
+        asked-then (undrivenCheck k (map wordPart rs) ∷ []) r
+        (record { numbered = (refl, (refl, tt)); told = first ∙ sym (then-answered v _ z) }) (refl, tt) (rw (e z) second)
+        .told
+        ∙ then-answered v _ z
+    go (no z) =
+        second ∙ ap (λ (u : Answer). andThen u (verdict (undrivenCheck k words ∷ []))) (first ∙ sym (then-refused v _ z))
+        ∙ sym (then-refused v _ z) ∙ then-refused v _ z
 
 -- ---- a single shift value; `size` is 2^n where n is in range
 
@@ -96,3 +116,19 @@ module _ (n k y w t : ℕ) (rs : List Row) (light : Bool) (test : light ≡ outs
   pub why-verdict : (v : Answer) → v ≡ andThen count (verdict (rowChecks n k rs)) → v ≡ whyVerdict n k y w t rs
   unfolding whyVerdict
   why-verdict v e = asked-then (rowChecks n k rs) v why-asked (rows-numbered n k rs) e .told
+
+-- ---- joining
+
+module _ (n k : ℕ) (rs : List Row) (sizes count : Answer) (first : sizes ≡ verdict (typedChecks listInputs n k fd []))
+    (second : count ≡ andThen sizes (verdict (countCheck smallerRows rs ∷ []))) where
+  join-asked : Asked (sizeChecks listInputs n k (countCheck smallerRows rs ∷ [])) count
+  join-asked =
+      asked-then (countCheck smallerRows rs ∷ []) count
+      (record { numbered = (refl, (refl, tt)); told = first ∙ untyped listInputs n k }) (refl, tt) second
+
+  pub join-in-range : count .number ≡ 0 → InRange listInputs smallerRows n k rs
+  join-in-range h = join-ranges n k rs [] (zero-too (join-asked .told) h) .0
+
+  pub join-verdict : (v : Answer) → v ≡ andThen count (verdict (badRowCheck n k rs ∷ shareCheck n rs ∷ [])) → v ≡ joinVerdict n k rs
+  unfolding joinVerdict
+  join-verdict v e = asked-then (badRowCheck n k rs ∷ shareCheck n rs ∷ []) v join-asked (refl, (refl, tt)) e .told

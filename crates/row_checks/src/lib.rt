@@ -1,6 +1,7 @@
 // The checks of the operations on lists of rows, in the order of 01's numbers: how many rows there are, what every operation asks of the
 // rows, and the verdicts made of these. Each step is told the answer so far and hands a refusal on. Every function here is inner.
 use block::Answer;
+use block::FD;
 use block::GIVEN_ROWS;
 use block::LIST_INPUTS;
 use block::SMALLER_ROWS;
@@ -10,8 +11,9 @@ ghost use mathlib.Core.List.{[], _∷_};
 ghost use Rattle.block.specs.Limits.{listInputs, smallerRows};
 ghost use Rattle.block.specs.Words.{rowsOf};
 ghost use Rattle.block.specs.Refusals.{verdict, andThen};
-ghost use Rattle.block.specs.Lists.{countCheck, rowChecks, rowValueVerdict, methodChecked, fillVerdict};
+ghost use Rattle.block.specs.Lists.{countCheck, badRowCheck, shareCheck, rowChecks, rowValueVerdict, methodChecked, fillVerdict};
 ghost use Rattle.block.specs.Reasons.{whyVerdict};
+ghost use Rattle.block.specs.Joins.{joinVerdict};
 ghost use Rattle.answered_laws.specs.Passed.{InRange};
 
 // 4: from 1 to most rows.
@@ -22,7 +24,27 @@ pub fn then_count(v: Answer, most: usize, masks: &[u32], values: &[u32], words: 
     shared_checks::then_where(v, shared_checks::is_outside(1, most, count), 4, 0, 0)
 }
 
-// What every operation asks of its rows: 6, 7, 11.
+// 6 and 7 after an earlier answer: a refusal is handed on, and no row is looked at.
+pub fn then_disjoint(
+    v: Answer,
+    n: usize,
+    k: usize,
+    masks: &[u32],
+    values: &[u32],
+    words: &[u32],
+) -> Answer
+    requires { ⌜ (v .number ≡ 0 → InRange listInputs smallerRows n k (rowsOf (now masks) (now values) (now words))) ⌝ }
+    ensures { λ r. ⌜ (let rs = rowsOf (now (masks .entry)) (now (values .entry)) (now (words .entry)) in
+        r ≡ andThen v (verdict (badRowCheck n k rs ∷ shareCheck n rs ∷ []))) ⌝ }
+{
+    if v.number != 0 {
+        return v;
+    }
+    let formed = flat_rows::rows_formed(n, k, masks, values, words);
+    shared_points::then_apart(formed, masks, values)
+}
+
+// What every operation that works a block out asks of its rows: 6, 7, 11.
 pub fn then_rows(
     v: Answer,
     n: usize,
@@ -34,11 +56,7 @@ pub fn then_rows(
     requires { ⌜ (v .number ≡ 0 → InRange listInputs smallerRows n k (rowsOf (now masks) (now values) (now words))) ⌝ }
     ensures { λ r. ⌜ r ≡ andThen v (verdict (rowChecks n k (rowsOf (now (masks .entry)) (now (values .entry)) (now (words .entry))))) ⌝ }
 {
-    if v.number != 0 {
-        return v;
-    }
-    let formed = flat_rows::rows_formed(n, k, masks, values, words);
-    let apart = shared_points::then_apart(formed, masks, values);
+    let apart = then_disjoint(v, n, k, masks, values, words);
     driven_columns::then_driven(apart, k, words)
 }
 
@@ -119,4 +137,13 @@ pub fn why_verdict(
     let point = shared_checks::then_where(weight, !below, 3, 0, 0);
     let count = then_count(point, GIVEN_ROWS, masks, values, words);
     then_rows(count, n, k, masks, values, words)
+}
+
+// The verdict on joining: a list has no type there, and one that leaves a column undriven is joined.
+pub fn join_verdict(n: usize, k: usize, masks: &[u32], values: &[u32], words: &[u32]) -> Answer
+    ensures { λ r. ⌜ r ≡ joinVerdict n k (rowsOf (now (masks .entry)) (now (values .entry)) (now (words .entry))) ⌝ }
+{
+    let sizes = shared_checks::sizes(LIST_INPUTS, n, k, FD);
+    let count = then_count(sizes, SMALLER_ROWS, masks, values, words);
+    then_disjoint(count, n, k, masks, values, words)
 }

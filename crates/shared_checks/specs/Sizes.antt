@@ -9,7 +9,7 @@ use borrow.Author.Tests.{le-ltb, ltb-false}
 use lib.Dec.{eqb, ltb}
 use Rattle.block.specs.Limits.{outputs}
 use Rattle.block.specs.Words.{none, fr, fd, missing}
-use Rattle.block.specs.Refusals.{Check, verdict, outside, typedChecks}
+use Rattle.block.specs.Refusals.{Check, verdict, outside, sizeChecks, typedChecks}
 use Rattle.block.specs.declared.Answer.{Answer}
 use Rattle.refusal_laws.specs.Verdicts.{zero-too, passes, Asked}
 
@@ -54,6 +54,11 @@ sizes-pass most n k y cs h =
 -- the sizes and the type, as the first checks that are asked
 pub asked-sizes : (most n k y : ℕ) (v : Answer) → v ≡ verdict (typedChecks most n k y []) → Asked (typedChecks most n k y []) v
 asked-sizes most n k y v e = record { numbered = (refl, (refl, (refl, tt))); told = e }
+
+-- where no type is asked for, that of fd stands in: it lets the sizes through
+pub untyped : (most n k : ℕ) → verdict (typedChecks most n k fd []) ≡ verdict (sizeChecks most n k [])
+unfolding verdict
+untyped most n k = refl
 
 -- sizes and a type that pass
 pub sized : (most n k y : ℕ) (v : Answer) → v ≡ verdict (typedChecks most n k y []) → v .number ≡ 0

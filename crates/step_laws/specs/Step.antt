@@ -13,9 +13,8 @@ use lib.Dec.{eqb}
 use lib.ListN.{length, length-append, length-map}
 use Rattle.bits.specs.Digits.{bit}
 use Rattle.bits.specs.Bit.{bit-lt}
-use Rattle.sums.specs.Sums.{one, count}
-use Rattle.sums.specs.Laws.{sum-append, sum-zero, sum-suc, count-once, count-same}
-use Rattle.block.specs.Words.{none, under, ofRows, row}
+use Rattle.sums.specs.Sums.{one}
+use Rattle.block.specs.Words.{none, under, ofRows}
 use Rattle.block.specs.Rows.{exchange, shear, exchangeRow, flipRow, half, splitRow, splitRows}
 use Rattle.block.specs.Refusals.{badRow, rowAt}
 use Rattle.block.specs.declared.Row.{Row}
@@ -25,6 +24,7 @@ use Rattle.pair_laws.specs.Share.{good-sound, good-word, sound-good}
 use Rattle.matrix_laws.specs.Steps.{exchange-lt, exchange-twice, shear-lt, shear-twice}
 use Rattle.step_laws.specs.Exchange.{under-exchange, sound-exchange}
 use Rattle.step_laws.specs.Shear.{under-keep, under-flip, sound-flip, half-fixed, under-half, sound-half}
+use Rattle.step_laws.specs.Hits.{every-tail, every-append, every-map, hits, hits-append, hits-none, hits-one, hits-cons, apart-hits, hits-apart, both-one}
 
 -- what a step needs: positions k and h below n, and a number v below 2^n without bit k
 pub record Ready (n k h v : ℕ) : Type 0 where
@@ -44,47 +44,6 @@ stepPoint k h v x = shear k v (exchange k h x)
 -- and before it
 abbrev pub backPoint : ℕ → ℕ → ℕ → ℕ → ℕ
 backPoint k h v x = exchange k h (shear k v x)
-
--- ---- each row of a list
-
-every-tail : (P : Row → Type 0) (r : Row) (rs : List Row) → Every P (r ∷ rs) → Every P rs
-every-tail P r rs f i h = f (suc i) (omega arith)
-
-every-append : (P : Row → Type 0) (s t : List Row) → Every P s → Every P t → Every P (s ++ t)
-every-append P [] t f g = g
-every-append P (r ∷ s) t f g = every-cons P r (s ++ t) (f 0 (omega arith)) (every-append P s t (every-tail P r s f) g)
-
-every-map : (P Q : Row → Type 0) (f : Row → Row) → ((r : Row) → P r → Q (f r)) → (rs : List Row) → Every P rs → Every Q (map f rs)
-every-map P Q f g [] e = λ i h. absurd (omega arith)
-every-map P Q f g (r ∷ rs) e = every-cons Q (f r) (map f rs) (g r (e 0 (omega arith))) (every-map P Q f g rs (every-tail P r rs e))
-
--- ---- how many rows a point lies under
-
-hits : List Row → ℕ → ℕ
-hits rs x = count (λ i. under (rowAt rs i) x) (length rs)
-
-hits-append : (s t : List Row) (x : ℕ) → hits (s ++ t) x ≡ hits s x + hits t x
-unfolding hits count
-hits-append s t x = sum-append (λ r. one (under r x)) (row 0 0 0) s t
-
-hits-none : (x : ℕ) → hits [] x ≡ 0
-unfolding hits count
-hits-none x = sum-zero (λ i. one (under (rowAt [] i) x))
-
-hits-one : (r : Row) (x : ℕ) → hits (r ∷ []) x ≡ one (under r x)
-unfolding hits count
-hits-one r x = sum-suc (λ i. one (under (rowAt (r ∷ []) i) x)) 0 ∙ omega (arith, sum-zero (λ i. one (under (rowAt (r ∷ []) i) x)))
-
-hits-cons : (r : Row) (rs : List Row) (x : ℕ) → hits (r ∷ rs) x ≡ one (under r x) + hits rs x
-hits-cons r rs x = hits-append (r ∷ []) rs x ∙ ap (λ (y : ℕ). y + hits rs x) (hits-one r x)
-
-apart-hits : (n : ℕ) (rs : List Row) → Apart n rs → (x : ℕ) → x < 2 ^ n → hits rs x ≤ 1
-unfolding hits
-apart-hits n rs a x h = count-once (λ i. under (rowAt rs i) x) (length rs) (λ i j hi hj. a i j x hi hj h)
-
-hits-apart : (n : ℕ) (rs : List Row) → ((x : ℕ) → x < 2 ^ n → hits rs x ≤ 1) → Apart n rs
-unfolding hits
-hits-apart n rs f i j x hi hj h = count-same (λ i. under (rowAt rs i) x) (length rs) (f x h) i j hi hj
 
 -- ---- what becomes of one row
 
@@ -121,12 +80,6 @@ both-cond true zero w y h = refl
 both-cond true (suc zero) w y h = refl
 both-cond true (suc (suc b)) w y h = absurd (omega arith)
 both-cond false b w y h = refl
-
-both-one : (p : Bool) (b : ℕ) → b < 2 → one (p && eqb b 0) + one (p && eqb b 1) ≡ one p
-both-one true zero h = refl
-both-one true (suc zero) h = refl
-both-one true (suc (suc b)) h = absurd (omega arith)
-both-one false b h = refl
 
 module _ {n k v : ℕ} {r : Row} where
   became-word : {l : List Row} → Became n k v r l → (missing : ℕ) (rs : List Row) (x : ℕ)

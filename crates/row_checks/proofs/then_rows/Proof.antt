@@ -1,52 +1,30 @@
--- `row_checks::then_rows` meets its contract: the earlier refusal, or the checks of the rows in their order; the search for 7 is told
--- that no row is malformed. Assumes nothing.
-use mathlib.Core.Path.{refl, _∙_}
-use native.Mathlib.Omega.{arith}
+-- `row_checks::then_rows` meets its contract: 6 and 7 after the earlier answer, and then 11. Assumes nothing.
 use denote.Ref.{now}
 use Rattle.block.specs.Limits.{smallerRows}
 use Rattle.block.specs.Words.{rowsOf}
-use Rattle.refusal_laws.specs.Verdicts.{zero-too, then-refused, then-answered, asked-then}
+use Rattle.refusal_laws.specs.Verdicts.{zero-too, then-zero}
 use Rattle.flat_rows.specs.Listing.{rows-words, listed-rows}
-use Rattle.answered_laws.specs.Passed.{formed-sound}
+use Rattle.row_checks.specs.Steps.{rows-verdict}
 use Rattle.row_checks.proofs.then_rows.Statement.{statement}
 use Rattle.row_checks.proofs.then_rows.Tie as tie
 
-returns : tie.Need-returns
-returns c = then-refused _ _ (c .if1 .taken)
-
-rows-formed-requires : tie.Need-rows-formed-requires
-rows-formed-requires c κs =
-    let s = c .before .before .before .before .before in
-    let p = s .pre (c .if1 .left) in
-    (p .size .1, p .columns .1, listed-rows smallerRows (now (s .args .masks)) (now (s .args .values)) (now (s .args .words)) (p .count))
-
-then-apart-requires : tie.Need-then-apart-requires
-then-apart-requires c κs =
-    let s = c .before .before .before .before .before .before in
-    let p = s .pre (c .before .if1 .left) in
-    listed-rows smallerRows (now (s .args .masks)) (now (s .args .values)) (now (s .args .words)) (p .count) .values-too
+then-disjoint-requires : tie.Need-then-disjoint-requires
+then-disjoint-requires c κs = c .before .before .before .pre
 
 then-driven-requires : tie.Need-then-driven-requires
 then-driven-requires c κs h =
-    let s = c .before .before .before .before .before .before .before in
-    omega (arith, s .pre (c .before .before .if1 .left) .columns .1)
+    let s = c .before .before .before .before in
+    s .pre (then-zero _ _ (zero-too (c .then-disjoint .ensures) h)) .columns .1
 
-returns-2 : tie.Need-returns-2
-returns-2 c =
-    let s = c .before .before .before .before .before .before .before .before in
+returns : tie.Need-returns
+returns c =
+    let s = c .before .before .before .before .before in
     let a = s .args in
-    let formed = c .before .before .rows-formed in
-    let zero = c .before .before .before .if1 .left in
+    rows-verdict (a .n) (a .k) (rowsOf (now (a .masks)) (now (a .values)) (now (a .words))) (now (a .words)) _ _ _
+    (λ zero.
     let l = listed-rows smallerRows (now (a .masks)) (now (a .values)) (now (a .words)) (s .pre zero .count) in
-    let apart =
-    c .before .then-apart .ensures (a .n) (now (a .words)) (l .words-too)
-    (λ h.
-    formed-sound (a .n) (a .k) (rowsOf (now (a .masks)) (now (a .values)) (now (a .words)))
-    (zero-too (formed .ensures) h)) in
-    let words = rows-words (now (a .masks)) (now (a .values)) (now (a .words)) (l .values-too) (l .words-too) in
-    asked-then _ _ (asked-then _ _ (record { numbered = (refl, tt); told = formed .ensures }) (refl, tt) apart) (refl, tt)
-    (rw words (c .then-driven .ensures)) .told
-    ∙ then-answered _ _ zero
+    rows-words (now (a .masks)) (now (a .values)) (now (a .words)) (l .values-too) (l .words-too))
+    (c .before .then-disjoint .ensures) (c .then-driven .ensures)
 
 pub then-rows-spec : {M : Type 1} → statement M
-then-rows-spec = tie.close (tie.spec returns rows-formed-requires then-apart-requires then-driven-requires returns-2)
+then-rows-spec = tie.close (tie.spec then-disjoint-requires then-driven-requires returns)
