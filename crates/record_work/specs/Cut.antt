@@ -15,13 +15,14 @@ use Rattle.block.specs.Limits.{listInputs, tableInputs, givenRows, smallerRows,
 use Rattle.block.specs.Words.{fr, missing, ofRows}
 use Rattle.block.specs.Measure.{shift, measure}
 use Rattle.block.specs.Basis.{basisOf, smallerOf}
-use Rattle.block.specs.Refusals.{Check, check, verdict, answered, andThen, carried, stored, outside, typedChecks}
+use Rattle.block.specs.Refusals.{Check, check, verdict, answered, andThen, carried, stored, outside, sizeChecks, typedChecks}
 use Rattle.block.specs.Tables.{withValue}
-use Rattle.block.specs.Lists.{countCheck, badRowCheck, rowChecks, rowValueVerdict, rowValue, passingCheck, methodChecks, rowMethodVerdict, rowMethod, smallerList, fillVerdict, filled}
+use Rattle.block.specs.Lists.{countCheck, badRowCheck, shareCheck, rowChecks, rowValueVerdict, rowValue, passingCheck, methodChecks, rowMethodVerdict, rowMethod, smallerList, fillVerdict, filled}
 use Rattle.block.specs.Text.{withBytes, writeVerdict, writeText, textOf}
 use Rattle.block.specs.Sheet.{sheet, sheetVerdict, sheetText}
 use Rattle.block.specs.Model.{modelText, modelVerdict, writeModel}
 use Rattle.block.specs.Reasons.{reasonOf, whyVerdict, whyNot}
+use Rattle.block.specs.Joins.{joined, joinVerdict, withCount, join, joinedRoom}
 use Rattle.block.specs.declared.Row.{Row}
 use Rattle.block.specs.declared.Answer.{Answer}
 use Rattle.block.specs.declared.Why.the-variants.{Given, Refused}
@@ -178,6 +179,23 @@ module _ (n k y w t : ℕ) where
       → stored (whyVerdict n k y w t (take cutRows rs)) (basisOf (ofRows (missing y) (take cutRows rs)) n w) taken
       ≡ stored (whyVerdict n k y w t rs) (basisOf (ofRows (missing y) rs) n w) taken
   taken-cut taken = why-alike (λ v l. stored v (basisOf (ofRows (missing y) l) n w) taken) (λ v l m h. rw h)
+
+-- ---- joining
+
+module _ (n k : ℕ) where
+  join-alike : {X : Type 0} (F : Answer → List Row → X) → ((v : Answer) (l m : List Row) → answered v ≡ false → F v l ≡ F v m)
+      → (rs : List Row) → F (joinVerdict n k (take cutRows rs)) (take cutRows rs) ≡ F (joinVerdict n k rs) rs
+  unfolding joinVerdict
+  join-alike =
+      cut-same (sizeChecks listInputs n k []) smallerRows (λ l. badRowCheck n k l ∷ shareCheck n l ∷ []) (refl, (refl, tt)) (omega arith)
+
+  pub join-cut : (rs : List Row) → join n k (take cutRows rs) ≡ join n k rs
+  unfolding join
+  join-cut = join-alike (λ v l. withCount v (length (joined l))) (λ v l m h. rw h)
+
+  pub joined-cut : (before : List Row) (rs : List Row)
+      → stored (joinVerdict n k (take cutRows rs)) (joinedRoom (take cutRows rs)) before ≡ stored (joinVerdict n k rs) (joinedRoom rs) before
+  joined-cut before = join-alike (λ v l. stored v (joinedRoom l) before) (λ v l m h. rw h)
 
 -- ---- a model, whose own length is looked at last
 

@@ -1,0 +1,2 @@
+-- The promise of joining, from flat slices to arrays.
+pub mod Joined
