@@ -1,5 +1,5 @@
 -- Joining rows afterwards (02, Ticket 9): when two rows are written as one, which pair is next, one join, all joins; the operation with its
--- answer, and what the list's own storage holds at the end. Not here: that the block is unchanged and no pair is left, which are laws.
+-- answer, what the list's own storage holds at the end, and what the program prints. Not here: that the block is unchanged and no pair is left, which are laws.
 -- Assumes nothing.
 use mathlib.Core.Bool.{Bool, cond, _&&_}
 use mathlib.Core.List.{List, [], _∷_, _++_}
@@ -7,12 +7,14 @@ use Prim.Native.Nat.{ℕ, zero, suc, _-_}
 use lib.Bits.{bitAnd, bitXor}
 use lib.Count.{ones}
 use lib.Dec.{eqb, ltb}
-use lib.ListN.{length, set}
+use lib.ListN.{length, set, take}
 use Rattle.slices.specs.Places.{tab, first}
-use Rattle.block.specs.Limits.{listInputs, smallerRows}
+use Rattle.block.specs.Limits.{listInputs, givenRows, smallerRows, readBytes}
 use Rattle.block.specs.Words.{row}
 use Rattle.block.specs.Refusals.{verdict, carried, sizeChecks, rowAt}
 use Rattle.block.specs.Lists.{countCheck, badRowCheck, shareCheck}
+use Rattle.block.specs.Text.{textOf, readVerdict, typeLineIn, typeIn, inputsIn, outputsIn, rowsIn}
+use Rattle.block.specs.Sheet.{orRefused}
 use Rattle.block.specs.declared.Row.{Row}
 use Rattle.block.specs.declared.Answer.{Answer}
 use Rattle.block.specs.declared.JoinAnswer.{JoinAnswer}
@@ -82,3 +84,16 @@ join n k rs = withCount (joinVerdict n k rs) (length (joined rs))
 -- what lies in the list's place at the end: the joined rows, and "the freed room at the end .., each freed record being all zeros"
 unfoldable pub joinedRoom : List Row → List Row
 joinedRoom rs = joined rs ++ tab (length rs - length (joined rs)) (λ _. row 0 0 0)
+
+-- ---- the program with --join: the joined rows as row text, with the type line where it stood
+
+-- what is printed for a list of type y; z is 0 where the type line did not stand
+unfoldable pub printedJoinOf : ℕ → ℕ → ℕ → ℕ → List Row → List ℕ
+printedJoinOf n k y z rs = orRefused (joinVerdict n k rs) (textOf n k y z (joined rs))
+
+-- what is printed for the text read, at most 8,192 bytes of it
+unfoldable pub printedJoin : List ℕ → List ℕ
+printedJoin input =
+    let text : List ℕ = take readBytes input in
+    orRefused (readVerdict text givenRows)
+    (printedJoinOf (inputsIn text) (outputsIn text) (typeIn text) (typeLineIn text) (rowsIn text))

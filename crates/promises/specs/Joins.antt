@@ -1,8 +1,10 @@
--- The promise of joining (02, Ticket 9). Assumes nothing.
+-- The promises of joining (02, Ticket 9), and of what the program prints of it. Assumes nothing.
 use mathlib.Core.Path.{_≡_}
 use mathlib.Core.List.{List}
 use Prim.Native.Nat.{ℕ}
-use Rattle.block.specs.Joins.{joinVerdict, join, joinedRoom}
+use lib.ListN.{length}
+use Rattle.slices.specs.Places.{over}
+use Rattle.block.specs.Joins.{joinVerdict, join, joinedRoom, printedJoin}
 use Rattle.block.specs.declared.Row.{Row}
 use Rattle.block.specs.declared.JoinAnswer.{JoinAnswer}
 use Rattle.promises.specs.Lent.{Lent}
@@ -11,3 +13,8 @@ use Rattle.promises.specs.Lent.{Lent}
 pub record JoinPromise (n k : ℕ) (rs : List Row) (lent : Lent) (r : JoinAnswer) : Type 0 where
   pub answer : r ≡ join n k rs
   pub rows : lent .holds (joinVerdict n k rs) (joinedRoom rs)
+
+-- printing the joined rows of a text: the bytes that are printed, and how many
+pub record PrintJoinPromise (input out₀ : List ℕ) (count : ℕ) (out₁ : List ℕ) : Type 0 where
+  pub text : out₁ ≡ over (printedJoin input) out₀
+  pub bytes : count ≡ length (printedJoin input)
