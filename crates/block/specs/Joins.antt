@@ -1,6 +1,6 @@
 -- Joining rows afterwards (02, Ticket 9): when two rows are written as one, which pair is next, one join, all joins; the operation with its
--- answer, what the list's own storage holds at the end, and what the program prints. Not here: that the block is unchanged and no pair is left, which are laws.
--- Assumes nothing.
+-- answer, what the list's own storage holds at the end, and what the program prints. Not here: that the block is unchanged and no pair is
+-- left, which are laws. Assumes nothing.
 use mathlib.Core.Bool.{Bool, cond, _&&_}
 use mathlib.Core.List.{List, [], _∷_, _++_}
 use Prim.Native.Nat.{ℕ, zero, suc, _-_}
