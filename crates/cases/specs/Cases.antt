@@ -1,6 +1,6 @@
 -- The blocks that 01 marks P (01, Blocks to try by hand), read as fr, blocks with missing points under both types (02, Ticket 2), symmetric
--- blocks (02, Ticket 6), why numbers were not taken (02, Ticket 7) and columns that no row drives (02, Ticket 8), as one statement over a table:
--- each question has the numbers that stand beside it. Every question goes through the answer that an operation's contract cites. Assumes nothing.
+-- blocks (02, Ticket 6), why numbers were not taken (02, Ticket 7), columns that no row drives (02, Ticket 8) and rows that are joined (02, Ticket
+-- 9), as one statement over a table: each question has the numbers that stand beside it. Every question goes through the answer that an operation's contract cites. Assumes nothing.
 use mathlib.Core.Path.{_≡_, refl, ap₂}
 use mathlib.Core.Bool.{Bool, true, cond, _&&_}
 use mathlib.Core.List.{List, [], _∷_, _++_}
@@ -30,6 +30,7 @@ use Rattle.block.specs.Symmetric.{
   tableSymmetric,
 }
 use Rattle.block.specs.Reasons.{reason, reasonOf, whyVerdict, whyNot, whyNumbers}
+use Rattle.block.specs.Joins.{joins, mate, joining, without, joinAt, joinNext, joinUpTo, joined, joinVerdict, join, joinedRoom}
 use Rattle.block.specs.declared.Row.{Row}
 use Rattle.block.specs.declared.Answer.{Answer}
 
@@ -53,6 +54,7 @@ pub data Question : Type 0 where
   symmetricBlocks : ℕ → ℕ → ℕ → List ℕ → Question
   tableSymmetrics : ℕ → ℕ → ℕ → List ℕ → Question
   whyNots : ℕ → ℕ → ℕ → ℕ → ℕ → List Row → Question
+  joinings : ℕ → ℕ → List Row → Question
 
 -- a result beside an answer, nothing beside a refusal
 abbrev pub with : Answer → List ℕ → List ℕ
@@ -65,7 +67,7 @@ flat (r ∷ rs) = r .mask ∷ r .values ∷ r .word ∷ flat rs
 
 -- number, A, B; then the value; or the measures, T, sigma and the smaller table; or the measures, the count, T, sigma and the smaller
 -- rows; or the filled table; or the restored one; or the measures and both tables of a symmetric block; or whether a table is one;
--- or the reason, its step and its set
+-- or the reason, its step and its set; or the number of rows that are left, and every record of the list's room
 pub ask : Question → List ℕ
 ask (tableValues n k y t table) = let r = tableValue n k y t table in r .number ∷ r .a ∷ r .b ∷ r .value ∷ []
 ask (tableMethods n k y w table) =
@@ -93,6 +95,9 @@ ask (tableSymmetrics n k y table) = let r = tableSymmetric n k y table in r .num
 ask (whyNots n k y w t rs) =
     let r = whyNumbers (whyNot n k y w t rs) in
     r .number ∷ r .a ∷ r .b ∷ r .reason ∷ r .step ∷ r .set ∷ []
+ask (joinings n k rs) =
+    let r = join n k rs in
+    r .number ∷ r .a ∷ r .b ∷ r .count ∷ with (joinVerdict n k rs) (flat (joinedRoom rs))
 
 pub record Case : Type 0 where
   pub question : Question
@@ -136,6 +141,22 @@ rowsM = row 3 0 1 ∷ row 3 3 2 ∷ []
 pub rowsU : List Row
 rowsU = row 1 0 2 ∷ row 1 1 0 ∷ []
 
+-- "00- 1", "010 1", "011 1": the last two are one row, which the first then joins
+pub rowsI : List Row
+rowsI = row 6 0 1 ∷ row 7 2 1 ∷ row 7 3 1 ∷ []
+
+-- "00 1", "01 1", "11 1": the second could join the first or the third
+pub rowsK : List Row
+rowsK = row 3 0 1 ∷ row 3 1 1 ∷ row 3 3 1 ∷ []
+
+-- "01 1", "11 1", "00 1": the first could join the second or the third
+pub rowsL : List Row
+rowsL = row 3 1 1 ∷ row 3 3 1 ∷ row 3 0 1 ∷ []
+
+-- "0 0", "1 0": the joined row is all zeros, and so is the freed record
+pub rowsZ : List Row
+rowsZ = row 1 0 0 ∷ row 1 1 0 ∷ []
+
 -- a table without an output at 01
 pub tableM : List ℕ
 tableM = 0 ∷ 65535 ∷ 1 ∷ 0 ∷ []
@@ -145,7 +166,8 @@ tableM = 0 ∷ 65535 ∷ 1 ∷ 0 ∷ []
 -- every t of block e, whose T is 1, 6, 2, of two with the weight limit 1, where T is 1, 2, 4, and of two of block g, whose T is 6, 2, 1; and
 -- refusals, which come before the reason that t is 0; then columns that no row drives: block e with a third output, in every operation on
 -- lists, two of block u, of which the lowest is named, and a table, which is not asked for them. In case h, where rows share a point too, 7
--- comes first
+-- comes first; then rows that are joined, and lists in which none are: block e, where values differ in two, block d, where words differ, and
+-- block u, which is not asked for its columns; and refusals
 pub table : List Case
 table =
     case (tableValues 2 1 fr 0 tableA) (0 ∷ 0 ∷ 0 ∷ 4 ∷ [])
@@ -225,6 +247,18 @@ table =
     ∷ case (whyNots 3 3 fr 3 0 rowsE) (11 ∷ 2 ∷ 0 ∷ 0 ∷ 0 ∷ 0 ∷ [])
     ∷ case (rowMethods 1 3 fr 1 rowsU) (11 ∷ 0 ∷ 0 ∷ 0 ∷ 0 ∷ 0 ∷ [])
     ∷ case (tableValues 2 2 fr 3 tableA) (0 ∷ 0 ∷ 0 ∷ 4 ∷ [])
+    ∷ case (joinings 3 1 rowsI) (0 ∷ 0 ∷ 0 ∷ 1 ∷ 4 ∷ 0 ∷ 1 ∷ 0 ∷ 0 ∷ 0 ∷ 0 ∷ 0 ∷ 0 ∷ [])
+    ∷ case (joinings 2 1 rowsK) (0 ∷ 0 ∷ 0 ∷ 2 ∷ 2 ∷ 0 ∷ 1 ∷ 3 ∷ 3 ∷ 1 ∷ 0 ∷ 0 ∷ 0 ∷ [])
+    ∷ case (joinings 2 1 rowsL) (0 ∷ 0 ∷ 0 ∷ 2 ∷ 1 ∷ 1 ∷ 1 ∷ 3 ∷ 0 ∷ 1 ∷ 0 ∷ 0 ∷ 0 ∷ [])
+    ∷ case (joinings 1 1 rowsZ) (0 ∷ 0 ∷ 0 ∷ 1 ∷ 0 ∷ 0 ∷ 0 ∷ 0 ∷ 0 ∷ 0 ∷ [])
+    ∷ case (joinings 3 2 rowsE) (0 ∷ 0 ∷ 0 ∷ 4 ∷ 6 ∷ 0 ∷ 1 ∷ 6 ∷ 6 ∷ 1 ∷ 6 ∷ 2 ∷ 2 ∷ 6 ∷ 4 ∷ 2 ∷ [])
+    ∷ case (joinings 1 9 rowsD) (0 ∷ 0 ∷ 0 ∷ 2 ∷ 1 ∷ 0 ∷ 255 ∷ 1 ∷ 1 ∷ 511 ∷ [])
+    ∷ case (joinings 1 3 rowsU) (0 ∷ 0 ∷ 0 ∷ 2 ∷ 1 ∷ 0 ∷ 2 ∷ 1 ∷ 1 ∷ 0 ∷ [])
+    ∷ case (joinings 17 16 rowsH) (1 ∷ 0 ∷ 0 ∷ 0 ∷ [])
+    ∷ case (joinings 2 16 rowsH) (2 ∷ 0 ∷ 0 ∷ 0 ∷ [])
+    ∷ case (joinings 2 1 []) (4 ∷ 0 ∷ 0 ∷ 0 ∷ [])
+    ∷ case (joinings 1 1 rowsK) (6 ∷ 0 ∷ 0 ∷ 0 ∷ [])
+    ∷ case (joinings 2 1 rowsH) (7 ∷ 0 ∷ 1 ∷ 0 ∷ [])
     ∷ []
 
 -- the test of a table of cases, which antt computes
@@ -247,10 +281,11 @@ right-all (c ∷ cs) h = (
 
 pub cases : Right table
 unfolding
-    ask flat table right tableA rowsC rowsD rowsE rowsF rowsG rowsH rowsM rowsU tableM ones onesIn parity tab first sum count ofRows same shift measure
+    ask flat table right tableA rowsC rowsD rowsE rowsF rowsG rowsH rowsM rowsU rowsI rowsK rowsL rowsZ tableM ones onesIn parity tab first sum count ofRows same shift measure
     span candidate before better best next chosen columns apply inverse basisOf sigmaOf smallerOf highest partner exchange rest shear
     reached splitRow splitRows moved verdict badRow share second sharing driven undriven dependent tableValueVerdict tableValue tableMethodVerdict
     tableMethod smallerTable restoreVerdict restored rowValueVerdict rowValue rowsAfter passing methodChecks rowMethodVerdict
     rowMethod smallerList fillVerdict filled equal symmetricTable grayColumn grayTable isSymmetric symmetricVerdict symmetricBlock
-    tableSymmetricVerdict tableSymmetric reason reasonOf whyVerdict whyNot
+    tableSymmetricVerdict tableSymmetric reason reasonOf whyVerdict whyNot joins mate joining without joinAt joinNext joinUpTo joined joinVerdict
+    join joinedRoom
 cases = right-all table tt

@@ -5,7 +5,7 @@ use mathlib.Core.List.{List, _++_}
 use Prim.Native.Nat.{ℕ, _+_, _-_, _≤_, _<_}
 use native.Mathlib.Omega.{arith}
 use lib.ListN.{length, length-append, List·getD-append}
-use lib.Seq.{getD-append-add}
+use lib.Seq.{getD-append-add, ext-getD}
 use Rattle.slices.specs.Places.{tab}
 use Rattle.slices.specs.Filled.{length-tab, tab-at}
 use Rattle.block.specs.Words.{row}
@@ -36,3 +36,9 @@ module _ (rs : List Row) where
       ap (rowAt (joined rs ++ tab (length rs - length (joined rs)) (λ _. row 0 0 0))) e
       ∙ getD-append-add (joined rs) (tab (length rs - length (joined rs)) (λ _. row 0 0 0)) (i - length (joined rs)) (row 0 0 0)
       ∙ tab-at (length rs - length (joined rs)) (λ _. row 0 0 0) (row 0 0 0) (i - length (joined rs)) (omega arith)
+
+  -- where nothing is joined the room is the list
+  pub room-whole : joined rs ≡ rs → joinedRoom rs ≡ rs
+  room-whole e =
+      ext-getD (row 0 0 0) (joinedRoom rs) rs room-length
+      (λ i h. room-row i (omega (arith, room-length, ap length e)) ∙ ap (λ (l : List Row). rowAt l i) e)
