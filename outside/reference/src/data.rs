@@ -2,13 +2,14 @@
 //! files of `crates/run_operations/data` have one operation a line with its answer,
 //! `crates/run_texts/data` texts for the program with what it prints, and
 //! `crates/run_models/data` both for models. All but `ranges.txt`, `why_ranges.txt`,
-//! `undriven_ranges.txt` and a few texts are worked out by a third program. Lent storage
-//! is looked at in full: what an answer does not write holds what it held.
+//! `undriven_ranges.txt`, `join_ranges.txt` and a few texts are worked out by a third
+//! program. Lent storage is looked at in full: what an answer does not write holds what it
+//! held.
 
 use crate::blif::{self, Network};
 use crate::inputs::LentRows;
-use crate::{read_text, Answer, Flat, ModelHead, Operations, Reason, Row, TextHead, FD, FR};
-use crate::{OUTPUTS, ROWS, ROW_INPUTS};
+use crate::{read_text, Answer, Flat, FlatRoom, ModelHead, Operations, Reason, Row, TextHead};
+use crate::{FD, FR, OUTPUTS, ROWS, ROW_INPUTS};
 use std::fmt::{Debug, Display};
 use std::fs;
 use std::path::PathBuf;
@@ -184,6 +185,7 @@ fn answer<O: Operations>(line: &str) -> (String, Option<Vec<u8>>) {
             format!("{} {said}", places(&got))
         }
         "why" => why_answer::<O>(block(), &words),
+        "join" => join_answer::<O>(&words),
         "read" => read_answer::<O>(parse(words[1]), &text_of(words[2])),
         "write" => {
             let [n, k, block_type] = block();
@@ -405,6 +407,39 @@ fn why_answer<O: Operations>([n, k, block_type]: [usize; 3], words: &[&str]) -> 
     format!("{} {word} {step} {set} {numbers}", places(&got))
 }
 
+/// Joining records and flat slices in place, which must agree. The line has the whole list,
+/// freed records too; it is lent with more records behind it, and with a refusal it holds
+/// what it held.
+fn join_answer<O: Operations>(words: &[&str]) -> String {
+    let [n, k] = [parse(words[1]), parse(words[2])];
+    let given = rows(words[3]);
+    let count = given.len();
+    let mut list = [&given[..], &[HELD_ROW; 8]].concat();
+    let mut same_list = LentRows::new(&list);
+    let got = O::join_records(n, k, &mut list[..count]);
+    let LentRows {
+        masks,
+        values,
+        words,
+    } = &mut same_list;
+    let lent = FlatRoom {
+        masks: &mut masks[..count],
+        values: &mut values[..count],
+        words: &mut words[..count],
+    };
+    assert_eq!(got, O::join(n, k, lent));
+    assert_eq!(LentRows::new(&list), same_list);
+    let after = written(&list, count, HELD_ROW);
+    let said = match got.number {
+        0 => joined_rows(after),
+        _ => {
+            assert_eq!(after, given);
+            "-".to_string()
+        }
+    };
+    format!("{} {} {said}", places(&got), got.results)
+}
+
 /// Reading into records and into flat slices, which must agree.
 fn read_answer<O: Operations>(room: usize, text: &[u8]) -> String {
     let mut rows = vec![HELD_ROW; room];
@@ -491,6 +526,9 @@ pub fn check_operations<O: Operations>() {
         ("undriven.txt", 156),
         ("undriven_texts.txt", 41),
         ("undriven_ranges.txt", 236),
+        ("join.txt", 65),
+        ("join_more.txt", 125),
+        ("join_ranges.txt", 217),
     ] {
         check_file::<O>("../../crates/run_operations/data", name, cases);
     }

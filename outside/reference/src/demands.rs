@@ -1,11 +1,12 @@
 //! What 02 asks to be shown of answers together, on inputs from a seed, for any
 //! implementation: symmetric blocks (Ticket 6), why a number was not taken (Ticket
-//! 7), and columns that no row drives (Ticket 8). Not here: the demands on both methods,
-//! which are in tests/agree.rs.
+//! 7), columns that no row drives (Ticket 8), and joined lists (Ticket 9). Not here: the
+//! demands on both methods, which are in tests/agree.rs.
 
 use crate::inputs::{self, LentRows, Random};
-use crate::{matrix, symmetric, Fast, Measures, Operations, Reason, Row, FD, FR};
-use crate::{MODEL_ROOM, NO_OUTPUT, ROWS, ROW_INPUTS, SHEET_ROOM, SMALLER_ROWS, TEXT_ROOM};
+use crate::{checks, matrix, missing, symmetric, Fast, Measures, Operations, Plain, Reason, Row};
+use crate::{FD, FR, JOIN_ROWS, MODEL_ROOM, NO_OUTPUT, ROWS, ROW_INPUTS, SHEET_ROOM};
+use crate::{SMALLER_ROWS, TEXT_ROOM};
 
 /// A symmetric block of n inputs: its table is called symmetric, and with another entry
 /// it is not; R is equal at all numbers with as many one-bits; the measures are the sums
@@ -208,4 +209,108 @@ pub fn driven_columns<O: Operations>(seed: u64) {
         assert_eq!(ones(smaller), ones(&rows), "{name}");
         assert_eq!(fill(smaller), [0, 0, 0], "{name}");
     }
+}
+
+/// A list of n inputs, joined: no two rows that are left join, the rows are well formed
+/// and disjoint, the block is the same at each point under either type, there are never
+/// more rows, and fewer exactly where two of them joined; each row that was given lies in
+/// one that is left, and these stand in the order of the first given row that they hold.
+/// The freed records are zeros, and joining what is left changes nothing.
+pub fn joined<O: Operations>(n: usize, seed: u64) {
+    let name = format!("{n} inputs, seed {seed}");
+    let random = &mut Random::new(seed);
+    let k = random.between(1, 15);
+    let count = random.pick(&[8, 24, ROWS, JOIN_ROWS]);
+    let count = random.between(1, count);
+    let mut given = match random.below(3) {
+        0 => inputs::smaller_list(random, n, k, count.min(ROWS)),
+        _ => inputs::split_rows(random, n, k, count),
+    };
+    // Columns that no row drives are not looked for.
+    if random.one_in(4) {
+        inputs::undrive(random, k, &mut given);
+    }
+    let (left, freed) = join_of::<O>(&name, [n, k], &given);
+    assert!(!left.is_empty(), "{name}");
+    assert!(freed.iter().all(|row| *row == Row::default()), "{name}");
+    assert_eq!(any_join(&given), !freed.is_empty(), "{name}");
+    assert!(!any_join(&left), "{name}");
+    assert_eq!(checks::records(n, k, &left), Ok(()), "{name}");
+    assert_eq!(checks::disjoint(&left), Ok(()), "{name}");
+    for y in [FR, FD] {
+        let [before, after] = [&given, &left].map(|rows| block(n, y, rows));
+        assert!(before == after, "{name}, type {y}");
+    }
+
+    let lies_in = |part: &Row, row: &Row| {
+        part.word == row.word && part.mask & row.mask == row.mask && row.covers(part.values)
+    };
+    let holder = |part: &Row| left.iter().position(|row| lies_in(part, row));
+    let holders: Vec<usize> = given.iter().filter_map(holder).collect();
+    assert_eq!(holders.len(), given.len(), "{name}");
+    // Each holder is met first after those before it.
+    let mut next = 0;
+    for holder in holders {
+        assert!(holder <= next, "{name}");
+        next = next.max(holder + 1);
+    }
+    assert_eq!(next, left.len(), "{name}");
+
+    let (again, more) = join_of::<O>(&name, [n, k], &left);
+    assert!(again == left && more.is_empty(), "{name}");
+}
+
+/// Every list of one or two inputs with up to four rows, each with word 0 or 1, disjoint or
+/// not, joined as the plain operation has it.
+pub fn small_joins<O: Operations>() {
+    for n in 1..=2 {
+        let mut kinds = Vec::new();
+        for mask in 0..1 << n {
+            for values in (0..=mask).filter(|values| values & !mask == 0) {
+                kinds.extend([0, 1].map(|word| Row { mask, values, word }));
+            }
+        }
+        let mut lists: Vec<Vec<Row>> = vec![Vec::new()];
+        for _ in 0..4 {
+            let longer = |list: &Vec<Row>, row: &Row| [&list[..], &[*row]].concat();
+            let with_each = |list| kinds.iter().map(move |row| longer(list, row));
+            lists = lists.iter().flat_map(with_each).collect();
+            for given in &lists {
+                let [mut due, mut got] = [given.clone(), given.clone()];
+                let mut flat = LentRows::new(given);
+                let answer = Plain::join_records(n, 1, &mut due);
+                assert_eq!(O::join_records(n, 1, &mut got), answer, "{given:?}");
+                assert_eq!(O::join(n, 1, flat.room()), answer, "{given:?}");
+                assert!(got == due && flat == LentRows::new(&due), "{given:?}");
+            }
+        }
+    }
+}
+
+/// The rows that are left of an answered list, and the records that are freed, which are
+/// the same of records and of flat slices.
+fn join_of<O: Operations>(name: &str, [n, k]: [usize; 2], given: &[Row]) -> (Vec<Row>, Vec<Row>) {
+    let mut rows = given.to_vec();
+    let mut flat = LentRows::new(given);
+    let got = O::join_records(n, k, &mut rows);
+    assert_eq!(got, O::join(n, k, flat.room()), "{name}");
+    assert_eq!(flat, LentRows::new(&rows), "{name}");
+    assert_eq!([got.number, got.a, got.b], [0, 0, 0], "{name}");
+    let freed = rows.split_off(got.results);
+    (rows, freed)
+}
+
+/// Two rows of the list join.
+fn any_join(rows: &[Row]) -> bool {
+    let later = |i: usize| rows[i + 1..].iter().any(|other| rows[i].joins(other));
+    (0..rows.len()).any(later)
+}
+
+/// The word at each point.
+fn block(n: usize, block_type: usize, rows: &[Row]) -> Vec<u16> {
+    let word = |x| {
+        let row = rows.iter().find(|row| row.covers(x));
+        row.map_or(missing(block_type), |row| row.word as u16)
+    };
+    (0..1 << n).map(word).collect()
 }

@@ -11,7 +11,8 @@
 //! greatest R outside the span of the chosen numbers, kept in echelon form. R of a
 //! table at every t is asked by its spectrum too, and not counted there (02, Ticket 5);
 //! a symmetric block's measures come from its words (02, Ticket 6); why a number was not
-//! taken is found by elimination over the chosen ones (02, Ticket 7).
+//! taken is found by elimination over the chosen ones (02, Ticket 7); the rows that one
+//! joins with are looked up (02, Ticket 9).
 
 use crate::list::{answer_method, check_fill, check_value, Found};
 use crate::matrix::highest;
@@ -22,6 +23,7 @@ use crate::{
 };
 use std::iter::once;
 
+mod joining;
 mod model;
 mod reasons;
 mod spectrum;
@@ -29,6 +31,7 @@ mod symmetric;
 
 pub use crate::table::table_value;
 pub use crate::text::{read_text, write_text};
+pub use joining::join;
 pub use model::{model_value, print_model, read_model, write_model};
 pub use reasons::why_not;
 pub use spectrum::table_spectrum;

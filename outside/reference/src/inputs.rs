@@ -1,16 +1,16 @@
 //! Inputs from a seed, the same for the same seed: tables, words of symmetric
-//! blocks, lists of disjoint rows, numbers that are asked of them, matrices, row texts,
-//! models ([`models`]), and all of these damaged; their types; numbers in and out of
-//! range; rooms short, exact and long. [`Case::new`] draws a whole call of one operation
-//! with everything it is lent.
+//! blocks, lists of disjoint rows, some with many that join, numbers that are asked of
+//! them, matrices, row texts, models ([`models`]), and all of these damaged; their types;
+//! numbers in and out of range; rooms short, exact and long. [`Case::new`] draws a whole
+//! call of one operation with everything it is lent.
 
 pub mod models;
 
 use crate::list::Step;
 use crate::{
     fast, matrix, missing, write_text, Answer, Flat, FlatRoom, List, ModelHead, Operations, Reason,
-    Row, Smaller, TextHead, FD, FILL_ROWS, FR, MODEL_ROOM, NO_OUTPUT, OUTPUTS, ROWS, ROW_INPUTS,
-    SHEET_ROOM, SMALLER_ROWS, TABLE_INPUTS, TEXT_ROOM,
+    Row, Smaller, TextHead, FD, FILL_ROWS, FR, JOIN_ROWS, MODEL_ROOM, NO_OUTPUT, OUTPUTS, ROWS,
+    ROW_INPUTS, SHEET_ROOM, SMALLER_ROWS, TABLE_INPUTS, TEXT_ROOM,
 };
 
 /// A source of numbers that depend on the seed alone (SplitMix64).
@@ -149,9 +149,22 @@ pub fn rows(random: &mut Random, n: usize, k: usize, count: usize) -> Vec<Row> {
     let words = words(random, k);
     let mut rows = vec![Row::default()];
     let left_out = if random.one_in(2) { count / 8 } else { 0 };
+    split_to(random, n, &mut rows, count + left_out);
+    random.shuffle(&mut rows);
+    rows.truncate(count.max(1));
+    for row in &mut rows {
+        row.word = random.pick(&words);
+    }
+    drive(random, k, &mut rows);
+    rows
+}
+
+/// Splits rows into halves with their words until there are so many rows, as far as
+/// any of them has an input free.
+fn split_to(random: &mut Random, n: usize, rows: &mut Vec<Row>, count: usize) {
     let whole = (1 << n) - 1;
     let mut open = true;
-    while open && rows.len() < count + left_out {
+    while open && rows.len() < count {
         open = rows.iter().any(|row| row.mask != whole);
         let index = random.below(rows.len());
         let free = whole & !rows[index].mask;
@@ -165,13 +178,49 @@ pub fn rows(random: &mut Random, n: usize, k: usize, count: usize) -> Vec<Row> {
         half.values |= bit;
         rows.push(half);
     }
-    random.shuffle(&mut rows);
-    rows.truncate(count.max(1));
-    for row in &mut rows {
-        row.word = random.pick(&words);
+}
+
+/// Disjoint rows, at most `count`, with many that join: a list of fewer rows, at times of
+/// one, split again and again, with the halves in some order or behind the others.
+pub fn split_rows(random: &mut Random, n: usize, k: usize, count: usize) -> Vec<Row> {
+    let most = random.pick(&[1, count / 16, count / 4, count]).max(1);
+    let start = random.between(1, most);
+    let mut rows = rows(random, n, k, start);
+    split_to(random, n, &mut rows, count);
+    if !random.one_in(4) {
+        random.shuffle(&mut rows);
     }
-    drive(random, k, &mut rows);
     rows
+}
+
+/// All points of n inputs in an order in which they join to one row, where they have one
+/// word: the two halves of the space at some input, one behind the other, and each half
+/// in such an order of its own.
+pub fn halved_points(random: &mut Random, n: usize) -> Vec<u32> {
+    fn put(random: &mut Random, free: &[usize], values: u32, points: &mut Vec<u32>) {
+        if free.is_empty() {
+            points.push(values);
+            return;
+        }
+        let input = random.pick(free);
+        let rest: Vec<usize> = free.iter().copied().filter(|&i| i != input).collect();
+        let first = random.word(1);
+        for value in [first, 1 - first] {
+            put(random, &rest, values | value << input, points);
+        }
+    }
+    let mut points = Vec::with_capacity(1 << n);
+    put(random, &(0..n).collect::<Vec<_>>(), 0, &mut points);
+    points
+}
+
+/// The smaller rows of a list with hidden XORs: those that 02 would have joined. The list
+/// itself where the row method refuses it.
+pub fn smaller_list(random: &mut Random, n: usize, k: usize, count: usize) -> Vec<Row> {
+    let rows = hidden_rows(random, n, k, count);
+    let w = random.between(1, n.min(3));
+    let block_type = random.pick(&[FR, FD]);
+    smaller_of([n, k, block_type, w], &rows).unwrap_or(rows)
 }
 
 /// The columns that no row has a 1 in, as the bits of a number.
@@ -249,22 +298,23 @@ pub fn rows_near_512(random: &mut Random, draws: usize) -> ([usize; 4], Vec<Row>
         let list = hidden_rows(random, n, k, count);
         // Where the list passes 512 its length is not known; it counts as
         // somewhat far.
-        let after = smaller_rows([n, k, block_type, w], &list);
-        let distance = after.map_or(40, |after| SMALLER_ROWS - after);
+        let after = smaller_of([n, k, block_type, w], &list);
+        let distance = after.map_or(40, |after| SMALLER_ROWS - after.len());
         (distance, ([n, k, block_type, w], list))
     };
     let nearest = (0..draws).map(draw).min_by_key(|(distance, _)| *distance);
     nearest.expect("at least one list is drawn").1
 }
 
-/// The number of smaller rows, where the row method answers.
-fn smaller_rows([n, k, block_type, w]: [usize; 4], rows: &[Row]) -> Option<usize> {
-    let mut smaller = [Row::default(); SMALLER_ROWS];
+/// The smaller rows, where the row method answers.
+fn smaller_of([n, k, block_type, w]: [usize; 4], rows: &[Row]) -> Option<Vec<Row>> {
+    let mut smaller = vec![Row::default(); SMALLER_ROWS];
     let [mut columns, mut sigma] = [[0; ROW_INPUTS]; 2];
     let room = &mut smaller[..];
     let [t, s] = [&mut columns, &mut sigma];
     let answer = fast::row_method(n, k, block_type, w, rows, room, t, s);
-    (answer.number == 0).then_some(answer.results.rows)
+    smaller.truncate(answer.results.rows);
+    (answer.number == 0).then_some(smaller)
 }
 
 /// A number below 2^n for the question why it was not taken, with weight limit w, where
@@ -566,15 +616,20 @@ fn edit_line(text: &mut Vec<u8>, line: usize, edit: impl FnOnce(&mut Vec<u8>)) {
 /// Disjoint rows of one of the kinds above, at most `most`, at times near that. They
 /// drive every column.
 fn any_rows(random: &mut Random, n: usize, k: usize, most: usize) -> Vec<Row> {
-    let count = match random.below(6) {
-        0 => random.between(most - most / 16, most),
-        1 => random.between(1, most),
-        _ => random.between(1, 24),
-    };
+    let count = any_count(random, most);
     if random.one_in(3) {
         hidden_rows(random, n, k, count)
     } else {
         rows(random, n, k, count)
+    }
+}
+
+/// A number of rows, at times near the most.
+fn any_count(random: &mut Random, most: usize) -> usize {
+    match random.below(6) {
+        0 => random.between(most - most / 16, most),
+        1 => random.between(1, most),
+        _ => random.between(1, 24),
     }
 }
 
@@ -709,6 +764,11 @@ pub enum Case {
         rows: LentRows,
         taken: [u32; ROW_INPUTS],
     },
+    Join {
+        n: usize,
+        k: usize,
+        rows: LentRows,
+    },
     Fill {
         n: usize,
         k: usize,
@@ -772,7 +832,7 @@ impl Case {
     /// The case of a seed.
     pub fn new(seed: u64) -> Case {
         let random = &mut Random::new(seed);
-        match random.below(18) {
+        match random.below(19) {
             0 => {
                 let ([n, k, block_type], table) = any_table(random);
                 let t = number(random, 0, (1 << n.min(16)) - 1);
@@ -1001,7 +1061,7 @@ impl Case {
                     table,
                 }
             }
-            _ => {
+            17 => {
                 let (numbers, rows) = method_list(random);
                 let [n, k, block_type, w] = numbers;
                 let t = any_asked(random, numbers, &rows);
@@ -1014,6 +1074,10 @@ impl Case {
                     rows,
                     taken: [(); ROW_INPUTS].map(|()| random.word(32)),
                 }
+            }
+            _ => {
+                let ([n, k], rows) = joining_list(random);
+                Case::Join { n, k, rows }
             }
         }
     }
@@ -1130,6 +1194,9 @@ impl Case {
                 O::why_not(*n, *k, *block_type, *w, *t, rows.list(), taken),
                 reason_results,
             ),
+            Case::Join { n, k, rows } => {
+                flat(O::join(*n, *k, rows.room()), |left| vec![left as u64])
+            }
             Case::Fill {
                 n,
                 k,
@@ -1262,6 +1329,12 @@ impl Case {
                     O::why_not_records(*n, *k, *block_type, *w, *t, &rows, taken),
                     reason_results,
                 )
+            }
+            Case::Join { n, k, rows } => {
+                let mut list = rows.records()?;
+                let answer = O::join_records(*n, *k, &mut list);
+                *rows = LentRows::new(&list);
+                flat(answer, |left| vec![left as u64])
             }
             Case::Fill {
                 n,
@@ -1447,6 +1520,25 @@ fn method_list(random: &mut Random) -> ([usize; 4], LentRows) {
     let most = if n < 14 && random.one_in(20) { n } else { 4 };
     let w = number(random, 1, n.min(most).max(1));
     ([n, k, block_type, w], rows)
+}
+
+/// n, k and a list to be joined, mostly within their ranges and disjoint, and with many
+/// rows that join.
+pub fn joining_list(random: &mut Random) -> ([usize; 2], LentRows) {
+    let n = number(random, 1, ROW_INPUTS);
+    let k = number(random, 1, OUTPUTS);
+    let [inputs, outputs] = [n.clamp(1, 20), k.clamp(1, OUTPUTS)];
+    let count = match random.below(12) {
+        0 => JOIN_ROWS,
+        _ => any_count(random, JOIN_ROWS),
+    };
+    let mut rows = match random.below(8) {
+        0 => any_rows(random, inputs, outputs, JOIN_ROWS),
+        1 => smaller_list(random, inputs.min(ROW_INPUTS), outputs, count.min(ROWS)),
+        _ => split_rows(random, inputs, outputs, count),
+    };
+    let lent = harmed(random, n, k, JOIN_ROWS, &mut rows);
+    ([n, k], lent)
 }
 
 /// A t for the question why it was not taken, mostly below 2^n and near what was taken;

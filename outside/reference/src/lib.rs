@@ -1,16 +1,17 @@
 //! The operations of 01 in plain Rust, with the requests of 02 that are met. A
 //! client gets: single values of R, R at every t of a table by its spectrum, the
 //! table method, restoring, symmetric blocks by Gray decoding, the row method,
-//! why a number was not taken, filling, reading and writing row text, the sheet, models
-//! in BLIF, and what the program prints. Every operation takes any inputs and answers with a number, the
-//! places A and B, and its results. A type goes with every list and table.
+//! why a number was not taken, joining rows, filling, reading and writing row text, the
+//! sheet, models in BLIF, and what the program prints. Every operation takes any inputs
+//! and answers with a number, the places A and B, and its results. A type goes with every
+//! list and table, but not with a list that is joined.
 //!
 //! In order: [`answer`] and [`rows`] hold what goes in and out, [`types`] what a
 //! missing point means, [`checks`] the refusals, [`matrix`] the basis and its
 //! inverse, [`table`] and [`list`] the operations on full tables and on rows,
 //! [`spectrum`] R of a table by Walsh transforms, [`symmetric`] blocks that depend on
-//! the number of one-bits alone, [`reasons`] why a number was not taken, [`text`],
-//! [`sheet`] and [`model`] the texts.
+//! the number of one-bits alone, [`reasons`] why a number was not taken, [`joining`]
+//! rows written as one, [`text`], [`sheet`] and [`model`] the texts.
 //! These are written to be read beside 01 and take the long way wherever that
 //! is the plain one. [`fast`] has the same operations as one would write them
 //! for speed, [`operations`] both under one trait, [`inputs`] makes inputs
@@ -28,6 +29,7 @@ pub mod data;
 pub mod demands;
 pub mod fast;
 pub mod inputs;
+pub mod joining;
 pub mod list;
 pub mod matrix;
 pub mod model;
@@ -49,6 +51,7 @@ pub use types::{missing, FD, FR};
 
 /// The operations that are written to be read beside 01.
 mod plain {
+    pub use crate::joining::join;
     pub use crate::list::{fill, row_method, row_value};
     pub use crate::model::{model_value, print_model, read_model, write_model};
     pub use crate::reasons::why_not;
@@ -62,8 +65,8 @@ mod plain {
 /// The table entry that stands for no output (01, Words and numbers).
 pub const NO_OUTPUT: u16 = 65_535;
 
-/// Most inputs of the row method, its single values, why a number was not taken, text
-/// and sheet.
+/// Most inputs of the row method, its single values, why a number was not taken, joining,
+/// text and sheet.
 pub const ROW_INPUTS: usize = 16;
 
 /// Most inputs of the table method, its single values, its spectrum, filling,
@@ -73,11 +76,14 @@ pub const TABLE_INPUTS: usize = 12;
 /// Most outputs.
 pub const OUTPUTS: usize = 15;
 
-/// Most rows given, but for filling.
+/// Most rows given, but for filling and joining.
 pub const ROWS: usize = 128;
 
 /// Most rows given for filling.
 pub const FILL_ROWS: usize = 512;
+
+/// Most rows given for joining: those of a smaller block.
+pub const JOIN_ROWS: usize = SMALLER_ROWS;
 
 /// Most rows of a smaller block, and the room to lend for them.
 pub const SMALLER_ROWS: usize = 512;

@@ -102,6 +102,10 @@ pub trait Operations {
         taken: &mut [u32; ROW_INPUTS],
     ) -> Answer<Option<Reason>>;
 
+    fn join(n: usize, k: usize, rows: FlatRoom) -> Answer<usize>;
+
+    fn join_records(n: usize, k: usize, rows: &mut [Row]) -> Answer<usize>;
+
     fn fill(n: usize, k: usize, block_type: usize, rows: Flat, table: &mut [u16]) -> Answer<()>;
 
     fn fill_records(
@@ -348,6 +352,16 @@ macro_rules! operations_of {
             ) -> Answer<Option<Reason>> {
                 use $module as operations;
                 operations::why_not(n, k, block_type, w, t, rows, taken)
+            }
+
+            fn join(n: usize, k: usize, rows: FlatRoom) -> Answer<usize> {
+                use $module as operations;
+                operations::join(n, k, rows)
+            }
+
+            fn join_records(n: usize, k: usize, rows: &mut [Row]) -> Answer<usize> {
+                use $module as operations;
+                operations::join(n, k, rows)
             }
 
             fn fill(

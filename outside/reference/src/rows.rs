@@ -20,9 +20,16 @@ impl Row {
     pub fn meets(&self, other: &Row) -> bool {
         (self.values ^ other.values) & self.mask & other.mask == 0
     }
+
+    /// The two rows join (02, Ticket 9): "equal words, the same fixed inputs and values
+    /// that differ in exactly one".
+    pub fn joins(&self, other: &Row) -> bool {
+        let differ = self.values ^ other.values;
+        self.word == other.word && self.mask == other.mask && differ.count_ones() == 1
+    }
 }
 
-/// A list of rows lent for reading.
+/// A list of rows lent for reading, or as room too where it is changed in place.
 pub trait List {
     /// The rows in order. Flat slices of unequal length are no list; they give
     /// the empty one, which every operation refuses with the same number 4.
@@ -39,6 +46,12 @@ pub trait Room {
 }
 
 impl List for &[Row] {
+    fn rows(&self) -> Vec<Row> {
+        self.to_vec()
+    }
+}
+
+impl List for &mut [Row] {
     fn rows(&self) -> Vec<Row> {
         self.to_vec()
     }
@@ -84,6 +97,17 @@ pub struct FlatRoom<'a> {
     pub masks: &'a mut [u32],
     pub values: &'a mut [u32],
     pub words: &'a mut [u32],
+}
+
+impl List for FlatRoom<'_> {
+    fn rows(&self) -> Vec<Row> {
+        let list = Flat {
+            masks: self.masks,
+            values: self.values,
+            words: self.words,
+        };
+        list.rows()
+    }
 }
 
 impl Room for FlatRoom<'_> {

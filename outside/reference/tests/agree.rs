@@ -6,7 +6,7 @@ use reference::{data, demands, fast, matrix, Fast, Operations, Plain, Row, FD, F
 use std::collections::BTreeMap;
 
 /// How many seeds the cases below are drawn from.
-const SEEDS: u64 = 10_800;
+const SEEDS: u64 = 11_400;
 
 #[test]
 fn plain_and_fast_give_the_same_and_refusals_change_nothing() {
@@ -51,6 +51,7 @@ fn plain_and_fast_give_the_same_and_refusals_change_nothing() {
         ("RowValue", &[0, 1, 2, 3, 4, 6, 7, 11]),
         ("RowMethod", &[0, 1, 2, 3, 4, 5, 6, 7, 9, 11]),
         ("WhyNot", &[0, 1, 2, 3, 4, 6, 7, 11]),
+        ("Join", &[0, 1, 2, 4, 6, 7]),
         ("Fill", &[0, 1, 2, 3, 4, 5, 6, 7, 11]),
         ("ReadText", &[0, 1, 2, 4, 5, 10]),
         ("WriteText", &[0, 1, 2, 3, 4, 5, 6]),
@@ -330,13 +331,85 @@ fn undriven_columns_are_drawn_beside_other_faults() {
 #[test]
 fn every_reason_is_met() {
     let mut met = [0; 5];
-    for seed in 0..4_000 {
+    for seed in 0..SEEDS {
         let mut case = Case::new(seed);
         if matches!(case, Case::WhyNot { .. }) {
             met[case.run::<Fast>().results[0] as usize] += 1;
         }
     }
     assert!(met.iter().all(|&count| count >= 8), "{met:?}");
+}
+
+/// Joined lists are as 02, Ticket 9, has them.
+#[test]
+fn joined_lists_are_as_02_has_them() {
+    for n in 1..=16 {
+        for seed in 0..if n < 13 { 60 } else { 12 } {
+            demands::joined::<Plain>(n, seed);
+            demands::joined::<Fast>(n, seed);
+        }
+    }
+}
+
+/// Every list of few rows and inputs is joined alike.
+#[test]
+fn small_lists_are_joined() {
+    demands::small_joins::<Fast>();
+}
+
+/// The number of rows left of all points of 9 inputs with one word, in this order.
+fn points_left(points: &[u32]) -> usize {
+    let point = |&values: &u32| Row {
+        mask: 511,
+        values,
+        word: 1,
+    };
+    let mut rows: Vec<Row> = points.iter().map(point).collect();
+    let mut same = rows.clone();
+    let got = Plain::join_records(9, 1, &mut rows);
+    assert_eq!(got, Fast::join_records(9, 1, &mut same));
+    assert!(got.number == 0 && rows == same);
+    got.results
+}
+
+/// All points of 9 inputs with one word end as one row where each half of the space stands
+/// together, and else as many: rows join whose joined row has no partner.
+#[test]
+fn all_points_are_joined() {
+    let random = &mut Random::new(9);
+    let mut points: Vec<u32> = (0..512).collect();
+    assert_eq!(points_left(&points), 1);
+    for _ in 0..6 {
+        let halved = inputs::halved_points(random, 9);
+        assert_eq!(points_left(&halved), 1);
+        random.shuffle(&mut points);
+        assert!((100..300).contains(&points_left(&points)));
+    }
+}
+
+/// The drawn calls have lists with no join, with few and with many, and among them 512
+/// rows; and columns that no row drives, which are not refused here.
+#[test]
+fn joins_are_drawn() {
+    let mut met = [0; 5];
+    let [mut longest, mut undriven] = [0; 2];
+    for seed in 0..SEEDS {
+        let mut case = Case::new(seed);
+        let (k, given) = match &case {
+            Case::Join { k, rows, .. } => (*k, rows.records()),
+            _ => continue,
+        };
+        let answer = case.run::<Fast>();
+        if let (0, Some(given)) = (answer.number, given) {
+            let joins = given.len() - answer.results[0] as usize;
+            let class = [1, 16, 128, 256].partition_point(|&least| least <= joins);
+            met[class] += 1;
+            longest += usize::from(given.len() == 512);
+            undriven += usize::from(inputs::undriven_columns(k, &given) != 0);
+        }
+    }
+    assert!(met.iter().all(|&count| count >= 8), "{met:?}");
+    assert!(longest >= 8 && undriven >= 20, "{longest} {undriven}");
 }
 
 /// Text read and written again is the same bytes, rows written and read again

@@ -1,11 +1,11 @@
 //! 01's blocks to try by hand, cases a to j and those after them, read as fr, the
 //! sheet's example, Example 2 of document 000, blocks of either type (02, Ticket 2),
 //! the spectrum of some of these (02, Ticket 5), symmetric blocks, document 002's
-//! among them (02, Ticket 6), why a number was not taken (02, Ticket 7), and lists with a
-//! column that no row drives (02, Ticket 8). Each is asked of the plain and of the fast
-//! operations.
+//! among them (02, Ticket 6), why a number was not taken (02, Ticket 7), lists with a
+//! column that no row drives (02, Ticket 8), and joined rows (02, Ticket 9). Each is asked
+//! of the plain and of the fast operations.
 
-use reference::{fast, spectrum, symmetric, Reason, Row, FD, FR, NO_OUTPUT};
+use reference::{fast, spectrum, symmetric, FlatRoom, Reason, Row, FD, FR, NO_OUTPUT};
 
 /// Rows as 01 writes them: "symbols word".
 fn list(lines: &[&str]) -> Vec<Row> {
@@ -162,6 +162,25 @@ fn reasons_of([n, k, w]: [usize; 3], rows: &[Row]) -> (Vec<Reason>, Vec<u32>) {
     let reason = |t| why_of(FR, [n, k, w, t], rows).1.unwrap();
     let reasons = (0..1 << n).map(reason).collect();
     (reasons, why_of(FR, [n, k, w, 0], rows).2)
+}
+
+/// Number, A, B, the number of rows that are left of a joined list, and the whole list.
+fn join_of([n, k]: [usize; 2], rows: &[Row]) -> ([u32; 3], usize, Vec<Row>) {
+    let [mut lent, mut fast_lent] = [rows.to_vec(), rows.to_vec()];
+    let got = reference::join(n, k, &mut lent[..]);
+    let fast = fast::join(n, k, &mut fast_lent[..]);
+    assert_eq!((got, &lent), (fast, &fast_lent));
+    ([got.number, got.a, got.b], got.results, lent)
+}
+
+/// The rows that are left of a list; each freed record is all zeros.
+fn left_of(k: usize, lines: &[&str]) -> Vec<Row> {
+    let n = lines[0].find(' ').unwrap();
+    let (number, left, mut lent) = join_of([n, k], &list(lines));
+    assert_eq!((number, lent.len()), (ANSWERED, lines.len()));
+    let freed = lent.split_off(left);
+    assert!(freed.iter().all(|row| *row == Row::default()));
+    lent
 }
 
 const ANSWERED: [u32; 3] = [0, 0, 0];
@@ -897,6 +916,140 @@ fn short_room_beside_an_undriven_column() {
     }
     for print in [reference::print_model, fast::print_model] {
         assert_eq!(print(&text[..wrote.results]), b"refused 11 1 0\n");
+    }
+}
+
+/// Two rows are one where their words are equal, the same inputs are fixed, and the values
+/// differ in exactly one.
+#[test]
+fn rows_that_join_and_rows_that_do_not() {
+    assert_eq!(left_of(1, &["0 1", "1 1"]), list(&["- 1"]));
+    assert_eq!(left_of(3, &["0 000", "1 000"]), list(&["- 000"]));
+    assert_eq!(left_of(1, &["-1- 1", "-0- 1"]), list(&["--- 1"]));
+    for stay in [
+        // other words, two values that differ, other inputs fixed
+        &["0 1", "1 0"][..],
+        &["00 1", "11 1"],
+        &["0- 1", "10 1"],
+        &["0-- 1", "1-0 1", "1-1 0"],
+        // one row alone, and one over all points
+        &["01 0"],
+        &["-- 1"],
+    ] {
+        assert_eq!(left_of(1, stay), list(stay));
+    }
+}
+
+/// The joined row stands in the first place, and what stood behind the second closes up.
+#[test]
+fn joined_rows_stand_in_the_first_place() {
+    let left = left_of(1, &["00 1", "11 0", "01 1"]);
+    assert_eq!(left, list(&["0- 1", "11 0"]));
+    let left = left_of(1, &["11 0", "00 1", "01 1", "10 0"]);
+    assert_eq!(left, list(&["1- 0", "0- 1"]));
+    // The sheet's smaller rows: two words, each on half of the space.
+    let left = left_of(2, &["00- 01", "01- 01", "10- 10", "11- 10"]);
+    assert_eq!(left, list(&["0-- 01", "1-- 10"]));
+    assert_eq!(left_of(2, &SHEET_BLOCK), list(&SHEET_BLOCK));
+    // Four points of one word that stand apart: 000 takes 010, 011 takes 001, then both join.
+    let left = left_of(2, &["000 01", "011 01", "010 01", "001 01", "1-- 10"]);
+    assert_eq!(left, list(&["0-- 01", "1-- 10"]));
+}
+
+/// The smallest first row is taken, then the smallest second one.
+#[test]
+fn the_first_pair_is_joined() {
+    let left = left_of(1, &["00 1", "01 1", "10 1"]);
+    assert_eq!(left, list(&["0- 1", "10 1"]));
+    let left = left_of(1, &["00 1", "10 1", "01 1"]);
+    assert_eq!(left, list(&["-0 1", "01 1"]));
+    let left = left_of(1, &["10 1", "01 1", "00 1"]);
+    assert_eq!(left, list(&["-0 1", "01 1"]));
+    // 010 and 011 stand side by side, but row 0 comes first: it takes 010.
+    let left = left_of(1, &["000 1", "011 1", "010 1", "111 1"]);
+    assert_eq!(left, list(&["0-0 1", "-11 1"]));
+}
+
+/// After each join the pair is looked for anew, from the first row: a joined row joins an
+/// earlier one, in each order of the three.
+#[test]
+fn joined_rows_join_earlier_ones() {
+    let rows = ["00- 1", "010 1", "011 1"];
+    for order in [
+        [0, 1, 2],
+        [0, 2, 1],
+        [1, 0, 2],
+        [1, 2, 0],
+        [2, 0, 1],
+        [2, 1, 0],
+    ] {
+        let left = left_of(1, &order.map(|i| rows[i]));
+        assert_eq!(left, list(&["0-- 1"]), "{order:?}");
+    }
+    // 01- comes of the second and third row. It joins with 00- before it and not with 11-
+    // behind it, or with 11- where that is before it.
+    let left = left_of(1, &["00- 1", "010 1", "011 1", "11- 1"]);
+    assert_eq!(left, list(&["0-- 1", "11- 1"]));
+    let left = left_of(1, &["11- 1", "010 1", "011 1", "00- 1"]);
+    assert_eq!(left, list(&["-1- 1", "00- 1"]));
+}
+
+#[test]
+fn refusals_of_joining() {
+    let most = usize::MAX;
+    let row = |mask, values, word| Row { mask, values, word };
+    let bad = [row(1, 0, 1), row(1, 2, 1), row(2, 0, 2)];
+    let refused = |numbers: [usize; 2], rows: &[Row]| {
+        let (number, left, lent) = join_of(numbers, rows);
+        assert_eq!((left, &lent[..]), (0, rows));
+        number
+    };
+    // Each is given before those after it.
+    for n in [0, 17, 64, most] {
+        assert_eq!(refused([n, 0], &bad), [1, 0, 0]);
+        assert_eq!(refused([n, 1], &[]), [1, 0, 0]);
+    }
+    for k in [0, 16, 64, most] {
+        assert_eq!(refused([2, k], &bad), [2, 0, 0]);
+        assert_eq!(refused([2, k], &[]), [2, 0, 0]);
+    }
+    assert_eq!(refused([2, 1], &[]), [4, 0, 0]);
+    assert_eq!(refused([2, 1], &[bad[1]; 513]), [4, 0, 0]);
+    assert_eq!(refused([2, 1], &[bad[1]; 512]), [6, 0, 0]);
+    assert_eq!(refused([2, 1], &bad), [6, 0, 1]);
+    let shared = [bad[0], bad[2]];
+    assert_eq!(refused([2, 1], &shared), [6, 0, 1]);
+    assert_eq!(refused([2, 2], &shared), [7, 0, 1]);
+    // Two rows that join, and one over both: the first pair that shares a point.
+    let rows = list(&["00 1", "01 1", "0- 1"]);
+    assert_eq!(refused([2, 1], &rows), [7, 0, 2]);
+    let rows = list(&["11 1", "00 1", "01 1", "0- 1", "01 1"]);
+    assert_eq!(refused([2, 1], &rows), [7, 1, 3]);
+    // Columns that no row drives are no refusal here.
+    let (number, left, _) = join_of([16, 15], &[Row::default()]);
+    assert_eq!((number, left), (ANSWERED, 1));
+}
+
+/// Flat slices of unequal length are no list.
+#[test]
+fn uneven_slices_are_not_joined() {
+    for [masks, values, words] in [[2, 2, 1], [2, 1, 2], [1, 2, 2], [3, 2, 2], [0, 2, 2]] {
+        let lent = [[1, 1, 1], [0, 1, 0], [1, 1, 1]];
+        let join = |plain: bool| {
+            let mut rows = lent;
+            let [m, v, w] = &mut rows;
+            let list = FlatRoom {
+                masks: &mut m[..masks],
+                values: &mut v[..values],
+                words: &mut w[..words],
+            };
+            let got = match plain {
+                true => reference::join(1, 1, list),
+                false => fast::join(1, 1, list),
+            };
+            (got.number, got.results, rows)
+        };
+        assert_eq!([join(true), join(false)], [(4, 0, lent); 2]);
     }
 }
 
