@@ -17,6 +17,7 @@
 #define FILL 0xA5
 #define ROWS 128
 #define POINTS 4096
+#define JOINED IRWYSTL_SMALLER_ROWS /* rows that join to one: all points of nine inputs */
 #define PATTERNS (IRWYSTL_MOST_OUTPUTS * IRWYSTL_SMALLER_ROWS)
 
 static irwystl_row rows[ROWS], smaller[IRWYSTL_SMALLER_ROWS];
@@ -46,6 +47,10 @@ static uint32_t row_method(void) {
                             IRWYSTL_SMALLER_ROWS, smaller_words, IRWYSTL_SMALLER_ROWS).number;
 }
 static uint32_t why_not(void) { return irwystl_why_not(16, 7, type, 16, 3, FLAT, basis).number; }
+static uint32_t join(void) {
+  for (uint32_t i = 0; i < JOINED; i++) smaller_masks[i] = JOINED - 1, smaller_values[i] = i, smaller_words[i] = 1;
+  return irwystl_join(16, 7, smaller_masks, JOINED, smaller_values, JOINED, smaller_words, JOINED).count != 1;
+}
 static uint32_t fill_table(void) { return irwystl_fill_table(12, 7, type, FLAT, made, POINTS).number; }
 static uint32_t write_text(void) {
   irwystl_text_answer r = irwystl_write_text(16, 7, type, 1, FLAT, text, sizeof text);
@@ -61,6 +66,10 @@ static uint32_t records_row_method(void) {
   return irwystl_records_row_method(16, 7, type, 16, rows, ROWS, basis, 16, sigma, 16, smaller, IRWYSTL_SMALLER_ROWS).number;
 }
 static uint32_t records_why_not(void) { return irwystl_records_why_not(16, 7, type, 16, 3, rows, ROWS, basis).number; }
+static uint32_t records_join(void) {
+  for (uint32_t i = 0; i < JOINED; i++) smaller[i].mask = JOINED - 1, smaller[i].values = i, smaller[i].word = 1;
+  return irwystl_records_join(16, 7, smaller, JOINED).count != 1;
+}
 static uint32_t records_fill_table(void) { return irwystl_records_fill_table(12, 7, type, rows, ROWS, made, POINTS).number; }
 static uint32_t records_write_text(void) { return irwystl_records_write_text(16, 7, type, 1, rows, ROWS, out, sizeof out).number; }
 static uint32_t records_read_text(void) { return irwystl_records_read_text(text, text_length, smaller, ROWS).number; }
@@ -124,6 +133,7 @@ int main(void) {
       {"row_value", row_value, 0},
       {"row_method", row_method, 0},
       {"why_not", why_not, 0},
+      {"join", join, 0},
       {"fill_table", fill_table, 0},
       {"write_text", write_text, 0},
       {"read_text", read_text, 0},
@@ -131,6 +141,7 @@ int main(void) {
       {"records_row_value", records_row_value, 0},
       {"records_row_method", records_row_method, 0},
       {"records_why_not", records_why_not, 0},
+      {"records_join", records_join, 0},
       {"records_fill_table", records_fill_table, 0},
       {"records_write_text", records_write_text, 0},
       {"records_read_text", records_read_text, 0},

@@ -17,8 +17,8 @@
  * Every call. Any numbers and any contents may come in: each call answers, or refuses with a number (enum irwystl_number) and two places.
  * Each pointer must be valid for its length in elements, and not null even where that is 0; what is written must not overlap anything else
  * that is passed. With a refusal every count and value of the answer is 0 and all lent storage holds what it held. With an answer, what
- * lies beyond the result holds what it held. A call keeps nothing, takes no memory but at most 1 MiB of stack, and may be made from
- * several threads at once, each with its own rooms.
+ * lies beyond the result holds what it held; in a list that is joined the rows that are freed are zeros. A call keeps nothing, takes no
+ * memory but at most 1 MiB of stack, and may be made from several threads at once, each with its own rooms.
  *
  * Each function has the promise of the operation that its comment names, in docs/PROMISES.md: the answer and the contents of all lent
  * storage at the end, proved for all inputs. "Refuses" lists the numbers that it can give, in the order in which they are looked for;
@@ -39,7 +39,7 @@ extern "C" {
 #define IRWYSTL_MOST_LIST_INPUTS 16  /* inputs of a list of rows, of row text, of a sheet and of a model */
 #define IRWYSTL_MOST_TABLE_INPUTS 12 /* inputs of a full table, and of a list that is filled into one */
 #define IRWYSTL_MOST_OUTPUTS 15
-#define IRWYSTL_MOST_ROWS 128     /* rows given; for irwystl_fill_table 512 */
+#define IRWYSTL_MOST_ROWS 128     /* rows given; for irwystl_fill_table and irwystl_join 512 */
 #define IRWYSTL_SMALLER_ROWS 512  /* the room for smaller rows, however few they are */
 #define IRWYSTL_TEXT_ROOM 4255    /* the bytes of the longest row text: the room for any */
 #define IRWYSTL_SHEET_ROOM 17518  /* the bytes of the longest sheet: the room for any */
@@ -126,6 +126,13 @@ typedef struct irwystl_why_answer {
   size_t step;     /* with IRWYSTL_TAKEN the step, counted from 1; else 0 */
   uint32_t set;    /* with IRWYSTL_XOR the steps, bit j - 1 for step j; else 0 */
 } irwystl_why_answer;
+
+typedef struct irwystl_join_answer {
+  uint32_t number;
+  size_t a;
+  size_t b;
+  size_t count; /* how many rows are left */
+} irwystl_join_answer;
 
 typedef struct irwystl_text_answer {
   uint32_t number;
@@ -235,6 +242,16 @@ irwystl_why_answer irwystl_records_why_not(size_t n, size_t k, size_t type, size
                                            uint32_t *taken);
 
 /*
+ * Joins rows of a list of 1 to 512, in place: while two rows have equal words, the same mask and values that differ in exactly one input, the
+ * pair with the smallest first and then the smallest second row is taken. The joined row, free at that input, stands in the first place, and
+ * the rows behind the second close up; then the next pair is looked for, from the first row on. The first `count` rows are left, no two of
+ * which join; each one behind them, to the end of the list, has mask 0, values 0 and word 0, and is room for further rows. The block is the
+ * same at each point under either type, so that no type is asked for. Whether the rows drive every column is not looked at. Refuses with 1,
+ * 2, 4, 6, 7. Promise: records::join_rows.
+ */
+irwystl_join_answer irwystl_records_join(size_t n, size_t k, irwystl_row *rows, size_t rows_length);
+
+/*
  * The full table of a list of 1 to 512 rows and at most 12 inputs; at points under no row it has IRWYSTL_NO_OUTPUT or 0, by the type.
  * table is room for at least 2^n entries. Refuses with 1, 2, 3 (type), 4, 5, 6, 7, 11. Promise: records::fill_table.
  */
@@ -292,6 +309,10 @@ irwystl_row_method_answer irwystl_row_method(size_t n, size_t k, size_t type, si
 irwystl_why_answer irwystl_why_not(size_t n, size_t k, size_t type, size_t w, size_t t, const uint32_t *masks, size_t masks_length,
                                    const uint32_t *values, size_t values_length, const uint32_t *words, size_t words_length,
                                    uint32_t *taken);
+
+/* The arrays are the list and not room: of unequal length they are refused with 4. Promise: joining::join_rows. */
+irwystl_join_answer irwystl_join(size_t n, size_t k, uint32_t *masks, size_t masks_length, uint32_t *values, size_t values_length,
+                                 uint32_t *words, size_t words_length);
 
 /* Promise: lists::fill_table. */
 irwystl_answer irwystl_fill_table(size_t n, size_t k, size_t type, const uint32_t *masks, size_t masks_length, const uint32_t *values,

@@ -214,13 +214,18 @@ static void is_table(const uint16_t *lent) {
     if (lent[i] != (i < expected.length ? expected.fields[0][i] : HELD_ENTRY)) differs = 1;
 }
 
-static void are_records(void) {
-  next_list(&expected);
+/* Puts what the records hold into the flat arrays. */
+static void from_records(void) {
   for (size_t i = 0; i < MOST; i++) {
     smaller[0][i] = smaller_rows[i].mask;
     smaller[1][i] = smaller_rows[i].values;
     smaller[2][i] = smaller_rows[i].word;
   }
+}
+
+static void are_records(void) {
+  next_list(&expected);
+  from_records();
   for (size_t field = 0; field < 3; field++) are(smaller[field], field);
 }
 
@@ -374,6 +379,30 @@ static void why(void) {
   is_why(irwystl_why_not(n, k, type, w, t, FLAT, basis), n);
 }
 
+/* The whole list is due, with the freed rows; with a refusal the list that was given. Beyond it the pattern stands. */
+static void is_joined(irwystl_join_answer r) {
+  answered(r.number, r.a, r.b);
+  is(r.count);
+  next_list(&expected);
+  if (expected.length == 0) expected = given;
+  for (size_t field = 0; field < 3; field++) are(smaller[field], field);
+}
+
+static void join(void) {
+  size_t n = next(), k = next();
+  next_list(&given);
+  as_rows(&given);
+  arrow();
+  lend();
+  memcpy(smaller_rows, rows, given.length * sizeof *rows);
+  irwystl_join_answer r = irwystl_records_join(n, k, smaller_rows, given.length);
+  from_records();
+  is_joined(r);
+  lend();
+  for (size_t field = 0; field < 3; field++) memcpy(smaller[field], given.fields[field], given.length * sizeof *smaller[field]);
+  is_joined(irwystl_join(n, k, smaller[0], given.length, smaller[1], given.length, smaller[2], given.length));
+}
+
 static void is_filled(irwystl_answer r) {
   answered(r.number, r.a, r.b);
   is_table(other_table);
@@ -483,7 +512,7 @@ static const struct {
                   {"row_method", row_method},   {"fill", fill},           {"restore", restore},
                   {"read", read_text},          {"write", write_text},    {"sheet", sheet},
                   {"spectrum", spectrum},       {"gray", gray},           {"symmetric", symmetric},
-                  {"why", why}};
+                  {"why", why},                 {"join", join}};
 
 static void run_line(const char *line) {
   size_t length = strcspn(line, " ");

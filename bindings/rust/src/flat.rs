@@ -1,8 +1,8 @@
 //! The operations on lists with rows in three flat slices: row i is `masks[i]`,
 //! `values[i]` and `words[i]`. Each does what the function of its name does on
-//! records. Given slices of unequal length are refused with 4; of slices that are
-//! room the shortest is the room. And the operations on models with what they say in
-//! slices of the caller's.
+//! records. Given slices of unequal length are refused with 4, and so are those of a
+//! list that is joined; of slices that are room the shortest is the room. And the
+//! operations on models with what they say in slices of the caller's.
 //!
 //! ```
 //! use irwystl::flat::{row_value, Rows};
@@ -20,7 +20,7 @@ pub struct Rows<'a> {
     pub words: &'a [u32],
 }
 
-/// Room for rows.
+/// Room for rows, or rows that are changed in place.
 #[derive(Debug)]
 pub struct Room<'a> {
     pub masks: &'a mut [u32],
@@ -115,6 +115,22 @@ pub fn why_not(
         )
     }
     .result(n, &taken)
+}
+
+pub fn join_rows(n: usize, k: usize, rows: Room<'_>) -> Result<usize, Refusal> {
+    unsafe {
+        raw::irwystl_join(
+            n,
+            k,
+            rows.masks.as_mut_ptr(),
+            rows.masks.len(),
+            rows.values.as_mut_ptr(),
+            rows.values.len(),
+            rows.words.as_mut_ptr(),
+            rows.words.len(),
+        )
+    }
+    .result()
 }
 
 pub fn fill_table(

@@ -17,7 +17,8 @@
 //!
 //! Any numbers and any slices may come in. Each call answers or is refused
 //! ([`Refusal`]), and no call panics. With a refusal all lent storage holds what it
-//! held; with an answer, what lies beyond the result holds what it held. A call
+//! held; with an answer, what lies beyond the result holds what it held, and in a list
+//! that is joined ([`join_rows`]) the rows that are freed are zeros. A call
 //! takes at most 1 MiB of stack. docs/PROMISES.md says what each operation
 //! promises; a function here has the promise of the operation of its name.
 
@@ -40,7 +41,7 @@ pub const MOST_TABLE_INPUTS: usize = 12;
 /// The most outputs.
 pub const MOST_OUTPUTS: usize = 15;
 
-/// The most rows given; [`fill_table`] takes [`SMALLER_ROWS`].
+/// The most rows given; [`fill_table`] and [`join_rows`] take [`SMALLER_ROWS`].
 pub const MOST_ROWS: usize = 128;
 
 /// The room for smaller rows, however few they are.
@@ -419,6 +420,32 @@ pub fn row_method(
         )
     }
     .result()
+}
+
+/// Joins rows of a list of 1 to 512, in place, and gives the number of rows that are left.
+/// While two rows have equal words, the same mask and values that differ in exactly one
+/// input, the pair with the smallest first and then the smallest second row is taken: the
+/// joined row, free at that input, stands in the first place, and the rows behind the second
+/// close up. The rows left stand at the front, no two of which join; each one behind them
+/// is all zeros. The block is the same at each point under either type, so that no type is
+/// asked for. Whether the rows drive every column is not looked at. Refuses with 1, 2, 4, 6
+/// and 7.
+///
+/// ```
+/// use irwystl::{join_rows, Refusal, Row};
+/// let row = |mask, values| Row { mask, values, word: 1 };
+/// // 00-, 010, 111 and 011: the second and the last are 01-, which joins with the first
+/// let mut rows = [row(6, 0), row(7, 2), row(7, 7), row(7, 3)];
+/// assert_eq!(join_rows(3, 1, &mut rows), Ok(2));
+/// // 0-- and 111, and two rows freed
+/// assert_eq!(rows, [row(4, 0), row(7, 7), Row::default(), Row::default()]);
+/// assert_eq!(join_rows(3, 1, &mut rows[..2]), Ok(2));
+/// // a freed row is one over all points
+/// let refused = join_rows(3, 1, &mut rows);
+/// assert_eq!(refused, Err(Refusal::SharedPoint { first: 0, second: 2 }));
+/// ```
+pub fn join_rows(n: usize, k: usize, rows: &mut [Row]) -> Result<usize, Refusal> {
+    unsafe { raw::irwystl_records_join(n, k, rows.as_mut_ptr(), rows.len()) }.result()
 }
 
 /// The full table of a list of 1 to 512 rows and at most 12 inputs. `table` is

@@ -67,6 +67,15 @@ pub struct WhyAnswer {
 
 #[repr(C)]
 #[derive(Clone, Copy, Debug, PartialEq, Eq)]
+pub struct JoinAnswer {
+    pub number: u32,
+    pub a: usize,
+    pub b: usize,
+    pub count: usize,
+}
+
+#[repr(C)]
+#[derive(Clone, Copy, Debug, PartialEq, Eq)]
 pub struct TextAnswer {
     pub number: u32,
     pub a: usize,
@@ -165,6 +174,12 @@ impl WhyAnswer {
             taken: taken.collect(),
         };
         result(self.number, self.a, self.b, why)
+    }
+}
+
+impl JoinAnswer {
+    pub(crate) fn result(self) -> Result<usize, Refusal> {
+        result(self.number, self.a, self.b, self.count)
     }
 }
 
@@ -311,6 +326,13 @@ extern "C" {
         taken: *mut u32,
     ) -> WhyAnswer;
 
+    pub fn irwystl_records_join(
+        n: usize,
+        k: usize,
+        rows: *mut Row,
+        rows_length: usize,
+    ) -> JoinAnswer;
+
     pub fn irwystl_records_fill_table(
         n: usize,
         k: usize,
@@ -411,6 +433,17 @@ extern "C" {
         words_length: usize,
         taken: *mut u32,
     ) -> WhyAnswer;
+
+    pub fn irwystl_join(
+        n: usize,
+        k: usize,
+        masks: *mut u32,
+        masks_length: usize,
+        values: *mut u32,
+        values_length: usize,
+        words: *mut u32,
+        words_length: usize,
+    ) -> JoinAnswer;
 
     pub fn irwystl_fill_table(
         n: usize,

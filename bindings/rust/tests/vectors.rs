@@ -246,6 +246,15 @@ impl Operations for Safe {
         why_of(why, taken)
     }
 
+    fn join(n: usize, k: usize, rows: FlatRoom) -> Answer<usize> {
+        answer(flat::join_rows(n, k, room_of(rows)), |left| left)
+    }
+
+    fn join_records(n: usize, k: usize, rows: &mut [Row]) -> Answer<usize> {
+        let left = lent(rows, |rows| irwystl::join_rows(n, k, rows));
+        answer(left, |left| left)
+    }
+
     fn fill(n: usize, k: usize, block_type: usize, rows: Flat, table: &mut [u16]) -> Answer<()> {
         answer(
             flat::fill_table(n, k, block_type, given(rows), table),
@@ -448,6 +457,17 @@ fn an_undriven_column_is_named_by_its_bit() {
 fn undriven_columns_are_refused_as_02_has_them() {
     for seed in 0..60 {
         demands::driven_columns::<Safe>(seed);
+    }
+}
+
+/// What 02, Ticket 9, says of joined lists.
+#[test]
+fn joined_lists_are_as_02_has_them() {
+    demands::small_joins::<Safe>();
+    for n in 1..=16 {
+        for seed in 0..if n < 13 { 12 } else { 3 } {
+            demands::joined::<Safe>(n, seed);
+        }
     }
 }
 

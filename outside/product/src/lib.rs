@@ -5,8 +5,8 @@
 //! that comes back is looked at.
 
 use irwystl::raw::{
-    self, ModelAnswer, ReadAnswer, RowMethodAnswer, TableMethodAnswer, TextAnswer, ValueAnswer,
-    WhyAnswer,
+    self, JoinAnswer, ModelAnswer, ReadAnswer, RowMethodAnswer, TableMethodAnswer, TextAnswer,
+    ValueAnswer, WhyAnswer,
 };
 use reference::{
     Answer, Flat, FlatRoom, Measures, ModelHead, Operations, Reason, Row, Smaller, TextHead,
@@ -65,6 +65,10 @@ fn why(r: WhyAnswer) -> Answer<Option<Reason>> {
         other => panic!("no reason, step and set: {other:?}"),
     };
     answer(r.number, r.a, r.b, reason)
+}
+
+fn rows_left(r: JoinAnswer) -> Answer<usize> {
+    answer(r.number, r.a, r.b, r.count)
 }
 
 fn bytes_written(r: TextAnswer) -> Answer<usize> {
@@ -350,6 +354,25 @@ impl Operations for Product {
                 taken.as_mut_ptr(),
             )
         })
+    }
+
+    fn join(n: usize, k: usize, rows: FlatRoom) -> Answer<usize> {
+        rows_left(unsafe {
+            raw::irwystl_join(
+                n,
+                k,
+                rows.masks.as_mut_ptr(),
+                rows.masks.len(),
+                rows.values.as_mut_ptr(),
+                rows.values.len(),
+                rows.words.as_mut_ptr(),
+                rows.words.len(),
+            )
+        })
+    }
+
+    fn join_records(n: usize, k: usize, rows: &mut [Row]) -> Answer<usize> {
+        rows_left(unsafe { raw::irwystl_records_join(n, k, lent(rows), rows.len()) })
     }
 
     fn fill(n: usize, k: usize, block_type: usize, rows: Flat, table: &mut [u16]) -> Answer<()> {

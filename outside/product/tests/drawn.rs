@@ -4,7 +4,8 @@
 //! for, and against the values that are counted; symmetric blocks with rooms near what
 //! they ask for, and what 02 asks to be shown of them; why each number of small blocks was
 //! not taken, and numbers of lists that pass 512 rows, and what 02 says of the reasons;
-//! what it says of columns that no row drives; models there and back, damaged, and with
+//! what it says of columns that no row drives; joined lists, each within a longer one, every
+//! small list, and what 02 says of them; models there and back, damaged, and with
 //! rooms near what they ask for; imports of drawn texts; then the cases with answers
 //! (outside/CASES.md). Lent storage holds a pattern before each call and is never cleared,
 //! so that a stray write shows. Each call of the product runs in a thread with 1 MiB of
@@ -15,15 +16,24 @@ use product::Product;
 use reference::data::{check_lists, check_models, check_operations, lists_past_512};
 use reference::inputs::{self, models, Case, LentRows, Random};
 use reference::{
-    demands, Fast, Operations, Plain, Row, FD, FR, MODEL_ROOM, ROW_INPUTS, SHEET_ROOM,
+    demands, Answer, Fast, FlatRoom, Operations, Plain, Row, FD, FR, MODEL_ROOM, ROW_INPUTS,
+    SHEET_ROOM,
 };
 use std::{env, thread};
 
 /// What the rooms of an import hold before the call.
 const HELD: u8 = 0xAB;
 
-/// What the room for the numbers that are taken holds before the call.
+/// What the room for the numbers that are taken holds before the call, and what stands
+/// around a list that is joined.
 const HELD_NUMBER: u32 = 0xABCD_1234;
+
+/// The same as a record.
+const HELD_ROW: Row = Row {
+    mask: HELD_NUMBER,
+    values: HELD_NUMBER,
+    word: HELD_NUMBER,
+};
 
 /// How many calls are drawn: IRWYSTL_DRAWS, or 4,000.
 fn draws() -> u64 {
@@ -272,6 +282,128 @@ fn reasons_are_as_02_has_them() {
 fn undriven_columns_are_refused_as_02_has_them() {
     for seed in 0..draws() / 10 {
         small_stack(move || demands::driven_columns::<Product>(seed));
+    }
+}
+
+/// How many entries of a longer list stand before a list, and how many behind it.
+const AROUND: usize = 9;
+
+/// The list within a longer one, which holds a pattern around it.
+fn longer<T: Copy>(list: &[T], held: T) -> Vec<T> {
+    [&[held; AROUND][..], list, &[held; AROUND]].concat()
+}
+
+/// The part of a longer list that is lent.
+fn lent_part<T>(longer: &mut [T]) -> &mut [T] {
+    let end = longer.len() - AROUND;
+    &mut longer[AROUND..end]
+}
+
+/// The list within a longer one, around which the pattern still stands.
+fn shorter<T: Copy + PartialEq>(longer: &[T], held: T) -> Vec<T> {
+    let (list, behind) = longer.split_at(longer.len() - AROUND);
+    let (before, list) = list.split_at(AROUND);
+    assert!(before.iter().chain(behind).all(|entry| *entry == held));
+    list.to_vec()
+}
+
+/// A list joined within a longer one, as flat slices, of any lengths.
+fn joined_flat([n, k]: [usize; 2], rows: &LentRows) -> (Answer<usize>, LentRows) {
+    let slices = [&rows.masks, &rows.values, &rows.words];
+    let mut lent = slices.map(|slice| longer(slice, HELD_NUMBER));
+    let [masks, values, words] = &mut lent;
+    let list = FlatRoom {
+        masks: lent_part(masks),
+        values: lent_part(values),
+        words: lent_part(words),
+    };
+    let got = Product::join(n, k, list);
+    let [masks, values, words] = lent.map(|slice| shorter(&slice, HELD_NUMBER));
+    let rows = LentRows {
+        masks,
+        values,
+        words,
+    };
+    (got, rows)
+}
+
+/// The same of records.
+fn joined_records([n, k]: [usize; 2], rows: &[Row]) -> (Answer<usize>, LentRows) {
+    let mut lent = longer(rows, HELD_ROW);
+    let got = Product::join_records(n, k, lent_part(&mut lent));
+    (got, LentRows::new(&shorter(&lent, HELD_ROW)))
+}
+
+/// A list joined within a longer one, in both forms, as another implementation has it.
+fn same_joined<O: Operations>(name: &str, numbers: [usize; 2], rows: &LentRows) -> Answer<usize> {
+    let mut due = rows.clone();
+    let answer = O::join(numbers[0], numbers[1], due.room());
+    assert!(
+        joined_flat(numbers, rows) == (answer, due.clone()),
+        "{name}"
+    );
+    if let Some(records) = rows.records() {
+        assert!(joined_records(numbers, &records) == (answer, due), "{name}");
+    }
+    answer
+}
+
+/// Drawn lists with many rows that join, and with each fault at times.
+#[test]
+fn drawn_lists_joined() {
+    for seed in 0..draws() {
+        let (numbers, rows) = inputs::joining_list(&mut Random::new(seed));
+        let name = format!("seed {seed}");
+        small_stack(move || same_joined::<Plain>(&name, numbers, &rows));
+    }
+}
+
+/// All points of 9 inputs with one word in their own order, in that of halves, which both
+/// end as one row, and in any; with the fewest and the most columns.
+#[test]
+fn all_points_joined() {
+    let random = &mut Random::new(9);
+    let mut points: Vec<u32> = (0..512).collect();
+    for turn in 0..8 {
+        let k = random.pick(&[1, 15]);
+        let word = random.word(k);
+        // Of 16 inputs any nine are fixed.
+        let shift = random.pick(&[0, 0, 7]);
+        let row = |&values: &u32| Row {
+            mask: 511 << shift,
+            values: values << shift,
+            word,
+        };
+        let rows: Vec<Row> = points.iter().map(row).collect();
+        let lent = LentRows::new(&rows);
+        let name = format!("turn {turn}");
+        let numbers = [if shift == 0 { 9 } else { 16 }, k];
+        let answer = small_stack(move || same_joined::<Fast>(&name, numbers, &lent));
+        assert_eq!(answer.number, 0);
+        assert_eq!(answer.results == 1, turn < 5);
+        points = match turn {
+            0..=3 => inputs::halved_points(random, 9),
+            _ => {
+                random.shuffle(&mut points);
+                points
+            }
+        };
+    }
+}
+
+/// Every list of few rows and inputs.
+#[test]
+fn small_lists_joined() {
+    small_stack(demands::small_joins::<Product>);
+}
+
+/// Joined lists are as 02, Ticket 9, has them.
+#[test]
+fn joined_lists_are_as_02_has_them() {
+    for n in 1..=16 {
+        for seed in 0..if n < 13 { 24 } else { 6 } {
+            small_stack(move || demands::joined::<Product>(n, seed));
+        }
     }
 }
 
