@@ -34,6 +34,9 @@ pub struct Call {
     pub name: String,
     /// Other calls that work out the same. Our time of each is shown beside this one.
     pub beside: Vec<Call>,
+    /// Whether the time of the plain operation, which is written to be read, is shown
+    /// beside too.
+    pub plainly: bool,
     cases: Vec<Case>,
     way: Way,
 }
@@ -51,6 +54,7 @@ impl Call {
         Call {
             name: name.into(),
             beside: Vec::new(),
+            plainly: false,
             cases,
             way: Way::Flat,
         }
@@ -76,6 +80,14 @@ impl Call {
     pub fn beside(self, calls: Vec<Call>) -> Call {
         Call {
             beside: calls,
+            ..self
+        }
+    }
+
+    /// The call with the plain operation beside it.
+    pub fn beside_plain(self) -> Call {
+        Call {
+            plainly: true,
             ..self
         }
     }

@@ -2,7 +2,9 @@
 
 use crate::calls::Call;
 use reference::inputs::models::rooms_due;
-use reference::inputs::{driven_text, hidden_rows, rows, table, Case, LentRows, Random};
+use reference::inputs::{
+    driven_text, halved_points, hidden_rows, rows, table, Case, LentRows, Random,
+};
 use reference::{
     Fast, Operations, Reason, Row, TextHead, FD, FR, MODEL_ROOM, OUTPUTS, ROW_INPUTS, SHEET_ROOM,
     SMALLER_ROWS,
@@ -19,6 +21,7 @@ pub struct Table {
 pub fn tables() -> Vec<Table> {
     vec![
         operations(),
+        joining(),
         spectra(),
         by_type(),
         text_parts(),
@@ -30,9 +33,7 @@ pub fn tables() -> Vec<Table> {
 
 /// Each operation on large inputs of type fr.
 fn operations() -> Table {
-    let few_words = list(16, 128, &[FR], &[3, 16], 256, |random| {
-        hidden_rows(random, 16, 15, 128)
-    });
+    let few_words = hidden();
     let one_word = list(16, 128, &[FR], &[3, 16], 128, |random| {
         worded(rows(random, 16, 15, 128), 0..1)
     });
@@ -101,6 +102,67 @@ fn operations() -> Table {
             Call::all("300 row texts to sheets", texts(300)),
         ],
     }
+}
+
+/// 128 rows of 16 inputs with hidden XORs, that have many smaller rows.
+fn hidden() -> LentRows {
+    list(16, 128, &[FR], &[3, 16], 256, |random| {
+        hidden_rows(random, 16, 15, 128)
+    })
+}
+
+/// Joining rows: all points of 9 inputs with one word, in an order in which they end as
+/// one row and in any; the 512 of which the last two alone join, so that every pair is
+/// looked at twice; the smaller rows of 128, and the 128. Beside stands plain Rust that
+/// looks for each pair anew, as 02 says it.
+fn joining() -> Table {
+    let random = &mut Random::new(9);
+    let halved = halved_points(random, 9);
+    let mut any: Vec<u32> = (0..512).collect();
+    let in_turn = any.clone();
+    random.shuffle(&mut any);
+    // The parity of a point differs from that of each neighbour.
+    let last_two = |x: u32| if x < 510 { x.count_ones() % 2 } else { 2 };
+    let rows = hidden();
+    let calls = [
+        ("512 points in halves", 9, points(&halved, |_| 1)),
+        ("512 points in any order", 9, points(&any, |_| 1)),
+        ("512 points, the last two", 9, points(&in_turn, last_two)),
+        ("smaller rows", 16, smaller(3, &rows)),
+        ("128 rows, 16 inputs", 16, rows),
+    ];
+    Table {
+        title: "joining rows",
+        calls: calls.map(|(name, n, rows)| join(name, n, rows)).into(),
+    }
+}
+
+/// Joining a list, with how many rows it has and ends as in its name.
+fn join(name: &str, n: usize, rows: LentRows) -> Call {
+    let given = rows.masks.len();
+    let case = Case::Join { n, k: 15, rows };
+    let left = case.clone().run::<Fast>().results[0];
+    Call::new(format!("{name}: {given} to {left}"), case).beside_plain()
+}
+
+/// These points of 9 inputs as rows, with their words.
+fn points(points: &[u32], word: impl Fn(u32) -> u32) -> LentRows {
+    let row = |&values: &u32| Row {
+        mask: 511,
+        values,
+        word: word(values),
+    };
+    LentRows::new(&points.iter().map(row).collect::<Vec<_>>())
+}
+
+/// The smaller rows of a list of 16 inputs.
+fn smaller(w: usize, rows: &LentRows) -> LentRows {
+    let mut smaller = vec![Row::default(); SMALLER_ROWS];
+    let [mut columns, mut sigma] = [[0; ROW_INPUTS]; 2];
+    let [t, s] = [&mut columns, &mut sigma];
+    let records = rows.records().expect("slices of equal length");
+    let found = Fast::row_method_records(16, 15, FR, w, &records, &mut smaller, t, s);
+    LentRows::new(&smaller[..found.results.rows])
 }
 
 /// R at every t of a table of 12 inputs with more and more words, each on as many

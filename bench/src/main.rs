@@ -13,8 +13,9 @@ use calls::Call;
 use inputs::Table;
 use print::Line;
 use product::Product;
-use reference::Fast;
+use reference::{Fast, Plain};
 use std::process::ExitCode;
+use std::time::Duration;
 
 fn main() -> ExitCode {
     let runs = match std::env::args().nth(1).map(|runs| runs.parse()) {
@@ -36,14 +37,19 @@ fn main() -> ExitCode {
     ExitCode::SUCCESS
 }
 
-/// The times of a call, the product's and Rust's, and the product's of those beside it.
+/// The times of a call, the product's and Rust's, the product's of those beside it, and
+/// the plain operation's where it is asked for.
 fn line(call: &Call, runs: usize) -> Line {
     let [rust, ours] = call.compare::<Fast, Product>(runs);
     let time = |call: &Call| (call.name.clone(), call.time::<Fast, Product>(runs));
+    let mut beside: Vec<(String, Duration)> = call.beside.iter().map(time).collect();
+    if call.plainly {
+        beside.push(("Rust as 02 says it".into(), call.time::<Fast, Plain>(runs)));
+    }
     Line {
         name: call.name.clone(),
         ours,
         rust,
-        beside: call.beside.iter().map(time).collect(),
+        beside,
     }
 }

@@ -7,12 +7,12 @@ pub struct Line {
     pub name: String,
     pub ours: Duration,
     pub rust: Duration,
-    /// Our times of other calls, each under its name.
+    /// Times of other calls or of another implementation, each under its name.
     pub beside: Vec<(String, Duration)>,
 }
 
 /// A table under its title: name, our time, Rust's time, how many times as long ours
-/// is, and our times of the calls beside, which have the same names in every line.
+/// is, and the times beside, which have the same names in every line.
 pub fn table(title: &str, lines: &[Line]) -> String {
     let names = lines.iter().map(|line| line.name.as_str());
     let width = names.chain([title]).map(str::len).max().unwrap_or(0);
