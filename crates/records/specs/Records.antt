@@ -1,9 +1,10 @@
 -- From arrays to records: what a function promises of the arrays that records were copied out to, the operation promises of the records,
 -- since it looks at no more of them than were copied (`Cut`); and where the arrays are copied in as records, these are what the operation
 -- stores. Assumes nothing.
-use mathlib.Core.Path.{_≡_, ap}
+use mathlib.Core.Path.{_≡_, refl, ap}
 use mathlib.Core.List.{List}
 use Prim.Native.Nat.{ℕ, min}
+use native.Mathlib.Omega.{arith}
 use lib.ListN.{length}
 use Rattle.block.specs.Words.{missing, ofRows}
 use Rattle.block.specs.Basis.{basisOf, sigmaOf}
@@ -13,6 +14,7 @@ use Rattle.block.specs.Text.{textOf, writeVerdict, writeText}
 use Rattle.block.specs.Sheet.{sheet, sheetVerdict, sheetText}
 use Rattle.block.specs.Model.{modelText, modelVerdict, writeModel}
 use Rattle.block.specs.Reasons.{whyVerdict, whyNot, whyNumbers}
+use Rattle.block.specs.Joins.{joinVerdict, join, joinedRoom}
 use Rattle.block.specs.declared.Row.{Row}
 use Rattle.block.specs.declared.Answer.{Answer}
 use Rattle.block.specs.declared.ValueAnswer.{ValueAnswer}
@@ -20,16 +22,18 @@ use Rattle.block.specs.declared.RowMethodAnswer.{RowMethodAnswer}
 use Rattle.block.specs.declared.TextAnswer.{TextAnswer}
 use Rattle.block.specs.declared.ReadAnswer.{ReadAnswer}
 use Rattle.block.specs.declared.WhyAnswer.{WhyAnswer}
+use Rattle.block.specs.declared.JoinAnswer.{JoinAnswer}
 use Rattle.promises.specs.Lent.{lentRecords}
 use Rattle.promises.specs.Lists.{RowValuePromise, RowMethodPromise, FillPromise}
 use Rattle.promises.specs.Reasons.{WhyNotPromise}
+use Rattle.promises.specs.Joins.{JoinPromise}
 use Rattle.promises.specs.Texts.{WritePromise, ReadPromise}
 use Rattle.promises.specs.Sheets.{SheetPromise}
 use Rattle.promises.specs.Models.{WriteModelPromise}
 use Rattle.record_copies.specs.declared.FlatRows.{FlatRows}
 use Rattle.record_copies.specs.Flat.{heldRows, Gathered, Scattered, listed, as-records}
-use Rattle.record_work.specs.Cut.{value-cut, fill-cut, filled-cut, write-cut, written-cut, method-cut, method-stored-cut, sheet-cut, sheet-stored-cut, why-cut, taken-cut, model-cut, model-stored-cut}
-use Rattle.record_copies.specs.Yielded.{lentArrays, yielded-stored}
+use Rattle.record_work.specs.Cut.{value-cut, fill-cut, filled-cut, write-cut, written-cut, method-cut, method-stored-cut, sheet-cut, sheet-stored-cut, why-cut, taken-cut, join-cut, joined-cut, model-cut, model-stored-cut}
+use Rattle.record_copies.specs.Yielded.{lentArrays, yielded-wider, yielded-stored}
 
 module _ (rs : List Row) {m : ℕ} {f : FlatRows} (e : m ≡ min (length rs) heldRows) (g : Gathered rs m f) where
   pub value-records : {n k y t : ℕ} {r : ValueAnswer} → RowValuePromise n k y t (listed f m) r → RowValuePromise n k y t rs r
@@ -97,6 +101,17 @@ module _ (rs : List Row) {m : ℕ} {f : FlatRows} (e : m ≡ min (length rs) hel
         smaller = as-records (λ l. stored (rowMethodVerdict n k y w l a b room) (smallerList (missing y) n w l) rows₀) rs e g
             (method-stored-cut n k y w a b room (smallerList (missing y) n w) rows₀ rs) (yielded-stored rows₀ rows₁ (p .smaller) c);
       }
+
+-- in place: the records that were copied out are those that the rows are copied in to
+pub join-records : {n k m : ℕ} {r : JoinAnswer} {f h : FlatRows} {count : ℕ} (rows₀ rows₁ : List Row) → m ≡ min (length rows₀) heldRows
+    → Gathered rows₀ m f → Scattered h count rows₀ rows₁ → JoinPromise n k (listed f m) (lentArrays m h count) r
+    → JoinPromise n k rows₀ (lentRecords rows₀ rows₁) r
+join-records {n} {k} rows₀ rows₁ e g c p =
+    record {
+      answer = as-records (join n k) rows₀ e g (join-cut n k rows₀) (p .answer);
+      rows = as-records (λ l. stored (joinVerdict n k l) (joinedRoom l) rows₀) rows₀ e g (joined-cut n k rows₀ rows₀)
+          (yielded-stored rows₀ rows₁ (yielded-wider refl (omega arith) (p .rows)) c);
+    }
 
 pub read-records : {text : List ℕ} {r : ReadAnswer} {h : FlatRows} {count : ℕ} (rows₀ rows₁ : List Row) → Scattered h count rows₀ rows₁
     → ReadPromise text (lentArrays (length rows₀) h count) r → ReadPromise text (lentRecords rows₀ rows₁) r

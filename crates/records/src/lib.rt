@@ -1,9 +1,10 @@
 // The operations on lists of rows for a caller that lends the rows as records, one record a row (01, Words and numbers): a single shift
-// value, the row method, why a number was not taken, filling a table, row text, written and read, the sheet and the model. Each takes any numbers
-// and any slices, and answers or refuses as 01 says; its promise speaks of the records themselves. The records are copied out into arrays (crate
-// record_copies), the work on these is that of the crates record_work, record_method, record_reasons and read_records, and rows that it made are
-// copied in. This crate holds nothing else.
+// value, the row method, why a number was not taken, joining, filling a table, row text, written and read, the sheet and the model. Each takes any
+// numbers and any slices, and answers or refuses as 01 says; its promise speaks of the records themselves. The records are copied out into arrays
+// (crate record_copies), the work on these is that of the crates record_work, record_method, record_reasons, record_joins and read_records, and
+// rows that it made are copied in. This crate holds nothing else.
 use block::Answer;
+use block::JoinAnswer;
 use block::LIST_INPUTS;
 use block::ReadAnswer;
 use block::Reading;
@@ -17,6 +18,7 @@ ghost use Rattle.block.specs.Reasons.{whyNumbers};
 ghost use Rattle.promises.specs.Lent.{lentRecords};
 ghost use Rattle.promises.specs.Lists.{RowValuePromise, RowMethodPromise, FillPromise};
 ghost use Rattle.promises.specs.Reasons.{WhyNotPromise};
+ghost use Rattle.promises.specs.Joins.{JoinPromise};
 ghost use Rattle.promises.specs.Texts.{WritePromise, ReadPromise};
 ghost use Rattle.promises.specs.Sheets.{SheetPromise};
 ghost use Rattle.promises.specs.Models.{WriteModelPromise};
@@ -68,6 +70,18 @@ pub fn why_not(
     let m = record_copies::fits(rows.len());
     let flat = record_copies::gather(rows, m);
     record_reasons::why_of(n, k, block_type, w, t, flat, m, taken)
+}
+
+// Joins the rows of a list, of up to 512 rows, in place: the joined rows are the first records, and each freed record is all zeros. Refuses with
+// 1, 2, 4, 6 and 7.
+pub fn join_rows(n: usize, k: usize, rows: &mut [Row]) -> JoinAnswer
+    ensures { λ r. ⌜ JoinPromise n k (now (rows .entry)) (lentRecords (now (rows .entry)) (now (rows .exit))) r ⌝ }
+{
+    let m = record_copies::fits(rows.len());
+    let flat = record_copies::gather(rows, m);
+    let done = record_joins::join_of(n, k, flat, m);
+    record_copies::scatter(done.flat, done.count, rows);
+    done.answer
 }
 
 // Fills the table of a list, of up to 512 rows. Refuses with 1, 2, 3 (the type), 4, 5 (2^n entries), 6, 7 and 11.
