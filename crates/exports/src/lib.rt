@@ -2,6 +2,7 @@
 // is passed as a pointer and then a length, an array as a pointer alone, and an answer comes back as a struct of numbers. The names begin
 // with irwystl_, those on rows that are lent as records with irwystl_records_. This crate holds nothing else.
 use block::Answer;
+use block::JoinAnswer;
 use block::LIST_INPUTS;
 use block::MODEL_ROOM;
 use block::ModelAnswer;
@@ -21,6 +22,7 @@ ghost use Rattle.promises.specs.Tables.{TableValuePromise, TableMethodPromise, 
 ghost use Rattle.promises.specs.Symmetric.{SymmetricBlockPromise, TableSymmetricPromise};
 ghost use Rattle.promises.specs.Lists.{RowValuePromise, RowMethodPromise, FillPromise};
 ghost use Rattle.promises.specs.Reasons.{WhyNotPromise};
+ghost use Rattle.promises.specs.Joins.{JoinPromise};
 ghost use Rattle.promises.specs.Texts.{WritePromise, ReadPromise};
 ghost use Rattle.promises.specs.Sheets.{SheetPromise, PrintPromise};
 ghost use Rattle.promises.specs.Models.{WriteModelPromise, ReadModelPromise, ModelValuePromise, PrintModelPromise};
@@ -187,6 +189,20 @@ pub extern "C" fn irwystl_why_not(
 }
 
 #[no_mangle]
+pub extern "C" fn irwystl_join(
+    n: usize,
+    k: usize,
+    masks: &mut [u32],
+    values: &mut [u32],
+    words: &mut [u32],
+) -> JoinAnswer
+    ensures { λ r. ⌜ JoinPromise n k (rowsOf (now (masks .entry)) (now (values .entry)) (now (words .entry)))
+        (lentFlat (now (masks .entry)) (now (values .entry)) (now (words .entry)) (now (masks .exit)) (now (values .exit)) (now (words .exit))) r ⌝ }
+{
+    joining::join_rows(n, k, masks, values, words)
+}
+
+#[no_mangle]
 pub extern "C" fn irwystl_fill_table(
     n: usize,
     k: usize,
@@ -297,6 +313,13 @@ pub extern "C" fn irwystl_records_why_not(
 {
     let why = records::why_not(n, k, block_type, w, t, rows, taken);
     reason_numbers::in_numbers(why)
+}
+
+#[no_mangle]
+pub extern "C" fn irwystl_records_join(n: usize, k: usize, rows: &mut [Row]) -> JoinAnswer
+    ensures { λ r. ⌜ JoinPromise n k (now (rows .entry)) (lentRecords (now (rows .entry)) (now (rows .exit))) r ⌝ }
+{
+    records::join_rows(n, k, rows)
 }
 
 #[no_mangle]
