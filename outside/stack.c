@@ -49,7 +49,7 @@ static uint32_t row_method(void) {
 static uint32_t why_not(void) { return irwystl_why_not(16, 7, type, 16, 3, FLAT, basis).number; }
 static uint32_t join(void) {
   for (uint32_t i = 0; i < JOINED; i++) smaller_masks[i] = JOINED - 1, smaller_values[i] = i, smaller_words[i] = 1;
-  return irwystl_join(16, 7, smaller_masks, JOINED, smaller_values, JOINED, smaller_words, JOINED).count != 1;
+  return irwystl_join_rows(16, 7, smaller_masks, JOINED, smaller_values, JOINED, smaller_words, JOINED).count != 1;
 }
 static uint32_t fill_table(void) { return irwystl_fill_table(12, 7, type, FLAT, made, POINTS).number; }
 static uint32_t write_text(void) {
@@ -68,7 +68,7 @@ static uint32_t records_row_method(void) {
 static uint32_t records_why_not(void) { return irwystl_records_why_not(16, 7, type, 16, 3, rows, ROWS, basis).number; }
 static uint32_t records_join(void) {
   for (uint32_t i = 0; i < JOINED; i++) smaller[i].mask = JOINED - 1, smaller[i].values = i, smaller[i].word = 1;
-  return irwystl_records_join(16, 7, smaller, JOINED).count != 1;
+  return irwystl_records_join_rows(16, 7, smaller, JOINED).count != 1;
 }
 static uint32_t records_fill_table(void) { return irwystl_records_fill_table(12, 7, type, rows, ROWS, made, POINTS).number; }
 static uint32_t records_write_text(void) { return irwystl_records_write_text(16, 7, type, 1, rows, ROWS, out, sizeof out).number; }

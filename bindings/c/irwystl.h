@@ -39,7 +39,7 @@ extern "C" {
 #define IRWYSTL_MOST_LIST_INPUTS 16  /* inputs of a list of rows, of row text, of a sheet and of a model */
 #define IRWYSTL_MOST_TABLE_INPUTS 12 /* inputs of a full table, and of a list that is filled into one */
 #define IRWYSTL_MOST_OUTPUTS 15
-#define IRWYSTL_MOST_ROWS 128     /* rows given; for irwystl_fill_table and irwystl_join 512 */
+#define IRWYSTL_MOST_ROWS 128     /* rows given; for irwystl_fill_table and irwystl_join_rows 512 */
 #define IRWYSTL_SMALLER_ROWS 512  /* the room for smaller rows, however few they are */
 #define IRWYSTL_TEXT_ROOM 4255    /* the bytes of the longest row text: the room for any */
 #define IRWYSTL_SHEET_ROOM 17518  /* the bytes of the longest sheet: the room for any */
@@ -249,7 +249,7 @@ irwystl_why_answer irwystl_records_why_not(size_t n, size_t k, size_t type, size
  * same at each point under either type, so that no type is asked for. Whether the rows drive every column is not looked at. Refuses with 1,
  * 2, 4, 6, 7. Promise: records::join_rows.
  */
-irwystl_join_answer irwystl_records_join(size_t n, size_t k, irwystl_row *rows, size_t rows_length);
+irwystl_join_answer irwystl_records_join_rows(size_t n, size_t k, irwystl_row *rows, size_t rows_length);
 
 /*
  * The full table of a list of 1 to 512 rows and at most 12 inputs; at points under no row it has IRWYSTL_NO_OUTPUT or 0, by the type.
@@ -311,7 +311,7 @@ irwystl_why_answer irwystl_why_not(size_t n, size_t k, size_t type, size_t w, si
                                    uint32_t *taken);
 
 /* The arrays are the list and not room: of unequal length they are refused with 4. Promise: joining::join_rows. */
-irwystl_join_answer irwystl_join(size_t n, size_t k, uint32_t *masks, size_t masks_length, uint32_t *values, size_t values_length,
+irwystl_join_answer irwystl_join_rows(size_t n, size_t k, uint32_t *masks, size_t masks_length, uint32_t *values, size_t values_length,
                                  uint32_t *words, size_t words_length);
 
 /* Promise: lists::fill_table. */

@@ -395,12 +395,12 @@ static void join(void) {
   arrow();
   lend();
   memcpy(smaller_rows, rows, given.length * sizeof *rows);
-  irwystl_join_answer r = irwystl_records_join(n, k, smaller_rows, given.length);
+  irwystl_join_answer r = irwystl_records_join_rows(n, k, smaller_rows, given.length);
   from_records();
   is_joined(r);
   lend();
   for (size_t field = 0; field < 3; field++) memcpy(smaller[field], given.fields[field], given.length * sizeof *smaller[field]);
-  is_joined(irwystl_join(n, k, smaller[0], given.length, smaller[1], given.length, smaller[2], given.length));
+  is_joined(irwystl_join_rows(n, k, smaller[0], given.length, smaller[1], given.length, smaller[2], given.length));
 }
 
 static void is_filled(irwystl_answer r) {

@@ -119,7 +119,7 @@ pub fn why_not(
 
 pub fn join_rows(n: usize, k: usize, rows: Room<'_>) -> Result<usize, Refusal> {
     unsafe {
-        raw::irwystl_join(
+        raw::irwystl_join_rows(
             n,
             k,
             rows.masks.as_mut_ptr(),

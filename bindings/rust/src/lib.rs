@@ -445,7 +445,7 @@ pub fn row_method(
 /// assert_eq!(refused, Err(Refusal::SharedPoint { first: 0, second: 2 }));
 /// ```
 pub fn join_rows(n: usize, k: usize, rows: &mut [Row]) -> Result<usize, Refusal> {
-    unsafe { raw::irwystl_records_join(n, k, rows.as_mut_ptr(), rows.len()) }.result()
+    unsafe { raw::irwystl_records_join_rows(n, k, rows.as_mut_ptr(), rows.len()) }.result()
 }
 
 /// The full table of a list of 1 to 512 rows and at most 12 inputs. `table` is

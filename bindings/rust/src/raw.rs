@@ -326,7 +326,7 @@ extern "C" {
         taken: *mut u32,
     ) -> WhyAnswer;
 
-    pub fn irwystl_records_join(
+    pub fn irwystl_records_join_rows(
         n: usize,
         k: usize,
         rows: *mut Row,
@@ -434,7 +434,7 @@ extern "C" {
         taken: *mut u32,
     ) -> WhyAnswer;
 
-    pub fn irwystl_join(
+    pub fn irwystl_join_rows(
         n: usize,
         k: usize,
         masks: *mut u32,

@@ -189,7 +189,7 @@ pub extern "C" fn irwystl_why_not(
 }
 
 #[no_mangle]
-pub extern "C" fn irwystl_join(
+pub extern "C" fn irwystl_join_rows(
     n: usize,
     k: usize,
     masks: &mut [u32],
@@ -316,7 +316,7 @@ pub extern "C" fn irwystl_records_why_not(
 }
 
 #[no_mangle]
-pub extern "C" fn irwystl_records_join(n: usize, k: usize, rows: &mut [Row]) -> JoinAnswer
+pub extern "C" fn irwystl_records_join_rows(n: usize, k: usize, rows: &mut [Row]) -> JoinAnswer
     ensures { λ r. ⌜ JoinPromise n k (now (rows .entry)) (lentRecords (now (rows .entry)) (now (rows .exit))) r ⌝ }
 {
     records::join_rows(n, k, rows)

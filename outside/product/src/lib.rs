@@ -358,7 +358,7 @@ impl Operations for Product {
 
     fn join(n: usize, k: usize, rows: FlatRoom) -> Answer<usize> {
         rows_left(unsafe {
-            raw::irwystl_join(
+            raw::irwystl_join_rows(
                 n,
                 k,
                 rows.masks.as_mut_ptr(),
@@ -372,7 +372,7 @@ impl Operations for Product {
     }
 
     fn join_records(n: usize, k: usize, rows: &mut [Row]) -> Answer<usize> {
-        rows_left(unsafe { raw::irwystl_records_join(n, k, lent(rows), rows.len()) })
+        rows_left(unsafe { raw::irwystl_records_join_rows(n, k, lent(rows), rows.len()) })
     }
 
     fn fill(n: usize, k: usize, block_type: usize, rows: Flat, table: &mut [u16]) -> Answer<()> {

@@ -1,4 +1,4 @@
--- `exports::irwystl_records_join` meets its contract: a walk of its MIR, by hand, over the laws of `Walk.antt` of crate record_copies. It is one
+-- `exports::irwystl_records_join_rows` meets its contract: a walk of its MIR, by hand, over the laws of `Walk.antt` of crate record_copies. It is one
 -- call, of `records::join_rows`, which promises the same. Assumes nothing.
 use Rattle.record_copies.proofs.Thin.{refl, [], _∷_, named, w64, vint, givenOf, _$_, !, whole, sub, no-more, uint-makes, now, slice-vals, cited, Lfts, typesAt, Knowns, a-num, a-mut-slice, B, framing, concludes, valsOf, made, held, none, arg, keeps, lends, asks, ends, so, id⊢}
 use denote.Struct.Laws as LL
@@ -10,15 +10,15 @@ use Rattle.block.proofs.JoinAnswer.Laws as An′
 use Rattle.records.proofs.join_rows as work
 use Rattle.records.proofs.join_rows.Symbol as work-def
 use Rattle.records.proofs.join_rows.Met as work-thm
-use Rattle.exports.proofs.irwystl_records_join.Key.{name as #self}
-use Rattle.exports.proofs.irwystl_records_join as f
-use Rattle.exports.proofs.irwystl_records_join.Statement as stated
-use Rattle.exports.proofs.irwystl_records_join.Code as code
+use Rattle.exports.proofs.irwystl_records_join_rows.Key.{name as #self}
+use Rattle.exports.proofs.irwystl_records_join_rows as f
+use Rattle.exports.proofs.irwystl_records_join_rows.Statement as stated
+use Rattle.exports.proofs.irwystl_records_join_rows.Code as code
 
 -- What is owned is counted after the 12 of the locals: [the token; n; k; rows]
-pub irwystl-records-join-spec : {M : Type 1} → stated.statement M
+pub irwystl-records-join-rows-spec : {M : Type 1} → stated.statement M
 unfolding code.routine
-irwystl-records-join-spec 𝓤 H 𝓜 𝓖 𝓡 =
+irwystl-records-join-rows-spec 𝓤 H 𝓜 𝓖 𝓡 =
     let A = 𝓖 .A in
     let W = givenOf 𝓤 H 𝓜 𝓖 in
     let num = a-num 𝓤 H A W w64 in
