@@ -1,4 +1,5 @@
 -- `row_checks::then_rows` meets its contract: 6 and 7 after the earlier answer, and then 11. Assumes nothing.
+use native.Mathlib.Omega.{arith}
 use denote.Ref.{now}
 use Rattle.block.specs.Limits.{smallerRows}
 use Rattle.block.specs.Words.{rowsOf}
@@ -14,7 +15,7 @@ then-disjoint-requires c κs = c .before .before .before .pre
 then-driven-requires : tie.Need-then-driven-requires
 then-driven-requires c κs h =
     let s = c .before .before .before .before in
-    s .pre (then-zero _ _ (zero-too (c .then-disjoint .ensures) h)) .columns .1
+    omega (arith, s .pre (then-zero _ _ (zero-too (c .then-disjoint .ensures) h)) .columns .1)
 
 returns : tie.Need-returns
 returns c =
