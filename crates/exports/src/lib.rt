@@ -10,6 +10,7 @@ use block::ReadAnswer;
 use block::Row;
 use block::RowMethodAnswer;
 use block::SHEET_ROOM;
+use block::TEXT_ROOM;
 use block::TableMethodAnswer;
 use block::TextAnswer;
 use block::ValueAnswer;
@@ -22,7 +23,7 @@ ghost use Rattle.promises.specs.Tables.{TableValuePromise, TableMethodPromise, 
 ghost use Rattle.promises.specs.Symmetric.{SymmetricBlockPromise, TableSymmetricPromise};
 ghost use Rattle.promises.specs.Lists.{RowValuePromise, RowMethodPromise, FillPromise};
 ghost use Rattle.promises.specs.Reasons.{WhyNotPromise};
-ghost use Rattle.promises.specs.Joins.{JoinPromise};
+ghost use Rattle.promises.specs.Joins.{JoinPromise, PrintJoinPromise};
 ghost use Rattle.promises.specs.Texts.{WritePromise, ReadPromise};
 ghost use Rattle.promises.specs.Sheets.{SheetPromise, PrintPromise};
 ghost use Rattle.promises.specs.Models.{WriteModelPromise, ReadModelPromise, ModelValuePromise, PrintModelPromise};
@@ -446,6 +447,13 @@ pub extern "C" fn irwystl_print_model(input: &[u8], out: &mut [u8; MODEL_ROOM]) 
     ensures { λ r. ⌜ PrintModelPromise (now (input .entry)) (now (out .entry)) r (now (out .exit)) ⌝ }
 {
     printing::print_model(input, out)
+}
+
+#[no_mangle]
+pub extern "C" fn irwystl_print_joined(input: &[u8], out: &mut [u8; TEXT_ROOM]) -> usize
+    ensures { λ r. ⌜ PrintJoinPromise (now (input .entry)) (now (out .entry)) r (now (out .exit)) ⌝ }
+{
+    printing::print_joined(input, out)
 }
 
 #[no_mangle]
