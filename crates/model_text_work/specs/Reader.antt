@@ -16,10 +16,9 @@ use Rattle.block.specs.declared.Headings.{Headings}
 use Rattle.block.specs.declared.Refusal.{Refusal}
 use Rattle.block.specs.declared.Reading.{Reading}
 use Rattle.block.specs.declared.Reading.the-variants.{Accepted, Refused}
-use Rattle.refusal_laws.specs.Verdicts.{then-refused}
+use Rattle.refusal_laws.specs.Verdicts.{then-refused, Written, not-written}
 use Rattle.text_work.specs.Work.{firstRows}
 use Rattle.text_work.specs.Reader.{reader-said, reader-some, reader-zero, reader-inputs, reader-outputs, reader-type, reader-rows}
-use Rattle.model_work.specs.Made.{Written, not-written}
 use Rattle.model_text_work.specs.Work.{modelInVerdict, modelIn}
 
 module _ (input text : List ℕ) (reading : Reading) (cut : text ≡ take readBytes input)

@@ -5,7 +5,7 @@ use mathlib.Core.Bool.{false, cond}
 use mathlib.Core.List.{List, []}
 use Prim.Native.Nat.{ℕ, _≤_, _<_}
 use native.Mathlib.Omega.{arith}
-use borrow.Author.Tests.{ne-eqb, lt-ltb, le-ltb}
+use borrow.Author.Tests.{lt-ltb, le-ltb}
 use lib.Dec.{ltb}
 use lib.ListN.{length, take, length-take}
 use Rattle.slices.specs.Places.{at, over}
@@ -14,28 +14,18 @@ use Rattle.block.specs.Words.{missing, ofRows}
 use Rattle.block.specs.Basis.{basisOf, sigmaOf}
 use Rattle.block.specs.Refusals.{check, answer, verdict, stored}
 use Rattle.block.specs.Lists.{methodChecks}
-use Rattle.block.specs.Text.{withBytes}
 use Rattle.block.specs.Model.{blockModel, modelText, modelVerdict, writeModel}
 use Rattle.block.specs.declared.Row.{Row}
 use Rattle.block.specs.declared.Answer.{Answer}
 use Rattle.block.specs.declared.TextAnswer.{TextAnswer}
 use Rattle.block.specs.declared.RowMethodAnswer.{RowMethodAnswer}
-use Rattle.refusal_laws.specs.Verdicts.{verdict-hit, verdict-miss, verdict-none, then-refused, then-answered}
+use Rattle.refusal_laws.specs.Verdicts.{verdict-hit, verdict-miss, verdict-none, then-refused, then-answered, Written, not-written}
 use Rattle.matrix_laws.specs.Candidate.{basis-independent}
 use Rattle.matrix_laws.specs.Inverse.{inverse-lt}
 use Rattle.flat_rows.specs.Listing.{rowsFrom}
 use Rattle.row_work.specs.Method.{MethodDone}
 use Rattle.row_work.specs.Left.{left-number, left-zero, left-ready, left-count, left-sigma, left-rows}
 use Rattle.put_chains.specs.Rows.{Below}
-
--- an answer with its bytes, and the slice, by a verdict
-abbrev pub Written : Answer → List ℕ → List ℕ → TextAnswer → List ℕ → Type 0
-Written v t l r l′ = (r ≡ withBytes v t) × (l′ ≡ stored v t l)
-
--- a refusal has no bytes and leaves the slice alone
-pub not-written : (u v : Answer) (t l : List ℕ) → u ≡ v → (u .number ≡ 0 → ⊥)
-    → Written v t l (record { number = u .number; a = u .a; b = u .b; count = 0 }) l
-not-written u v t l e h = rw (← e, ne-eqb (u .number) 0 h) (refl, refl)
 
 module _ {n k y w : ℕ} {rs : List Row} {t s m v d t′ s′ m′ v′ d′ : List ℕ} {r : RowMethodAnswer} (l : List ℕ)
     (g : MethodDone n k y w rs false t s m v d t′ s′ m′ v′ d′ r) where

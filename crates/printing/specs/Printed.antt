@@ -1,4 +1,4 @@
--- What the program prints, by the work of its text: the sheet or the model itself, or the line of the refusal. Assumes nothing.
+-- What the program prints, by the work of its text: the sheet, the model or the joined rows themselves, or the line of the refusal. Assumes nothing.
 use mathlib.Core.Path.{_≡_, refl, sym, ap, _∙_}
 use mathlib.Core.Bool.{Bool, true, false, cond}
 use mathlib.Core.List.{List}
@@ -11,12 +11,14 @@ use Rattle.slices.specs.Places.{over}
 use Rattle.block.specs.Refusals.{answer, answered, carried, stored}
 use Rattle.block.specs.Sheet.{refusalLine, orRefused, printedList, printed}
 use Rattle.block.specs.Model.{printedModelOf, printedModel}
+use Rattle.block.specs.Joins.{printedJoinOf, printedJoin}
 use Rattle.block.specs.declared.Answer.{Answer}
 use Rattle.refusal_laws.specs.Verdicts.{carried-yes, stored-yes, stored-no}
 use Rattle.put_bytes.specs.Puts.{Put, put-over}
 use Rattle.put_refusal.specs.Length.{refusalRoom, refusal-le}
 use Rattle.text_work.specs.Work.{textVerdict, sheetIn}
 use Rattle.model_text_work.specs.Work.{modelInVerdict, modelIn}
+use Rattle.join_text_work.specs.Work.{joinInVerdict, joinIn}
 
 -- a text or the line of a second refusal, or the line of a first, is by the verdict of both
 or-or : (u v : Answer) (t : List ℕ) → orRefused u (orRefused v t) ≡ orRefused (cond (answered u) v u) t
@@ -38,6 +40,11 @@ printed-by input = or-or _ _ _
 pub printed-model-by : (input : List ℕ) → printedModel input ≡ orRefused (modelInVerdict input) (modelIn input)
 unfolding printedModel printedModelOf modelInVerdict modelIn
 printed-model-by input = or-or _ _ _
+
+-- and with --join the joined rows
+pub printed-join-by : (input : List ℕ) → printedJoin input ≡ orRefused (joinInVerdict input) (joinIn input)
+unfolding printedJoin printedJoinOf joinInVerdict joinIn
+printed-join-by input = or-or _ _ _
 
 -- what is printed where the work of a text left l′ in l and says this number and these places, by the verdict u and the text t
 module _ (u : Answer) (t l l′ : List ℕ) (text : l′ ≡ stored u t l) (number a b : ℕ) (said : answer number a b ≡ u) where

@@ -1,8 +1,11 @@
-// What the program prints (01, the first section, and The sheet; 02, Ticket 4). Two functions, each of which looks at the first 8,192 bytes
-// of a text and writes to the front of lent room, with weight limit 3, or n where n is below 3: `print_text` the sheet of the text's rows,
-// `print_model` their model in BLIF; or the one line "refused N A B". Each answers the number of bytes. This crate holds nothing else.
+// What the program prints (01, the first section, and The sheet; 02, Tickets 4 and 9). Three functions, each of which looks at the first 8,192
+// bytes of a text and writes to the front of lent room: `print_text` the sheet of the text's rows and `print_model` their model in BLIF, both with
+// weight limit 3, or n where n is below 3, and `print_joined` the rows joined, as row text; or the one line "refused N A B". Each answers the
+// number of bytes. This crate holds nothing else.
 use block::MODEL_ROOM;
 use block::SHEET_ROOM;
+use block::TEXT_ROOM;
+ghost use Rattle.promises.specs.Joins.{PrintJoinPromise};
 ghost use Rattle.promises.specs.Models.{PrintModelPromise};
 ghost use Rattle.promises.specs.Sheets.{PrintPromise};
 
@@ -26,4 +29,15 @@ pub fn print_model(input: &[u8], out: &mut [u8; MODEL_ROOM]) -> usize
         return put_refusal::put_refusal(out, m.number, m.a, m.b);
     }
     m.count
+}
+
+// Prints the rows of a text joined, or the line that says why not: every byte, and how many.
+pub fn print_joined(input: &[u8], out: &mut [u8; TEXT_ROOM]) -> usize
+    ensures { λ r. ⌜ PrintJoinPromise (now (input .entry)) (now (out .entry)) r (now (out .exit)) ⌝ }
+{
+    let j = join_text_work::join_text(input, out);
+    if j.number != 0 {
+        return put_refusal::put_refusal(out, j.number, j.a, j.b);
+    }
+    j.count
 }

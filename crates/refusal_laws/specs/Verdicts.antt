@@ -14,7 +14,9 @@ use Rattle.slices.specs.Least.{first-is, first-below}
 use Rattle.block.specs.Refusals.{Check, check, answer, verdict, answered, andThen, carried, stored, some}
 use Rattle.block.specs.Tables.{withValue, withMeasures}
 use Rattle.block.specs.Lists.{withRows}
+use Rattle.block.specs.Text.{withBytes}
 use Rattle.block.specs.declared.Answer.{Answer}
+use Rattle.block.specs.declared.TextAnswer.{TextAnswer}
 
 -- ---- one check
 
@@ -209,3 +211,12 @@ kept v u s l e h = sym (stored-no v s l h) ∙ ap (λ (v : Answer). stored v s l
 
 pub given {ℓ} : {A : Type ℓ} (v u : Answer) (s l : List A) → v ≡ u → v .number ≡ 0 → over s l ≡ stored u s l
 given v u s l e h = sym (stored-yes v s l h) ∙ ap (λ (v : Answer). stored v s l) e
+
+-- an answer with a text's bytes, and the slice that it is written to, by a verdict
+abbrev pub Written : Answer → List ℕ → List ℕ → TextAnswer → List ℕ → Type 0
+Written v t l r l′ = (r ≡ withBytes v t) × (l′ ≡ stored v t l)
+
+-- a refusal has no bytes and leaves the slice alone
+pub not-written : (u v : Answer) (t l : List ℕ) → u ≡ v → (u .number ≡ 0 → ⊥)
+    → Written v t l (record { number = u .number; a = u .a; b = u .b; count = 0 }) l
+not-written u v t l e h = rw (← e, ne-eqb (u .number) 0 h) (refl, refl)

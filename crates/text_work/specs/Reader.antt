@@ -13,7 +13,7 @@ use Rattle.slices.specs.Filled.{tab-cong, tab-list}
 use Rattle.block.specs.Limits.{sheetRoom, givenRows, readBytes}
 use Rattle.block.specs.Words.{missing, row, rowsOf, maskPart, valuesPart, wordPart}
 use Rattle.block.specs.Refusals.{answer, verdict, stored}
-use Rattle.block.specs.Text.{typeIn, inputsIn, outputsIn, countIn, readChecks, readVerdict, readText, rowsIn, kindNumber, numbers}
+use Rattle.block.specs.Text.{typeLineIn, typeIn, inputsIn, outputsIn, countIn, readChecks, readVerdict, readText, rowsIn, kindNumber, numbers}
 use Rattle.block.specs.Lists.{methodChecks}
 use Rattle.block.specs.Sheet.{sheetText, sheetVerdict}
 use Rattle.block.specs.declared.Row.{Row}
@@ -42,14 +42,14 @@ kind-some Room e = omega arith
 kind-some Form e = omega arith
 
 -- an accepted text has at most as many rows as can be given
-count-le : (text : List ℕ) (room : ℕ) → readVerdict text room .number ≡ 0 → countIn text ≤ givenRows
+pub count-le : (text : List ℕ) (room : ℕ) → readVerdict text room .number ≡ 0 → countIn text ≤ givenRows
 unfolding readVerdict
 count-le text room e =
     let clear = answered-clear (readChecks text room) (refl, (refl, (refl, (refl, (refl, (refl, tt)))))) (eq-eqb _ 0 e) in
     inside 1 givenRows (countIn text) (clear 3 (omega arith)) .1
 
 -- the list whose masks, values and words lie in three slices is the list
-rows-parts : (rs : List Row)
+pub rows-parts : (rs : List Row)
     → rowsOf (map maskPart rs) (map valuesPart rs) (map wordPart rs) ≡ rs
 rows-parts rs =
     let masks : List ℕ = map maskPart rs in
@@ -134,6 +134,10 @@ module _ (input text : List ℕ) (reading : Reading) (cut : text ≡ take readBy
     pub reader-type : h .«block_type» ≡ typeIn text
     unfolding readText
     reader-type = ap (λ (x : ReadAnswer). x .«block_type») same ∙ carried-yes u (typeIn text) reader-zero
+
+    pub reader-line : h .«type_line» ≡ typeLineIn text
+    unfolding readText
+    reader-line = ap (λ (x : ReadAnswer). x .«type_line») same ∙ carried-yes u (typeLineIn text) reader-zero
 
     counted : h .count ≡ countIn text
     unfolding readText
