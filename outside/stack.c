@@ -76,6 +76,7 @@ static uint32_t records_read_text(void) { return irwystl_records_read_text(text,
 static uint32_t records_sheet(void) { return irwystl_records_sheet(16, 7, type, 16, rows, ROWS, out, sizeof out).number; }
 static uint32_t print_text(void) { return irwystl_print_text(text, text_length, out) == 0 || out[0] != 's'; }
 static uint32_t print_model(void) { return irwystl_print_model(text, text_length, model) == 0 || model[0] != '.'; }
+static uint32_t print_joined(void) { return irwystl_print_joined(text, text_length, out) == 0 || out[0] != '.'; }
 static uint32_t records_write_model(void) { return irwystl_records_write_model(16, 7, type, 16, rows, ROWS, model, sizeof model).number; }
 static uint32_t write_model(void) {
   irwystl_text_answer r = irwystl_write_model(16, 7, type, 16, FLAT, model, sizeof model);
@@ -149,6 +150,7 @@ int main(void) {
       {"print_text", print_text, 0},
       {"import_text", import_text, 0},
       {"print_model", print_model, 0},
+      {"print_joined", print_joined, 0},
       {"records_write_model", records_write_model, 0},
       {"write_model", write_model, 0},
       {"read_model", read_model, 0},

@@ -2,7 +2,8 @@
  * Irwystl from C: the sheet of a logic block, its model in BLIF, and every operation behind them.
  *
  * Link target/staticlib/libexports.a, which `rt staticlib exports` makes for x86-64; it asks for nothing but memcpy and memset. The
- * shortest uses are irwystl_print_text and irwystl_print_model, at the end: row text in, sheet or model out.
+ * shortest uses are irwystl_print_text, irwystl_print_model and irwystl_print_joined, at the end: row text in, and out its sheet, its model
+ * or row text with its rows joined.
  *
  * Words. A block has n inputs and k outputs. A point is a number below 2^n, input x0 its lowest bit. A row fixes some inputs and gives one
  * word, a number below 2^k. What a point under no row means goes by the block's type: under IRWYSTL_FR it has no output, under IRWYSTL_FD
@@ -361,7 +362,8 @@ irwystl_value_answer irwystl_model_value(size_t n, size_t k, size_t x, const uin
                                          size_t values_length);
 
 /* ---- from row text to its sheet or model, with weight limit 3, or n where the block has n < 3 inputs, and the type that the text tells:
- * IRWYSTL_FD without a type line. Any bytes may come in; at most 8,192 of them are looked at, and no longer text is accepted. */
+ * IRWYSTL_FD without a type line; and to its joined rows. Any bytes may come in; at most 8,192 of them are looked at, and no longer text is
+ * accepted. */
 
 /*
  * Writes to the front of out what the program prints, and returns how many bytes that is: the sheet, which begins with the word sheet, or
@@ -374,6 +376,13 @@ size_t irwystl_print_text(const uint8_t *text, size_t text_length, uint8_t *out)
  * .model block. out is room for IRWYSTL_MODEL_ROOM bytes. Promise: printing::print_model.
  */
 size_t irwystl_print_model(const uint8_t *text, size_t text_length, uint8_t *out);
+
+/*
+ * Writes row text with the rows joined, as irwystl_records_join_rows has them, to the front of out, or one line "refused N A B", where N is
+ * 1, 2, 4, 7 or 10, and returns how many bytes it is. The type line stands where it stood in the text. Row text begins with .i, and a refusal
+ * with the word refused. out is room for IRWYSTL_TEXT_ROOM bytes. Promise: printing::print_joined.
+ */
+size_t irwystl_print_joined(const uint8_t *text, size_t text_length, uint8_t *out);
 
 /*
  * One list of a bulk import: the sheet of the text, and the line that says what came of it, without its end: the name, and then

@@ -1,7 +1,8 @@
 /*
- * The operations on texts, called through irwystl.h, on the texts that are named, NAME.txt, each beside what the program prints for it,
- * NAME.sheet: printed and imported; read, written again and made a sheet of, with records and with flat arrays. Lent storage holds a
- * pattern before each call and is looked at in full after it. The status is 0 where every text has what is due.
+ * The operations on texts, called through irwystl.h, on the texts that are named, NAME.txt or NAME.pla, each beside what the program prints
+ * for it, NAME.sheet: printed and imported; read, written again and made a sheet of, with records and with flat arrays; and printed with its
+ * rows joined, beside what reading, joining and writing give. Lent storage holds a pattern before each call and is looked at in full after
+ * it. The status is 0 where every text has what is due.
  */
 #include "irwystl.h"
 
@@ -18,7 +19,7 @@ typedef struct bytes {
   size_t length;
 } bytes;
 
-static bytes text, due, out, line, due_line;
+static bytes text, due, out, line, due_line, joined;
 static irwystl_row rows[IRWYSTL_MOST_ROWS];
 static uint32_t flat[3][IRWYSTL_MOST_ROWS];
 static const char *file;
@@ -156,12 +157,54 @@ static void with_flat_arrays(void) {
   is_sheet("irwystl_sheet", irwystl_sheet(r.n, r.k, r.type, limit_of(r.n), FLAT, out.at, IRWYSTL_SHEET_ROOM));
 }
 
-/* NAME.sheet for NAME.txt */
+static void is_joined(const char *what, const uint8_t *front, size_t length) {
+  lend(&out);
+  size_t count = irwystl_print_joined(text.at, text.length, out.at);
+  if (count != length || !holds(&out, front, length)) differs(what);
+}
+
+/*
+ * The row text due has the rows that are left of a list that was read and joined. Where the text can't be read, or rows share a point, the
+ * line due is that of the sheet; 9 and 11 are no refusals here.
+ */
+static void join_records(void) {
+  irwystl_read_answer r = irwystl_records_read_text(text.at, text.length, rows, IRWYSTL_MOST_ROWS);
+  irwystl_join_answer left = irwystl_records_join_rows(r.n, r.k, rows, r.count);
+  if (r.number != 0 || left.number != 0) {
+    if (r.number == 0) is_refusal("irwystl_records_join_rows", left.number, left.a, left.b);
+    is_joined("irwystl_print_joined", due.at, due.length);
+    return;
+  }
+  lend(&joined);
+  irwystl_text_answer w =
+      irwystl_records_write_text(r.n, r.k, r.type, r.type_line, rows, left.count, joined.at, IRWYSTL_TEXT_ROOM);
+  if (w.number != 0) differs("irwystl_records_write_text of joined rows");
+  is_joined("irwystl_print_joined", joined.at, w.count);
+}
+
+/* The same with flat arrays. */
+static void join_flat_arrays(void) {
+  irwystl_read_answer r = irwystl_read_text(text.at, text.length, flat[0], IRWYSTL_MOST_ROWS, flat[1], IRWYSTL_MOST_ROWS, flat[2],
+                                            IRWYSTL_MOST_ROWS);
+  irwystl_join_answer left = irwystl_join_rows(r.n, r.k, FLAT);
+  if (r.number != 0 || left.number != 0) {
+    if (r.number == 0) is_refusal("irwystl_join_rows", left.number, left.a, left.b);
+    return;
+  }
+  lend(&joined);
+  r.count = left.count;
+  irwystl_text_answer w = irwystl_write_text(r.n, r.k, r.type, r.type_line, FLAT, joined.at, IRWYSTL_TEXT_ROOM);
+  if (w.number != 0) differs("irwystl_write_text of joined rows");
+  is_joined("irwystl_print_joined beside flat arrays", joined.at, w.count);
+}
+
+/* NAME.sheet for NAME.txt or NAME.pla */
 static void load_due(void) {
   static char name[4096];
   size_t length = strlen(file);
-  if (length < 4 || length > sizeof name - 4 || strcmp(file + length - 4, ".txt") != 0) {
-    printf("%s is no .txt\n", file);
+  const char *end = length < 4 ? "" : file + length - 4;
+  if (length > sizeof name - 4 || (strcmp(end, ".txt") != 0 && strcmp(end, ".pla") != 0)) {
+    printf("%s is no .txt or .pla\n", file);
     exit(1);
   }
   memcpy(name, file, length - 4);
@@ -179,6 +222,8 @@ int main(int count, char **names) {
     import();
     with_records();
     with_flat_arrays();
+    join_records();
+    join_flat_arrays();
     texts++;
   }
   printf("C: %lu texts, %lu answers that are not those due\n", texts, wrong);

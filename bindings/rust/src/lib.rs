@@ -606,6 +606,22 @@ pub fn print_model(text: &[u8], out: &mut [u8; MODEL_ROOM]) -> usize {
     unsafe { raw::irwystl_print_model(text.as_ptr(), text.len(), out.as_mut_ptr()) }
 }
 
+/// Writes row text with the rows of a text joined, as [`join_rows`] has them, to the
+/// front of `out`, and gives the number of its bytes; or else one line "refused N A B".
+/// The type line stands where it stood in the text.
+///
+/// ```
+/// let mut out = [0; irwystl::TEXT_ROOM];
+/// let text = b".i 2\n.o 1\n.type fr\n.p 3\n00 1\n11 0\n01 1\n.e\n";
+/// let count = irwystl::print_joined(text, &mut out);
+/// assert_eq!(&out[..count], b".i 2\n.o 1\n.type fr\n.p 2\n0- 1\n11 0\n.e\n");
+/// let count = irwystl::print_joined(b"", &mut out);
+/// assert_eq!(&out[..count], b"refused 10 1 0\n");
+/// ```
+pub fn print_joined(text: &[u8], out: &mut [u8; TEXT_ROOM]) -> usize {
+    unsafe { raw::irwystl_print_joined(text.as_ptr(), text.len(), out.as_mut_ptr()) }
+}
+
 /// One list of an import: the sheet of a text, with the weight limit of
 /// [`print_text`], and the line that says what came of it, without its end.
 ///

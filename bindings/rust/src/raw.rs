@@ -546,6 +546,8 @@ extern "C" {
 
     pub fn irwystl_print_model(text: *const u8, text_length: usize, out: *mut u8) -> usize;
 
+    pub fn irwystl_print_joined(text: *const u8, text_length: usize, out: *mut u8) -> usize;
+
     pub fn irwystl_import_text(
         name: *const u8,
         name_length: usize,

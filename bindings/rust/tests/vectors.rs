@@ -2,10 +2,10 @@
 //! drawn calls against the independent implementation: answers and all lent storage.
 
 use irwystl::flat::{self, Room, Rows};
-use irwystl::{Headings, Refusal, Why, MODEL_ROOM, SHEET_ROOM};
-use reference::data::{check_lists, check_models, check_operations};
+use irwystl::{Headings, Refusal, Why, MODEL_ROOM, SHEET_ROOM, TEXT_ROOM};
+use reference::data::{check_lists, check_models, check_operations, texts};
 use reference::demands;
-use reference::inputs::{models, Case, Random};
+use reference::inputs::{any_joining_text, models, Case, Random};
 use reference::{Answer, Flat, FlatRoom, Measures, ModelHead, Operations, Plain, Reason, Row};
 use reference::{Smaller, TextHead, ROW_INPUTS};
 
@@ -403,6 +403,12 @@ impl Operations for Safe {
         let count = irwystl::print_model(input, &mut out);
         out[..count].to_vec()
     }
+
+    fn print_joined(input: &[u8]) -> Vec<u8> {
+        let mut out = [0; TEXT_ROOM];
+        let count = irwystl::print_joined(input, &mut out);
+        out[..count].to_vec()
+    }
 }
 
 #[test]
@@ -468,6 +474,41 @@ fn joined_lists_are_as_02_has_them() {
         for seed in 0..if n < 13 { 12 } else { 3 } {
             demands::joined::<Safe>(n, seed);
         }
+    }
+}
+
+/// What is printed of a text's joined rows is what reading, joining and writing give, and
+/// what the independent implementation prints.
+fn printed_joined(name: &str, text: &[u8]) {
+    let mut rows = [irwystl::Row::default(); irwystl::MOST_ROWS];
+    let mut out = [0; TEXT_ROOM];
+    let written = irwystl::read_text(text, &mut rows).and_then(|told| {
+        let rows = &mut rows[..told.count];
+        let left = irwystl::join_rows(told.n, told.k, rows)?;
+        let [block_type, line] = [told.block_type, told.type_line];
+        irwystl::write_text(told.n, told.k, block_type, line, &rows[..left], &mut out)
+    });
+    let due = match written {
+        Ok(count) => out[..count].to_vec(),
+        Err(refusal) => {
+            let (number, a, b) = refusal.numbers();
+            format!("refused {number} {a} {b}\n").into_bytes()
+        }
+    };
+    let printed = demands::printed_joined::<Safe>(name, text);
+    assert_eq!(printed.as_bytes(), due, "{name}");
+    assert_eq!(printed.as_bytes(), Plain::print_joined(text), "{name}");
+}
+
+/// The texts with answers, and drawn ones.
+#[test]
+fn joined_texts_are_as_02_has_them() {
+    for (path, text) in texts() {
+        printed_joined(&path.display().to_string(), &text);
+    }
+    for seed in 0..600 {
+        let text = any_joining_text(&mut Random::new(seed));
+        printed_joined(&format!("seed {seed}"), &text);
     }
 }
 

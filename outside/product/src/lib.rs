@@ -10,7 +10,7 @@ use irwystl::raw::{
 };
 use reference::{
     Answer, Flat, FlatRoom, Measures, ModelHead, Operations, Reason, Row, Smaller, TextHead,
-    MODEL_ROOM, ROW_INPUTS, SHEET_ROOM,
+    MODEL_ROOM, ROW_INPUTS, SHEET_ROOM, TEXT_ROOM,
 };
 
 /// The product.
@@ -639,6 +639,14 @@ impl Operations for Product {
         let mut out = vec![0; MODEL_ROOM];
         let count =
             unsafe { raw::irwystl_print_model(input.as_ptr(), input.len(), out.as_mut_ptr()) };
+        out.truncate(count);
+        out
+    }
+
+    fn print_joined(input: &[u8]) -> Vec<u8> {
+        let mut out = vec![0; TEXT_ROOM];
+        let count =
+            unsafe { raw::irwystl_print_joined(input.as_ptr(), input.len(), out.as_mut_ptr()) };
         out.truncate(count);
         out
     }

@@ -5,23 +5,23 @@
 //! they ask for, and what 02 asks to be shown of them; why each number of small blocks was
 //! not taken, and numbers of lists that pass 512 rows, and what 02 says of the reasons;
 //! what it says of columns that no row drives; joined lists, each within a longer one, every
-//! small list, and what 02 says of them; models there and back, damaged, and with
-//! rooms near what they ask for; imports of drawn texts; then the cases with answers
-//! (outside/CASES.md). Lent storage holds a pattern before each call and is never cleared,
+//! small list, and what 02 says of them; texts with their rows joined, in room within a
+//! longer one; models there and back, damaged, and with rooms near what they ask for;
+//! imports of drawn texts; then the cases with answers (outside/CASES.md). Lent storage holds a pattern before each call and is never cleared,
 //! so that a stray write shows. Each call of the product runs in a thread with 1 MiB of
 //! stack.
 
-use irwystl::{import_text, LINE_ROOM};
+use irwystl::{import_text, print_joined, LINE_ROOM};
 use product::Product;
-use reference::data::{check_lists, check_models, check_operations, lists_past_512};
+use reference::data::{check_lists, check_models, check_operations, lists_past_512, texts};
 use reference::inputs::{self, models, Case, LentRows, Random};
 use reference::{
     demands, Answer, Fast, FlatRoom, Operations, Plain, Row, FD, FR, MODEL_ROOM, ROW_INPUTS,
-    SHEET_ROOM,
+    SHEET_ROOM, TEXT_ROOM,
 };
 use std::{env, thread};
 
-/// What the rooms of an import hold before the call.
+/// What the rooms of an import and of joined text hold before the call.
 const HELD: u8 = 0xAB;
 
 /// What the room for the numbers that are taken holds before the call, and what stands
@@ -404,6 +404,45 @@ fn joined_lists_are_as_02_has_them() {
         for seed in 0..if n < 13 { 24 } else { 6 } {
             small_stack(move || demands::joined::<Product>(n, seed));
         }
+    }
+}
+
+/// What is printed of a text's joined rows, as the plain operation has it, in room within a
+/// longer one. What is not printed holds what it held.
+fn same_printed_joined(name: &str, text: &[u8]) {
+    let mut longer = [[HELD; TEXT_ROOM]; 3];
+    let [before, room, after] = &mut longer;
+    let count = print_joined(text, room);
+    assert!(count <= TEXT_ROOM, "{name}");
+    let (printed, beyond) = room.split_at(count);
+    let due = Plain::print_joined(text);
+    assert_eq!(
+        String::from_utf8_lossy(printed),
+        String::from_utf8_lossy(&due),
+        "{name}"
+    );
+    let rest = before.iter().chain(beyond).chain(after.iter());
+    assert!(rest.copied().all(|byte| byte == HELD), "{name}");
+}
+
+/// Drawn texts with many rows that join, whole and damaged.
+#[test]
+fn drawn_texts_joined() {
+    for seed in 0..draws() {
+        let text = inputs::any_joining_text(&mut Random::new(seed));
+        small_stack(move || same_printed_joined(&format!("seed {seed}"), &text));
+    }
+}
+
+/// The texts with answers, joined, and what 02, Ticket 9, says of the rows.
+#[test]
+fn joined_texts_are_as_02_has_them() {
+    for (path, text) in texts() {
+        small_stack(move || {
+            let name = path.display().to_string();
+            same_printed_joined(&name, &text);
+            demands::printed_joined::<Product>(&name, &text);
+        });
     }
 }
 

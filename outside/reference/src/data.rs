@@ -590,41 +590,45 @@ pub fn check_models<O: Operations>() {
     assert_eq!([models, refused, bad], [36, 10, 43]);
 }
 
-/// Every text of `crates/run_texts/data` has the sheet, or the refusal, that stands beside it.
-pub fn check_lists<O: Operations>() {
-    let mut count = 0;
+/// The texts of `crates/run_texts/data`, each after its file.
+pub fn texts() -> Vec<(PathBuf, Vec<u8>)> {
+    let mut texts = Vec::new();
     for entry in fs::read_dir(from_here("../../crates/run_texts/data")).unwrap() {
         let path = entry.unwrap().path();
         if path.extension().map_or(false, |end| end == "txt") {
             let text = fs::read(&path).unwrap();
-            let due = fs::read(path.with_extension("sheet")).unwrap();
-            let printed = O::program(&text);
-            assert_eq!(
-                String::from_utf8_lossy(&printed),
-                String::from_utf8_lossy(&due),
-                "{}",
-                path.display()
-            );
-            count += 1;
+            texts.push((path, text));
         }
     }
-    assert_eq!(count, 319);
+    assert_eq!(texts.len(), 319);
+    texts
+}
+
+/// Every text of `crates/run_texts/data` has the sheet, or the refusal, that stands beside it.
+pub fn check_lists<O: Operations>() {
+    for (path, text) in texts() {
+        let due = fs::read(path.with_extension("sheet")).unwrap();
+        let printed = O::program(&text);
+        assert_eq!(
+            String::from_utf8_lossy(&printed),
+            String::from_utf8_lossy(&due),
+            "{}",
+            path.display()
+        );
+    }
 }
 
 /// The lists of `crates/run_texts/data` whose smaller rows pass 512 with weight limit 3, so
 /// that 9 stands beside their texts, with what these tell.
 pub fn lists_past_512() -> Vec<(TextHead, Vec<Row>)> {
     let mut lists = Vec::new();
-    for entry in fs::read_dir(from_here("../../crates/run_texts/data")).unwrap() {
-        let path = entry.unwrap().path();
-        if path.extension().map_or(false, |end| end == "txt") {
-            let printed = fs::read_to_string(path.with_extension("sheet")).unwrap();
-            if printed.starts_with("refused 9 ") {
-                let mut rows = vec![Row::default(); ROWS];
-                let head = read_text(&fs::read(&path).unwrap(), &mut rows[..]).results;
-                rows.truncate(head.rows);
-                lists.push((head, rows));
-            }
+    for (path, text) in texts() {
+        let printed = fs::read_to_string(path.with_extension("sheet")).unwrap();
+        if printed.starts_with("refused 9 ") {
+            let mut rows = vec![Row::default(); ROWS];
+            let head = read_text(&text, &mut rows[..]).results;
+            rows.truncate(head.rows);
+            lists.push((head, rows));
         }
     }
     assert_eq!(lists.len(), 19);

@@ -1,7 +1,8 @@
 //! What 02 asks to be shown of answers together, on inputs from a seed, for any
 //! implementation: symmetric blocks (Ticket 6), why a number was not taken (Ticket
-//! 7), columns that no row drives (Ticket 8), and joined lists (Ticket 9). Not here: the
-//! demands on both methods, which are in tests/agree.rs.
+//! 7), columns that no row drives (Ticket 8), and joined lists (Ticket 9), what is printed
+//! of them among these, on any text. Not here: the demands on both methods, which are in
+//! tests/agree.rs.
 
 use crate::inputs::{self, LentRows, Random};
 use crate::{checks, matrix, missing, symmetric, Fast, Measures, Operations, Plain, Reason, Row};
@@ -285,6 +286,34 @@ pub fn small_joins<O: Operations>() {
             }
         }
     }
+}
+
+/// What is printed of a text's joined rows, which is given. The text is refused where its
+/// sheet is, but for 9 and 11, and with the same line. Else row text is printed, which
+/// begins as the text does, up to its number of rows, and which is printed again as it is.
+/// The block is the same, so that the sheet is too, up to its table, and so is 11. The
+/// sheets are the fast operation's, for the plain one takes long.
+pub fn printed_joined<O: Operations>(name: &str, text: &[u8]) -> String {
+    let string = |bytes: Vec<u8>| String::from_utf8(bytes).expect("ASCII");
+    let sheet = string(Fast::program(text));
+    let printed = string(O::print_joined(text));
+    let [passed, undriven] = ["refused 9 ", "refused 11 "].map(|line| sheet.starts_with(line));
+    if sheet.starts_with("refused") && !passed && !undriven {
+        assert_eq!(printed, sheet, "{name}");
+        return printed;
+    }
+    let (front, _) = printed.split_once(".p ").expect("row text");
+    assert!(text.starts_with(format!("{front}.p ").as_bytes()), "{name}");
+    assert!(printed.len() <= text.len(), "{name}");
+    let again = string(O::print_joined(printed.as_bytes()));
+    assert_eq!(again, printed, "{name}");
+
+    let after = string(Fast::program(printed.as_bytes()));
+    let up_to_table = |sheet: &str| sheet.split("table ").next().map(str::to_string);
+    if !passed && !after.starts_with("refused 9 ") {
+        assert_eq!(up_to_table(&after), up_to_table(&sheet), "{name}");
+    }
+    printed
 }
 
 /// The rows that are left of an answered list, and the records that are freed, which are

@@ -31,7 +31,7 @@ mod symmetric;
 
 pub use crate::table::table_value;
 pub use crate::text::{read_text, write_text};
-pub use joining::join;
+pub use joining::{join, print_joined};
 pub use model::{model_value, print_model, read_model, write_model};
 pub use reasons::why_not;
 pub use spectrum::table_spectrum;

@@ -450,18 +450,32 @@ pub fn text_of(head: TextHead, rows: &[Row]) -> Vec<u8> {
 /// share points, and they may leave columns undriven.
 pub fn text(random: &mut Random) -> Vec<u8> {
     let undriven = random.one_in(8);
-    text_with(random, undriven)
+    text_with(random, undriven, any_rows)
 }
 
 /// The same with every column driven, for timing.
 pub fn driven_text(random: &mut Random) -> Vec<u8> {
-    text_with(random, false)
+    text_with(random, false, any_rows)
 }
 
-fn text_with(random: &mut Random, undriven: bool) -> Vec<u8> {
+/// The same with many rows that join.
+pub fn joining_text(random: &mut Random) -> Vec<u8> {
+    let undriven = random.one_in(8);
+    text_with(random, undriven, |random, n, k, most| {
+        let count = any_count(random, most);
+        split_rows(random, n, k, count)
+    })
+}
+
+/// A row text whose rows are drawn so, for n, k and the most of them.
+fn text_with(
+    random: &mut Random,
+    undriven: bool,
+    draw: impl Fn(&mut Random, usize, usize, usize) -> Vec<Row>,
+) -> Vec<u8> {
     let n = random.between(1, ROW_INPUTS);
     let k = random.between(1, OUTPUTS);
-    let mut rows = any_rows(random, n, k, ROWS);
+    let mut rows = draw(random, n, k, ROWS);
     if undriven {
         undrive(random, k, &mut rows);
     }
@@ -482,7 +496,12 @@ fn text_with(random: &mut Random, undriven: bool) -> Vec<u8> {
 
 /// A row text with one to three damages, which may undo each other.
 pub fn damaged_text(random: &mut Random) -> Vec<u8> {
-    let mut text = text(random);
+    let text = text(random);
+    damaged(random, text)
+}
+
+/// The text with these damages.
+fn damaged(random: &mut Random, mut text: Vec<u8>) -> Vec<u8> {
     for _ in 0..random.pick(&[1, 1, 1, 2, 3]) {
         damage(random, &mut text);
     }
@@ -826,13 +845,16 @@ pub enum Case {
     PrintModel {
         input: Vec<u8>,
     },
+    PrintJoined {
+        input: Vec<u8>,
+    },
 }
 
 impl Case {
     /// The case of a seed.
     pub fn new(seed: u64) -> Case {
         let random = &mut Random::new(seed);
-        match random.below(19) {
+        match random.below(20) {
             0 => {
                 let ([n, k, block_type], table) = any_table(random);
                 let t = number(random, 0, (1 << n.min(16)) - 1);
@@ -1075,10 +1097,13 @@ impl Case {
                     taken: [(); ROW_INPUTS].map(|()| random.word(32)),
                 }
             }
-            _ => {
+            18 => {
                 let ([n, k], rows) = joining_list(random);
                 Case::Join { n, k, rows }
             }
+            _ => Case::PrintJoined {
+                input: any_joining_text(random),
+            },
         }
     }
 
@@ -1269,6 +1294,10 @@ impl Case {
             ),
             Case::PrintModel { input } => {
                 *input = O::print_model(input);
+                Answer::default()
+            }
+            Case::PrintJoined { input } => {
+                *input = O::print_joined(input);
                 Answer::default()
             }
         }
@@ -1583,6 +1612,19 @@ fn any_text(random: &mut Random) -> Vec<u8> {
         text(random)
     } else {
         damaged_text(random)
+    }
+}
+
+/// A text whose rows are to be joined, mostly with many that join, whole or damaged.
+pub fn any_joining_text(random: &mut Random) -> Vec<u8> {
+    let text = match random.below(4) {
+        0 => text(random),
+        _ => joining_text(random),
+    };
+    if random.one_in(2) {
+        text
+    } else {
+        damaged(random, text)
     }
 }
 

@@ -1,8 +1,11 @@
 //! Joining rows afterwards, in place (02, Ticket 9): the pair is looked for anew from the
 //! first row after each join, as 02 says it. No type is asked for: the block is the same
-//! at each point under either.
+//! at each point under either. And what the program prints of it.
 
-use crate::{checks, Answer, List, Refusal, Room, Row, JOIN_ROWS, ROW_INPUTS};
+use crate::sheet::print_made;
+use crate::{
+    checks, write_text, Answer, List, Refusal, Room, Row, JOIN_ROWS, ROW_INPUTS, TEXT_ROOM,
+};
 
 /// Joins rows of the list as long as two of them join, and gives the number of rows that
 /// are left. These stand at the front; each freed record behind them is all zeros.
@@ -42,6 +45,21 @@ fn joined(first: &Row, second: &Row) -> Row {
         values: first.values & !differ,
         word: first.word,
     }
+}
+
+/// What the program prints of the rows of these bytes, joined: row text with the type line
+/// where it stood, or the refusal in one line.
+pub fn print_joined(input: &[u8]) -> Vec<u8> {
+    print_made(input, TEXT_ROOM, |head, _, rows, text| {
+        let mut rows = rows.to_vec();
+        let joined = join(head.n, head.k, &mut rows[..]);
+        if joined.number != 0 {
+            return joined;
+        }
+        let [block_type, type_line] = [head.block_type, head.type_line];
+        let left = &rows[..joined.results];
+        write_text(head.n, head.k, block_type, type_line, left, text)
+    })
 }
 
 /// The refusals: no type, and columns that no row drives are not looked for.

@@ -51,7 +51,7 @@ pub use types::{missing, FD, FR};
 
 /// The operations that are written to be read beside 01.
 mod plain {
-    pub use crate::joining::join;
+    pub use crate::joining::{join, print_joined};
     pub use crate::list::{fill, row_method, row_value};
     pub use crate::model::{model_value, print_model, read_model, write_model};
     pub use crate::reasons::why_not;

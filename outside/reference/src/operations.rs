@@ -195,6 +195,8 @@ pub trait Operations {
     ) -> Answer<u64>;
 
     fn print_model(input: &[u8]) -> Vec<u8>;
+
+    fn print_joined(input: &[u8]) -> Vec<u8>;
 }
 
 /// The operations that are written to be read beside 01.
@@ -500,6 +502,11 @@ macro_rules! operations_of {
             fn print_model(input: &[u8]) -> Vec<u8> {
                 use $module as operations;
                 operations::print_model(input)
+            }
+
+            fn print_joined(input: &[u8]) -> Vec<u8> {
+                use $module as operations;
+                operations::print_joined(input)
             }
         }
     };

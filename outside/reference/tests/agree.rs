@@ -6,7 +6,7 @@ use reference::{data, demands, fast, matrix, Fast, Operations, Plain, Row, FD, F
 use std::collections::BTreeMap;
 
 /// How many seeds the cases below are drawn from.
-const SEEDS: u64 = 11_400;
+const SEEDS: u64 = 12_000;
 
 #[test]
 fn plain_and_fast_give_the_same_and_refusals_change_nothing() {
@@ -33,6 +33,7 @@ fn plain_and_fast_give_the_same_and_refusals_change_nothing() {
         let number = match &plain {
             Case::Program { input } => refusal(input, "sheet 1\n"),
             Case::PrintModel { input } => refusal(input, ".model block\n"),
+            Case::PrintJoined { input } => refusal(input, ".i "),
             _ => answer.number,
         };
         let name = format!("{case:?}");
@@ -61,6 +62,7 @@ fn plain_and_fast_give_the_same_and_refusals_change_nothing() {
         ("ReadModel", &[0, 5, 8, 10]),
         ("ModelValue", &[0, 1, 2, 3, 4, 6, 8]),
         ("PrintModel", &[0, 1, 2, 4, 7, 10, 11]),
+        ("PrintJoined", &[0, 1, 2, 4, 7, 10]),
     ] {
         let met: Vec<u32> = seen
             .keys()
@@ -410,6 +412,42 @@ fn joins_are_drawn() {
     }
     assert!(met.iter().all(|&count| count >= 8), "{met:?}");
     assert!(longest >= 8 && undriven >= 20, "{longest} {undriven}");
+}
+
+/// What is printed of a text's joined rows is as 02, Ticket 9, has the rows; drawn texts
+/// have no join, few and many, with each type line and with none, and are refused.
+#[test]
+fn joined_texts_are_as_02_has_them() {
+    let printed = |name: &str, text: &[u8]| {
+        let got = demands::printed_joined::<Plain>(name, text);
+        assert_eq!(got, demands::printed_joined::<Fast>(name, text), "{name}");
+        got
+    };
+    for (path, text) in data::texts() {
+        printed(&path.display().to_string(), &text);
+    }
+    let [mut refused, mut same] = [0; 2];
+    // Joined texts with no type line, with that of fr and with that of fd.
+    let mut lines = [0; 3];
+    let mut most = 0;
+    for seed in 0..600 {
+        let text = inputs::any_joining_text(&mut Random::new(seed));
+        let got = printed(&format!("seed {seed}"), &text);
+        if got.starts_with("refused") {
+            refused += 1;
+        } else if got.as_bytes() == text {
+            same += 1;
+        } else {
+            let told = [".type fr\n", ".type fd\n"].map(|line| got.contains(line));
+            let line = told.iter().position(|&told| told);
+            lines[line.map_or(0, |line| line + 1)] += 1;
+            let rows = |text: &[u8]| text.iter().filter(|&&byte| byte == b'\n').count();
+            most = most.max(rows(&text) - rows(got.as_bytes()));
+        }
+    }
+    assert!(refused > 100 && same > 20, "{refused} {same}");
+    assert!(lines.iter().all(|&count| count > 20), "{lines:?}");
+    assert!(most > 100, "{most}");
 }
 
 /// Text read and written again is the same bytes, rows written and read again

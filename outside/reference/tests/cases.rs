@@ -917,6 +917,9 @@ fn short_room_beside_an_undriven_column() {
     for print in [reference::print_model, fast::print_model] {
         assert_eq!(print(&text[..wrote.results]), b"refused 11 1 0\n");
     }
+    for print in [reference::print_joined, fast::print_joined] {
+        assert_eq!(print(&text[..wrote.results]), &text[..wrote.results]);
+    }
 }
 
 /// Two rows are one where their words are equal, the same inputs are fixed, and the values
@@ -1051,6 +1054,65 @@ fn uneven_slices_are_not_joined() {
         };
         assert_eq!([join(true), join(false)], [(4, 0, lent); 2]);
     }
+}
+
+/// What the program prints of joined rows, by both.
+fn printed_joined(text: &str) -> String {
+    let printed = reference::print_joined(text.as_bytes());
+    assert_eq!(printed, fast::print_joined(text.as_bytes()));
+    String::from_utf8(printed).unwrap()
+}
+
+/// Joined rows are printed as row text, with the type line where it stood; what can't be
+/// read, and rows that share a point, in one line.
+#[test]
+fn joined_rows_are_printed() {
+    for line in ["", ".type fr\n", ".type fd\n"] {
+        let text = |rows: &str| {
+            let count = rows.lines().count();
+            format!(".i 2\n.o 1\n{line}.p {count}\n{rows}.e\n")
+        };
+        let left = |rows| printed_joined(&text(rows));
+        assert_eq!(left("00 1\n11 0\n01 1\n"), text("0- 1\n11 0\n"));
+        assert_eq!(left("10 1\n01 1\n00 1\n"), text("-0 1\n01 1\n"));
+        assert_eq!(left("00 1\n01 1\n10 1\n11 1\n"), text("-- 1\n"));
+        assert_eq!(left("00 1\n11 1\n"), text("00 1\n11 1\n"));
+        // No row drives the column.
+        assert_eq!(left("00 0\n01 0\n"), text("0- 0\n"));
+        // Rows that would join are no matter where two share a point.
+        assert_eq!(left("00 1\n01 1\n0- 1\n"), "refused 7 0 2\n");
+        assert_eq!(left("11 1\n00 1\n-0 0\n"), "refused 7 1 2\n");
+        assert_eq!(left(""), "refused 4 0 0\n");
+    }
+    assert_eq!(printed_joined(SHEET_TEXT), SHEET_TEXT);
+    for (text, due) in [
+        ("", "refused 10 1 0\n"),
+        (".i 17\n.o 16\n.p 0\n", "refused 1 0 0\n"),
+        (".i 16\n.o 16\n.p 0\n", "refused 2 0 0\n"),
+        (".i 16\n.o 15\n.p 129\n", "refused 4 0 0\n"),
+        (".i 1\n.o 1\n.type f\n.p 1\n0 1\n.e\n", "refused 10 3 0\n"),
+        (".i 1\n.o 1\n.p 2\n0 1\n1 1\n.e", "refused 10 6 0\n"),
+        (".i 1\n.o 1\n.p 2\n0 1\n1 1\n.e\n\n", "refused 10 7 0\n"),
+    ] {
+        assert_eq!(printed_joined(text), due);
+    }
+}
+
+/// 128 rows: where none join, the longest text is printed as it is; all points of seven
+/// inputs with one word are one row.
+#[test]
+fn the_longest_texts_are_joined() {
+    let text = |row: fn(u32) -> String| {
+        let rows: String = (0..128).map(row).collect();
+        format!(".i 16\n.o 15\n.type fr\n.p 128\n{rows}.e\n")
+    };
+    // Each value with its parity beside it, so that two of them differ in two inputs.
+    let apart = text(|i| format!("{:016b} {:015b}\n", i << 1 | i.count_ones() % 2, 1));
+    assert_eq!(apart.len(), 4_255);
+    assert_eq!(printed_joined(&apart), apart);
+    let points = text(|i| format!("---------{i:07b} {:015b}\n", 1));
+    let one = ".i 16\n.o 15\n.type fr\n.p 1\n---------------- 000000000000001\n.e\n";
+    assert_eq!(printed_joined(&points), one);
 }
 
 #[test]

@@ -7,7 +7,8 @@
 //! search goes on with the least row before i that does, or else with row i.
 
 use crate::joining::check_join;
-use crate::{Answer, List, Room, Row, JOIN_ROWS};
+use crate::sheet::print_made;
+use crate::{write_text, Answer, List, Room, Row, JOIN_ROWS, TEXT_ROOM};
 use std::iter::successors;
 
 /// Joins rows of the list as long as two of them join.
@@ -37,6 +38,20 @@ pub fn join(n: usize, k: usize, mut list: impl List + Room) -> Answer<usize> {
     rows[left..].fill(Row::default());
     list.put(&rows);
     Ok(left).into()
+}
+
+/// What the program prints of joined rows.
+pub fn print_joined(input: &[u8]) -> Vec<u8> {
+    print_made(input, TEXT_ROOM, |head, _, rows, text| {
+        let mut rows = rows.to_vec();
+        let joined = join(head.n, head.k, &mut rows[..]);
+        if joined.number != 0 {
+            return joined;
+        }
+        let [block_type, type_line] = [head.block_type, head.type_line];
+        let left = &rows[..joined.results];
+        write_text(head.n, head.k, block_type, type_line, left, text)
+    })
 }
 
 /// The number of slots is 2 to this power. At most all rows are put in, and then one for
