@@ -28,7 +28,7 @@ use Rattle.sheet_theorems.specs.Printed.{PrintsOne, printed-one}
 -- ---- the sheet operation, on flat rows and on records
 
 -- bytes at the front of storage
-front : (s l l′ : List ℕ) (count : ℕ) → l′ ≡ over s l → count ≡ length s → take count l′ ≡ s
+pub front : (s l l′ : List ℕ) (count : ℕ) → l′ ≡ over s l → count ≡ length s → take count l′ ≡ s
 front s l l′ count e c = ap (take count) e ∙ take-at s (drop (length s) l) count (sym c)
 
 pub sheet-block : (n k y w : ℕ) (rs : List Row) (out₀ : List ℕ) (r : TextAnswer) (out₁ : List ℕ) → SheetPromise n k y w rs out₀ r out₁

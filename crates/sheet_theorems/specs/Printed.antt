@@ -29,7 +29,7 @@ input-first : (input : List ℕ) → at (sheetIn input) 0 ≡ 115
 unfolding sheetIn
 input-first input = sheet-first _ _ _ _ _
 
-refusal-first : (v : Answer) → at (refusalLine v) 0 ≡ 114
+pub refusal-first : (v : Answer) → at (refusalLine v) 0 ≡ 114
 unfolding refusalLine
 refusal-first v = refl
 
