@@ -2,7 +2,7 @@
 -- share a point and none becomes malformed; the number of rows never grows, and one is left; joining twice is joining once; and what is worked
 -- out of the joined list is what was worked out of the list: R, T, sigma, the measures, and whether a column is driven. The laws of any list
 -- stand in crate join_laws. Assumes nothing.
-use mathlib.Core.Path.{_≡_, sym, ap, _∙_}
+use mathlib.Core.Path.{_≡_}
 use mathlib.Core.Bool.{false}
 use mathlib.Core.List.{List, map}
 use Prim.Native.Nat.{ℕ, _^_, _≤_, _<_}

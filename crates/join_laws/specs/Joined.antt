@@ -1,5 +1,5 @@
--- Joining on a disjoint list: after each join the block is unchanged at each point, the rows are disjoint and one fewer; after all joins
--- no pair is left. Assumes nothing.
+-- Joining on a disjoint list: after each join the block is unchanged at each point, the rows are disjoint, drive the columns that they drove
+-- and are one fewer; after all joins no pair is left, and joining again changes nothing. Assumes nothing.
 use mathlib.Core.Path.{_≡_, refl, sym, ap, _∙_}
 use mathlib.Core.Bool.{Bool, true, false, not, cond, _&&_}
 use mathlib.Core.List.{List, map}
@@ -9,7 +9,6 @@ use borrow.Author.Tests.{eqb-true, ltb-true, ltb-false, lt-ltb, le-ltb}
 use lib.Dec.{eqb, ltb}
 use lib.ListN.{length, set, length-set}
 use lib.Seq.{getD-set-other}
-use Rattle.slices.specs.Places.{first}
 use Rattle.slices.specs.Least.{first-passes, first-found}
 use Rattle.slices.specs.Tests.{and-both}
 use Rattle.bits.specs.Digits.{bit}
@@ -26,7 +25,8 @@ use Rattle.join_laws.specs.Two.{Alike, joins-alike, union}
 use Rattle.join_laws.specs.Totals.{total, total-set, total-without, total-two, same-zero, drives, driven-total, length-without, every-set, every-without, over1, weight, total-hits, same-word}
 
 -- the least later row that a row joins, where there is one
-pub mate-joins : (rs : List Row) (i : ℕ) → mate rs i < length rs → (i < mate rs i) × (mate rs i < length rs) × (joins (rowAt rs i) (rowAt rs (mate rs i)) ≡ true)
+pub mate-joins : (rs : List Row) (i : ℕ) → mate rs i < length rs
+    → (i < mate rs i) × (mate rs i < length rs) × (joins (rowAt rs i) (rowAt rs (mate rs i)) ≡ true)
 unfolding mate
 mate-joins rs i l =
     let b =
@@ -34,7 +34,7 @@ mate-joins rs i l =
     (first-passes (length rs) (λ j. ltb i j && joins (rowAt rs i) (rowAt rs j)) l) in
     (ltb-true _ _ (b .0), l, b .1)
 
--- the first pair: two rows, in order, that are written as one
+-- the pair that is next: two rows, in order, that are written as one
 pub first-pair : (rs : List Row) → pairLeft rs ≡ true
     → (joining rs < mate rs (joining rs)) × (mate rs (joining rs) < length rs)
     × (joins (rowAt rs (joining rs)) (rowAt rs (mate rs (joining rs))) ≡ true)

@@ -14,7 +14,7 @@ use lib.Dec.{ltb}
 use lib.ListN.{length, set}
 use lib.Seq.{getD-set-other}
 use Rattle.slices.specs.Places.{first}
-use Rattle.slices.specs.Least.{first-is, first-below, first-passes, first-found}
+use Rattle.slices.specs.Least.{first-is, first-below, first-passes}
 use Rattle.slices.specs.Tests.{and-both}
 use Rattle.block.specs.Words.{row}
 use Rattle.block.specs.Refusals.{rowAt}

@@ -1,18 +1,16 @@
 -- Joining in the first places of three arrays: as many records are to be copied in as there were, freed ones among them, or with a refusal none.
 -- So what `join_of` promises follows from the promise of the operation on flat slices. Assumes nothing.
 use mathlib.Core.Path.{_≡_, sym, ap, _∙_}
-use mathlib.Core.Bool.{true, cond}
+use mathlib.Core.Bool.{cond}
 use mathlib.Core.List.{List}
 use Prim.Native.Nat.{ℕ, _≤_}
 use native.Mathlib.Omega.{arith}
-use borrow.Author.Tests.{eqb-true}
 use lib.Dec.{eqb}
 use lib.ListN.{length, take}
 use lib.Seq.{length-take-le}
-use Rattle.block.specs.Refusals.{answered, carried}
+use Rattle.block.specs.Refusals.{carried}
 use Rattle.block.specs.Joins.{joinVerdict, join, joinedRoom}
 use Rattle.block.specs.declared.Row.{Row}
-use Rattle.block.specs.declared.Answer.{Answer}
 use Rattle.block.specs.declared.JoinAnswer.{JoinAnswer}
 use Rattle.flat_rows.specs.Listing.{rows-count}
 use Rattle.join_laws.specs.Room.{room-length}
