@@ -20,7 +20,8 @@
 --                              result; its tokens, and what it says of each parameter's last value, are the end of the context
 --     ends                     the `return`, where each local holds a value. What is owned at the positions π, counted after the
 --                              locals, is a token for each lifetime and what is said of each parameter's last value
--- Of a parameter nothing is kept at exit but what is said of its last value, so a `&mut` is passed on to one callee at most.
+-- Of a parameter nothing is kept at exit but what is said of its last value, so a `&mut` is passed on to one callee at most. Before that it
+-- may be lent as `&`, for a lifetime that the walk makes and ends, and comes back: records::join_rows has the only such walk.
 -- Assumes `Given`, and `FmC` of the table of calls.
 use mathlib.Core.Path.{_≡_, refl, sym, subst}
 use Prim.Native.Nat.{ℕ, zero, suc, _+_}
