@@ -107,6 +107,15 @@ pub struct JoinAnswer {
     pub count: usize,
 }
 
+// The answer of disjoining: the number of rows that come out.
+#[repr(C)]
+pub struct DisjoinAnswer {
+    pub number: u32,
+    pub a: usize,
+    pub b: usize,
+    pub count: usize,
+}
+
 // What the work of a sheet comes to: beside the number of bytes the measures and the number of smaller rows, for the line of an import.
 #[repr(C)]
 pub struct SheetWork {

@@ -3,7 +3,7 @@
 -- lent as records, and crate once shows that it leaves one outcome. Storage that held s₀ holds s₁ at the end; what is lent only to be
 -- read cannot change. `Lent`: lent room for rows. `Tables`, `Lists`, `Texts` and `Sheets`: the operations on tables, on lists and on row
 -- text, and the sheet with what the program prints; `Models`: models in BLIF; `Symmetric`: symmetric blocks; `Reasons`: why a number was not
--- taken; `Joins`: joining. Not here: the meaning, which is block's, and laws.
+-- taken; `Joins`: joining; `Overlaps`: disjoining. Not here: the meaning, which is block's, and laws.
 pub mod Lent
 pub mod Tables
 pub mod Lists
@@ -13,3 +13,4 @@ pub mod Models
 pub mod Symmetric
 pub mod Reasons
 pub mod Joins
+pub mod Overlaps
