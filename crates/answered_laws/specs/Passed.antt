@@ -16,6 +16,7 @@ use Rattle.block.specs.Refusals.{Check, check, answer, verdict, outside, sizeCh
 use Rattle.block.specs.Lists.{countCheck, badRowCheck, shareCheck, rowChecks, rowValueVerdict, rowsAfter, passing, passingCheck, methodChecked, methodChecks, smallerList, fillVerdict}
 use Rattle.block.specs.Reasons.{whyVerdict}
 use Rattle.block.specs.Joins.{joinVerdict}
+use Rattle.block.specs.Overlaps.{disjoined, disjoinChecked, manyCheck, disjoinVerdict}
 use Rattle.block.specs.declared.Row.{Row}
 use Rattle.refusal_laws.specs.Verdicts.{verdict-miss, verdict-none, none-passes, passes, Numbered}
 use Rattle.refusal_laws.specs.Driven.{AllDriven, check-driven, driven-check}
@@ -63,6 +64,17 @@ pub record JoinPassed (n k : ℕ) (rs : List Row) : Type 0 where
   pub range : InRange listInputs smallerRows n k rs
   pub good : Every (λ r. badRow n k r ≡ false) rs
   pub disjoint : Disjoint n rs
+
+-- disjoining, but for 14: rows may share points
+pub record DisjoinPassed (n k : ℕ) (rs : List Row) (room : ℕ) : Type 0 where
+  pub range : InRange listInputs givenRows n k rs
+  pub lent : givenRows ≤ room
+  pub good : Every (λ r. badRow n k r ≡ false) rs
+
+-- and 14: at most 128 rows come out
+pub record DisjoinAnswered (n k : ℕ) (rs : List Row) (room : ℕ) : Type 0 where
+  pub passed : DisjoinPassed n k rs room
+  pub few : length (disjoined n rs) ≤ givenRows
 
 -- greater limits hold too
 pub in-range-more : {inputs most n k : ℕ} {rs : List Row} (wider more : ℕ) → inputs ≤ wider → most ≤ more → InRange inputs most n k rs
@@ -299,4 +311,62 @@ module _ (n k : ℕ) (rs : List Row) where
       ∙ verdict-miss _ _ (within 1 outputs k (r .columns .0) (r .columns .1))
       ∙ verdict-miss _ _ (within 1 smallerRows (length rs) (r .count .0) (r .count .1))
       ∙ disjoint-answer n k rs [] (p .good) (p .disjoint)
+      ∙ verdict-none
+
+-- ---- disjoining
+
+module _ (n k : ℕ) (rs : List Row) (room : ℕ) where
+  pub disjoin-ranges : (rest : List Check)
+      → verdict (sizeChecks listInputs n k (countCheck givenRows rs ∷ check (ltb room givenRows) 5 0 0 ∷ rest)) .number ≡ 0
+      → InRange listInputs givenRows n k rs × (givenRows ≤ room) × (verdict rest .number ≡ 0)
+  disjoin-ranges rest h =
+      let inputs = passes _ _ refl h in
+      let columns = passes _ _ refl (inputs .1) in
+      let count = passes _ _ refl (columns .1) in
+      let lent = passes _ _ refl (count .1) in (
+        record {
+          size = inside 1 listInputs n (inputs .0);
+          columns = inside 1 outputs k (columns .0);
+          count = inside 1 givenRows (length rs) (count .0);
+        },
+        ltb-false room givenRows (lent .0),
+        lent .1,
+      )
+
+  pub disjoin-numbered : Numbered (disjoinChecked n k rs room)
+  unfolding disjoinChecked
+  disjoin-numbered = (refl, (refl, (refl, (refl, (refl, tt)))))
+
+  split-pass : (rest : List Check) → verdict (disjoinChecked n k rs room ++ rest) .number ≡ 0
+      → DisjoinPassed n k rs room × (verdict rest .number ≡ 0)
+  unfolding disjoinChecked
+  split-pass rest h =
+      let r = disjoin-ranges (badRowCheck n k rs ∷ rest) h in
+      let formed = passes _ _ refl (r .2) in
+      (record { range = r .0; lent = r .1; good = every-good n k rs (formed .0) }, formed .1)
+
+  -- before 14
+  pub disjoin-passed : verdict (disjoinChecked n k rs room) .number ≡ 0 → DisjoinPassed n k rs room
+  unfolding disjoinChecked
+  disjoin-passed h = split-pass [] h .0
+
+  -- with 14
+  pub disjoin-answered : disjoinVerdict n k rs room .number ≡ 0 → DisjoinAnswered n k rs room
+  unfolding disjoinVerdict
+  disjoin-answered h =
+      let p = split-pass (manyCheck n rs ∷ []) h in
+      let last = passes _ _ refl (p .1) in
+      record { passed = p .0; few = ltb-false givenRows (length (disjoined n rs)) (last .0) }
+
+  -- a list with those facts is answered
+  pub disjoin-answers : DisjoinAnswered n k rs room → disjoinVerdict n k rs room ≡ answer 0 0 0
+  unfolding disjoinVerdict disjoinChecked
+  disjoin-answers p =
+      let r = p .passed .range in
+      verdict-miss _ _ (within 1 listInputs n (r .size .0) (r .size .1))
+      ∙ verdict-miss _ _ (within 1 outputs k (r .columns .0) (r .columns .1))
+      ∙ verdict-miss _ _ (within 1 givenRows (length rs) (r .count .0) (r .count .1))
+      ∙ verdict-miss _ _ (le-ltb room givenRows (p .passed .lent))
+      ∙ verdict-miss _ _ (none-passes (length rs) (λ i. badRow n k (rowAt rs i)) (p .passed .good))
+      ∙ verdict-miss _ _ (le-ltb givenRows (length (disjoined n rs)) (p .few))
       ∙ verdict-none
