@@ -61,37 +61,42 @@ at-set l k i a e h = ap (λ (x : List ℕ). at x i) e ∙ getD-set-same l i a 0 
 same-row : (a b c d e f : ℕ) → a ≡ d → b ≡ e → c ≡ f → row a b c ≡ row d e f
 same-row a b c d e f p q r = rw (p, q, r)
 
+-- a row stored behind the first `count` rows
+pub stored-behind : (r : Row) (count : ℕ) (m v w m′ v′ w′ : List ℕ) → count < length m → count < length v → count < length w
+    → m′ ≡ set m count (r .mask) → v′ ≡ set v count (r .values) → w′ ≡ set w count (r .word)
+    → rowsFrom (count + 1) m′ v′ w′ ≡ rowsFrom count m v w ++ (r ∷ [])
+stored-behind r count m v w m′ v′ w′ a b c p q o =
+    ap (λ (i : ℕ). rowsFrom i m′ v′ w′) (add-one count)
+    ∙ tab-suc count (λ i. row (at m′ i) (at v′ i) (at w′ i))
+    ∙ ap₂ (λ (x : List Row) (y : Row). x ++ (y ∷ [])) old new
+  where
+    new : row (at m′ count) (at v′ count) (at w′ count) ≡ r
+    new =
+        same-row (at m′ count) (at v′ count) (at w′ count) (r .mask) (r .values) (r .word) (at-set m m′ count (r .mask) p a)
+        (at-set v v′ count (r .values) q b) (at-set w w′ count (r .word) o c)
+
+    old : rowsFrom count m′ v′ w′ ≡ rowsFrom count m v w
+    old =
+        tab-cong count (λ i. row (at m′ i) (at v′ i) (at w′ i)) (λ i. row (at m i) (at v i) (at w i))
+        (λ j h.
+        same-row (at m′ j) (at v′ j) (at w′ j) (at m j) (at v j) (at w j) (before-set m m′ count (r .mask) j p h)
+        (before-set v v′ count (r .values) j q h) (before-set w w′ count (r .word) j o h))
+
 -- one row added
 pub added-one : (r : Row) (count : ℕ) (m v w m′ v′ w′ : List ℕ) → Room m v w
     → (count < smallerRows → (m′ ≡ set m count (r .mask)) × (v′ ≡ set v count (r .values)) × (w′ ≡ set w count (r .word)))
     → Added count (r ∷ []) m v w m′ v′ w′ (count + 1)
 added-one r count m v w m′ v′ w′ room s = record { longer = refl; added = push }
   where
-    new : count < smallerRows → row (at m′ count) (at v′ count) (at w′ count) ≡ r
-    new l =
-        same-row (at m′ count) (at v′ count) (at w′ count) (r .mask) (r .values) (r .word)
-        (at-set m m′ count (r .mask) (s l .0) (omega (arith, room .masks-room)))
-        (at-set v v′ count (r .values) (s l .1) (omega (arith, room .values-room)))
-        (at-set w w′ count (r .word) (s l .2) (omega (arith, room .words-room)))
-
-    old : count < smallerRows → rowsFrom count m′ v′ w′ ≡ rowsFrom count m v w
-    old l =
-        tab-cong count (λ i. row (at m′ i) (at v′ i) (at w′ i)) (λ i. row (at m i) (at v i) (at w i))
-        (λ j h.
-        same-row (at m′ j) (at v′ j) (at w′ j) (at m j) (at v j) (at w j) (before-set m m′ count (r .mask) j (s l .0) h)
-        (before-set v v′ count (r .values) j (s l .1) h) (before-set w w′ count (r .word) j (s l .2) h))
-
     push : (rs : List Row) → length rs ≡ count → Held rs m v w → Held (rs ++ (r ∷ [])) m′ v′ w′
     push rs e h = record { front = λ l. go (omega (arith, length-append rs (r ∷ []))) }
       where
-        before : count < smallerRows → rowsFrom count m v w ≡ rs
-        before l = ap (λ (p : ℕ). rowsFrom p m v w) (sym e) ∙ h .front (omega arith)
-
         go : count < smallerRows → rowsFrom (length (rs ++ (r ∷ []))) m′ v′ w′ ≡ rs ++ (r ∷ [])
         go l =
-            ap (λ (p : ℕ). rowsFrom p m′ v′ w′) (length-append rs (r ∷ []) ∙ ap (λ (p : ℕ). p + 1) e ∙ add-one count)
-            ∙ tab-suc count (λ i. row (at m′ i) (at v′ i) (at w′ i))
-            ∙ ap₂ (λ (a : List Row) (b : Row). a ++ (b ∷ [])) (old l ∙ before l) (new l)
+            ap (λ (p : ℕ). rowsFrom p m′ v′ w′) (length-append rs (r ∷ []) ∙ ap (λ (p : ℕ). p + 1) e)
+            ∙ stored-behind r count m v w m′ v′ w′ (omega (arith, room .masks-room)) (omega (arith, room .values-room))
+            (omega (arith, room .words-room)) (s l .0) (s l .1) (s l .2)
+            ∙ ap (λ (x : List Row). x ++ (r ∷ [])) (ap (λ (p : ℕ). rowsFrom p m v w) (sym e) ∙ h .front (omega arith))
 
 -- ---- what a step leaves
 
