@@ -14,11 +14,12 @@ use Rattle.block.specs.Refusals.{check, verdict, andThen, outside, sizeChecks, 
 use Rattle.block.specs.Lists.{countCheck, badRowCheck, shareCheck, undrivenCheck, rowChecks, rowValueVerdict, methodChecked, fillVerdict}
 use Rattle.block.specs.Reasons.{whyVerdict}
 use Rattle.block.specs.Joins.{joinVerdict}
+use Rattle.block.specs.Overlaps.{disjoinChecked}
 use Rattle.block.specs.declared.Row.{Row}
 use Rattle.block.specs.declared.Answer.{Answer}
 use Rattle.refusal_laws.specs.Verdicts.{zero-too, then-refused, then-answered, Asked, asked-then, asked-where}
 use Rattle.shared_checks.specs.Sizes.{asked-sizes, sizes-pass, untyped}
-use Rattle.answered_laws.specs.Passed.{InRange, in-range-more, rows-numbered, value-ranges, fill-ranges, method-ranges, why-ranges, join-ranges}
+use Rattle.answered_laws.specs.Passed.{InRange, in-range-more, rows-numbered, value-ranges, fill-ranges, method-ranges, why-ranges, join-ranges, disjoin-ranges}
 
 -- ---- the rows: 6 and 7 after an earlier answer, and then 11
 
@@ -132,3 +133,21 @@ module _ (n k : ℕ) (rs : List Row) (sizes count : Answer) (first : sizes ≡ v
   pub join-verdict : (v : Answer) → v ≡ andThen count (verdict (badRowCheck n k rs ∷ shareCheck n rs ∷ [])) → v ≡ joinVerdict n k rs
   unfolding joinVerdict
   join-verdict v e = asked-then (badRowCheck n k rs ∷ shareCheck n rs ∷ []) v join-asked (refl, (refl, tt)) e .told
+
+-- ---- disjoining, before 14
+
+module _ (n k : ℕ) (rs : List Row) (room : ℕ) (sizes count lent : Answer) (first : sizes ≡ verdict (typedChecks listInputs n k fd []))
+    (second : count ≡ andThen sizes (verdict (countCheck givenRows rs ∷ [])))
+    (third : lent ≡ andThen count (verdict (check (ltb room givenRows) 5 0 0 ∷ []))) where
+  disjoin-asked : Asked (sizeChecks listInputs n k (countCheck givenRows rs ∷ check (ltb room givenRows) 5 0 0 ∷ [])) lent
+  disjoin-asked =
+      asked-then (check (ltb room givenRows) 5 0 0 ∷ []) lent
+      (asked-then (countCheck givenRows rs ∷ []) count
+      (record { numbered = (refl, (refl, tt)); told = first ∙ untyped listInputs n k }) (refl, tt) second) (refl, tt) third
+
+  pub disjoin-in-range : lent .number ≡ 0 → InRange listInputs smallerRows n k rs
+  disjoin-in-range h = in-range-more listInputs smallerRows (omega arith) (omega arith) (disjoin-ranges n k rs room [] (zero-too (disjoin-asked .told) h) .0)
+
+  pub disjoin-checks : (v : Answer) → v ≡ andThen lent (verdict (badRowCheck n k rs ∷ [])) → v ≡ verdict (disjoinChecked n k rs room)
+  unfolding disjoinChecked
+  disjoin-checks v e = asked-then (badRowCheck n k rs ∷ []) v disjoin-asked (refl, tt) e .told

@@ -14,6 +14,7 @@ ghost use Rattle.block.specs.Refusals.{verdict, andThen};
 ghost use Rattle.block.specs.Lists.{countCheck, badRowCheck, shareCheck, rowChecks, rowValueVerdict, methodChecked, fillVerdict};
 ghost use Rattle.block.specs.Reasons.{whyVerdict};
 ghost use Rattle.block.specs.Joins.{joinVerdict};
+ghost use Rattle.block.specs.Overlaps.{disjoinChecked};
 ghost use Rattle.answered_laws.specs.Passed.{InRange};
 
 // 4: from 1 to most rows.
@@ -22,6 +23,24 @@ pub fn then_count(v: Answer, most: usize, masks: &[u32], values: &[u32], words: 
 {
     let count = flat_rows::row_count(masks, values, words);
     shared_checks::then_where(v, shared_checks::is_outside(1, most, count), 4, 0, 0)
+}
+
+// 6 after an earlier answer: a refusal is handed on, and no row is looked at.
+pub fn then_formed(
+    v: Answer,
+    n: usize,
+    k: usize,
+    masks: &[u32],
+    values: &[u32],
+    words: &[u32],
+) -> Answer
+    requires { ⌜ (v .number ≡ 0 → InRange listInputs smallerRows n k (rowsOf (now masks) (now values) (now words))) ⌝ }
+    ensures { λ r. ⌜ r ≡ andThen v (verdict (badRowCheck n k (rowsOf (now (masks .entry)) (now (values .entry)) (now (words .entry))) ∷ [])) ⌝ }
+{
+    if v.number != 0 {
+        return v;
+    }
+    flat_rows::rows_formed(n, k, masks, values, words)
 }
 
 // 6 and 7 after an earlier answer: a refusal is handed on, and no row is looked at.
@@ -146,4 +165,22 @@ pub fn join_verdict(n: usize, k: usize, masks: &[u32], values: &[u32], words: &[
     let sizes = shared_checks::sizes(LIST_INPUTS, n, k, FD);
     let count = then_count(sizes, SMALLER_ROWS, masks, values, words);
     then_disjoint(count, n, k, masks, values, words)
+}
+
+// The verdict on disjoining, but for 14, where `room` rows are lent: rows may share points there.
+pub fn disjoin_checked(
+    n: usize,
+    k: usize,
+    masks: &[u32],
+    values: &[u32],
+    words: &[u32],
+    room: usize,
+) -> Answer
+    ensures { λ r. ⌜ r ≡ verdict (disjoinChecked n k (rowsOf (now (masks .entry)) (now (values .entry)) (now (words .entry))) room) ⌝ }
+{
+    let sizes = shared_checks::sizes(LIST_INPUTS, n, k, FD);
+    let count = then_count(sizes, GIVEN_ROWS, masks, values, words);
+    let short = room < GIVEN_ROWS;
+    let lent = shared_checks::then_where(count, short, 5, 0, 0);
+    then_formed(lent, n, k, masks, values, words)
 }
