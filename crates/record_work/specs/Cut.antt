@@ -23,6 +23,7 @@ use Rattle.block.specs.Sheet.{sheet, sheetVerdict, sheetText}
 use Rattle.block.specs.Model.{modelText, modelVerdict, writeModel}
 use Rattle.block.specs.Reasons.{reasonOf, whyVerdict, whyNot}
 use Rattle.block.specs.Joins.{joined, joinVerdict, withCount, join, joinedRoom}
+use Rattle.block.specs.Overlaps.{disjoined, disjoinChecked, manyCheck, disjoinVerdict, withPieces, disjoin}
 use Rattle.block.specs.declared.Row.{Row}
 use Rattle.block.specs.declared.Answer.{Answer}
 use Rattle.block.specs.declared.Why.the-variants.{Given, Refused}
@@ -196,6 +197,25 @@ module _ (n k : ℕ) where
   pub joined-cut : (before : List Row) (rs : List Row)
       → stored (joinVerdict n k (take cutRows rs)) (joinedRoom (take cutRows rs)) before ≡ stored (joinVerdict n k rs) (joinedRoom rs) before
   joined-cut before = join-alike (λ v l. stored v (joinedRoom l) before) (λ v l m h. rw h)
+
+-- ---- disjoining
+
+module _ (n k room : ℕ) where
+  disjoin-alike : {X : Type 0} (F : Answer → List Row → X) → ((v : Answer) (l m : List Row) → answered v ≡ false → F v l ≡ F v m)
+      → (rs : List Row) → F (disjoinVerdict n k (take cutRows rs) room) (take cutRows rs) ≡ F (disjoinVerdict n k rs room) rs
+  unfolding disjoinVerdict disjoinChecked
+  disjoin-alike =
+      cut-same (sizeChecks listInputs n k []) givenRows (λ l. check (ltb room givenRows) 5 0 0 ∷ badRowCheck n k l ∷ manyCheck n l ∷ [])
+      (refl, (refl, tt)) (omega arith)
+
+  pub disjoin-cut : (rs : List Row) → disjoin n k (take cutRows rs) room ≡ disjoin n k rs room
+  unfolding disjoin
+  disjoin-cut = disjoin-alike (λ v l. withPieces v (length (disjoined n l))) (λ v l m h. rw h)
+
+  pub disjoined-cut : (before : List Row) (rs : List Row)
+      → stored (disjoinVerdict n k (take cutRows rs) room) (disjoined n (take cutRows rs)) before
+      ≡ stored (disjoinVerdict n k rs room) (disjoined n rs) before
+  disjoined-cut before = disjoin-alike (λ v l. stored v (disjoined n l) before) (λ v l m h. rw h)
 
 -- ---- a model, whose own length is looked at last
 

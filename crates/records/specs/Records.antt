@@ -15,6 +15,7 @@ use Rattle.block.specs.Sheet.{sheet, sheetVerdict, sheetText}
 use Rattle.block.specs.Model.{modelText, modelVerdict, writeModel}
 use Rattle.block.specs.Reasons.{whyVerdict, whyNot, whyNumbers}
 use Rattle.block.specs.Joins.{joinVerdict, join, joinedRoom}
+use Rattle.block.specs.Overlaps.{disjoined, disjoinVerdict, disjoin}
 use Rattle.block.specs.declared.Row.{Row}
 use Rattle.block.specs.declared.Answer.{Answer}
 use Rattle.block.specs.declared.ValueAnswer.{ValueAnswer}
@@ -23,16 +24,18 @@ use Rattle.block.specs.declared.TextAnswer.{TextAnswer}
 use Rattle.block.specs.declared.ReadAnswer.{ReadAnswer}
 use Rattle.block.specs.declared.WhyAnswer.{WhyAnswer}
 use Rattle.block.specs.declared.JoinAnswer.{JoinAnswer}
+use Rattle.block.specs.declared.DisjoinAnswer.{DisjoinAnswer}
 use Rattle.promises.specs.Lent.{lentRecords}
 use Rattle.promises.specs.Lists.{RowValuePromise, RowMethodPromise, FillPromise}
 use Rattle.promises.specs.Reasons.{WhyNotPromise}
 use Rattle.promises.specs.Joins.{JoinPromise}
+use Rattle.promises.specs.Overlaps.{DisjoinPromise}
 use Rattle.promises.specs.Texts.{WritePromise, ReadPromise}
 use Rattle.promises.specs.Sheets.{SheetPromise}
 use Rattle.promises.specs.Models.{WriteModelPromise}
 use Rattle.record_copies.specs.declared.FlatRows.{FlatRows}
 use Rattle.record_copies.specs.Flat.{heldRows, Gathered, Scattered, listed, as-records}
-use Rattle.record_work.specs.Cut.{value-cut, fill-cut, filled-cut, write-cut, written-cut, method-cut, method-stored-cut, sheet-cut, sheet-stored-cut, why-cut, taken-cut, join-cut, joined-cut, model-cut, model-stored-cut}
+use Rattle.record_work.specs.Cut.{value-cut, fill-cut, filled-cut, write-cut, written-cut, method-cut, method-stored-cut, sheet-cut, sheet-stored-cut, why-cut, taken-cut, join-cut, joined-cut, disjoin-cut, disjoined-cut, model-cut, model-stored-cut}
 use Rattle.record_copies.specs.Yielded.{lentArrays, yielded-wider, yielded-stored}
 
 module _ (rs : List Row) {m : ℕ} {f : FlatRows} (e : m ≡ min (length rs) heldRows) (g : Gathered rs m f) where
@@ -100,6 +103,16 @@ module _ (rs : List Row) {m : ℕ} {f : FlatRows} (e : m ≡ min (length rs) hel
             (method-stored-cut n k y w a b room (λ l. sigmaOf (ofRows (missing y) l) n w) sigma₀ rs) (p .sigma);
         smaller = as-records (λ l. stored (rowMethodVerdict n k y w l a b room) (smallerList (missing y) n w l) rows₀) rs e g
             (method-stored-cut n k y w a b room (smallerList (missing y) n w) rows₀ rs) (yielded-stored rows₀ rows₁ (p .smaller) c);
+      }
+
+  pub disjoin-records : {n k : ℕ} {r : DisjoinAnswer} {h : FlatRows} {count : ℕ} (rows₀ rows₁ : List Row) → Scattered h count rows₀ rows₁
+      → DisjoinPromise n k (listed f m) (lentArrays (length rows₀) h count) r → DisjoinPromise n k rs (lentRecords rows₀ rows₁) r
+  disjoin-records {n} {k} rows₀ rows₁ c p =
+      let room : ℕ = length rows₀ in
+      record {
+        answer = as-records (λ l. disjoin n k l room) rs e g (disjoin-cut n k room rs) (p .answer);
+        rows = as-records (λ l. stored (disjoinVerdict n k l room) (disjoined n l) rows₀) rs e g (disjoined-cut n k room rows₀ rs)
+            (yielded-stored rows₀ rows₁ (p .rows) c);
       }
 
 -- in place: the records that were copied out are those that the rows are copied in to

@@ -1,9 +1,10 @@
 // The operations on lists of rows for a caller that lends the rows as records, one record a row (01, Words and numbers): a single shift
-// value, the row method, why a number was not taken, joining, filling a table, row text, written and read, the sheet and the model. Each takes any
-// numbers and any slices, and answers or refuses as 01 says; its promise speaks of the records themselves. The records are copied out into arrays
-// (crate record_copies), the work on these is that of the crates record_work, record_method, record_reasons, record_joins and read_records, and
-// rows that it made are copied in. This crate holds nothing else.
+// value, the row method, why a number was not taken, joining, disjoining, filling a table, row text, written and read, the sheet and the model. Each
+// takes any numbers and any slices, and answers or refuses as 01 says; its promise speaks of the records themselves. The records are copied out into
+// arrays (crate record_copies), the work on these is that of the crates record_work, record_method, record_reasons, record_joins, record_disjoins and
+// read_records, and rows that it made are copied in. This crate holds nothing else.
 use block::Answer;
+use block::DisjoinAnswer;
 use block::JoinAnswer;
 use block::LIST_INPUTS;
 use block::ReadAnswer;
@@ -19,6 +20,7 @@ ghost use Rattle.promises.specs.Lent.{lentRecords};
 ghost use Rattle.promises.specs.Lists.{RowValuePromise, RowMethodPromise, FillPromise};
 ghost use Rattle.promises.specs.Reasons.{WhyNotPromise};
 ghost use Rattle.promises.specs.Joins.{JoinPromise};
+ghost use Rattle.promises.specs.Overlaps.{DisjoinPromise};
 ghost use Rattle.promises.specs.Texts.{WritePromise, ReadPromise};
 ghost use Rattle.promises.specs.Sheets.{SheetPromise};
 ghost use Rattle.promises.specs.Models.{WriteModelPromise};
@@ -81,6 +83,18 @@ pub fn join_rows(n: usize, k: usize, rows: &mut [Row]) -> JoinAnswer
     let flat = record_copies::gather(rows, m);
     let done = record_joins::join_of(n, k, flat, m);
     record_copies::scatter(done.flat, done.count, rows);
+    done.answer
+}
+
+// The disjoint list of a list whose rows may share points: its rows are the first records of `disjoint`, and the others hold what they held. Refuses
+// with 1, 2, 4, 5 (128 rows), 6 and, where more than 128 rows would come out, 14.
+pub fn disjoin_rows(n: usize, k: usize, rows: &[Row], disjoint: &mut [Row]) -> DisjoinAnswer
+    ensures { λ r. ⌜ DisjoinPromise n k (now (rows .entry)) (lentRecords (now (disjoint .entry)) (now (disjoint .exit))) r ⌝ }
+{
+    let m = record_copies::fits(rows.len());
+    let flat = record_copies::gather(rows, m);
+    let done = record_disjoins::disjoin_of(n, k, flat, m, disjoint.len());
+    record_copies::scatter(done.flat, done.count, disjoint);
     done.answer
 }
 

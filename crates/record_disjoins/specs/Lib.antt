@@ -1,0 +1,2 @@
+-- The promise of disjoining, from flat slices to arrays.
+pub mod Disjoined
