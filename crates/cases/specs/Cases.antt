@@ -1,6 +1,7 @@
 -- The blocks that 01 marks P (01, Blocks to try by hand), read as fr, blocks with missing points under both types (02, Ticket 2), symmetric
--- blocks (02, Ticket 6), why numbers were not taken (02, Ticket 7), columns that no row drives (02, Ticket 8) and rows that are joined (02, Ticket
--- 9), as one statement over a table: each question has the numbers that stand beside it. Every question goes through the answer that an operation's contract cites. Assumes nothing.
+-- blocks (02, Ticket 6), why numbers were not taken (02, Ticket 7), columns that no row drives (02, Ticket 8), rows that are joined (02, Ticket 9)
+-- and lists that overlap on purpose (02, Ticket 10), as one statement over a table: each question has the numbers that stand beside it. Every
+-- question goes through the answer that an operation's contract cites. Assumes nothing.
 use mathlib.Core.Path.{_≡_, refl, ap₂}
 use mathlib.Core.Bool.{Bool, true, cond, _&&_}
 use mathlib.Core.List.{List, [], _∷_, _++_}
@@ -31,6 +32,23 @@ use Rattle.block.specs.Symmetric.{
 }
 use Rattle.block.specs.Reasons.{reason, reasonOf, whyVerdict, whyNot, whyNumbers}
 use Rattle.block.specs.Joins.{joins, mate, joining, without, joinAt, joinNext, joinUpTo, joined, joinVerdict, join, joinedRoom}
+use Rattle.block.specs.Overlaps.{
+  ors,
+  liesInside,
+  met,
+  crossed,
+  metWord,
+  undecided,
+  greatest,
+  cut,
+  pieces,
+  freeInputs,
+  regionRows,
+  disjoined,
+  disjoinChecked,
+  disjoinVerdict,
+  disjoin,
+}
 use Rattle.block.specs.declared.Row.{Row}
 use Rattle.block.specs.declared.Answer.{Answer}
 
@@ -43,7 +61,7 @@ equal-same (x ∷ xs) [] h = absurd h
 equal-same (x ∷ xs) (y ∷ ys) h =
     ap₂ _∷_ (eqb→eq x y (and-left (eqb x y) (equal xs ys) h)) (equal-same xs ys (and-right (eqb x y) (equal xs ys) h))
 
--- a question to one operation; the lent room is just what it asks for
+-- a question to one operation; the lent room is just what it asks for, but in disjoining, where it is the third number
 pub data Question : Type 0 where
   tableValues : ℕ → ℕ → ℕ → ℕ → List ℕ → Question
   tableMethods : ℕ → ℕ → ℕ → ℕ → List ℕ → Question
@@ -55,6 +73,7 @@ pub data Question : Type 0 where
   tableSymmetrics : ℕ → ℕ → ℕ → List ℕ → Question
   whyNots : ℕ → ℕ → ℕ → ℕ → ℕ → List Row → Question
   joinings : ℕ → ℕ → List Row → Question
+  disjoinings : ℕ → ℕ → ℕ → List Row → Question
 
 -- a result beside an answer, nothing beside a refusal
 abbrev pub with : Answer → List ℕ → List ℕ
@@ -67,7 +86,8 @@ flat (r ∷ rs) = r .mask ∷ r .values ∷ r .word ∷ flat rs
 
 -- number, A, B; then the value; or the measures, T, sigma and the smaller table; or the measures, the count, T, sigma and the smaller
 -- rows; or the filled table; or the restored one; or the measures and both tables of a symmetric block; or whether a table is one;
--- or the reason, its step and its set; or the number of rows that are left, and every record of the list's room
+-- or the reason, its step and its set; or the number of rows that are left, and every record of the list's room; or the number of rows that come
+-- out, and these
 pub ask : Question → List ℕ
 ask (tableValues n k y t table) = let r = tableValue n k y t table in r .number ∷ r .a ∷ r .b ∷ r .value ∷ []
 ask (tableMethods n k y w table) =
@@ -98,6 +118,9 @@ ask (whyNots n k y w t rs) =
 ask (joinings n k rs) =
     let r = join n k rs in
     r .number ∷ r .a ∷ r .b ∷ r .count ∷ with (joinVerdict n k rs) (flat (joinedRoom rs))
+ask (disjoinings n k room rs) =
+    let r = disjoin n k rs room in
+    r .number ∷ r .a ∷ r .b ∷ r .count ∷ with (disjoinVerdict n k rs room) (flat (disjoined n rs))
 
 pub record Case : Type 0 where
   pub question : Question
@@ -157,6 +180,18 @@ rowsL = row 3 1 1 ∷ row 3 3 1 ∷ row 3 0 1 ∷ []
 pub rowsZ : List Row
 rowsZ = row 1 0 0 ∷ row 1 1 0 ∷ []
 
+-- "0- 01", "-0 10": both lie over 00
+pub rowsO : List Row
+rowsO = row 2 0 1 ∷ row 1 0 2 ∷ []
+
+-- "- 01", "1 10": a row over all, and one inside it
+pub rowsN : List Row
+rowsN = row 0 0 1 ∷ row 1 1 2 ∷ []
+
+-- "0 01", "0 10": one row twice, with two words
+pub rowsT : List Row
+rowsT = row 1 0 1 ∷ row 1 0 2 ∷ []
+
 -- a table without an output at 01
 pub tableM : List ℕ
 tableM = 0 ∷ 65535 ∷ 1 ∷ 0 ∷ []
@@ -167,7 +202,8 @@ tableM = 0 ∷ 65535 ∷ 1 ∷ 0 ∷ []
 -- refusals, which come before the reason that t is 0; then columns that no row drives: block e with a third output, in every operation on
 -- lists, two of block u, of which the lowest is named, and a table, which is not asked for them. In case h, where rows share a point too, 7
 -- comes first; then rows that are joined, and lists in which none are: block e, where values differ in two, block d, where words differ, and
--- block u, which is not asked for its columns; and refusals
+-- block u, which is not asked for its columns; and refusals; then lists that overlap, among them block h, whose words are 0, block m, which is
+-- disjoint, and block d with two inputs more that no row fixes; and refusals, of which 5 comes before 6
 pub table : List Case
 table =
     case (tableValues 2 1 fr 0 tableA) (0 ∷ 0 ∷ 0 ∷ 4 ∷ [])
@@ -259,6 +295,17 @@ table =
     ∷ case (joinings 2 1 []) (4 ∷ 0 ∷ 0 ∷ 0 ∷ [])
     ∷ case (joinings 1 1 rowsK) (6 ∷ 0 ∷ 0 ∷ 0 ∷ [])
     ∷ case (joinings 2 1 rowsH) (7 ∷ 0 ∷ 1 ∷ 0 ∷ [])
+    ∷ case (disjoinings 2 2 128 rowsO) (0 ∷ 0 ∷ 0 ∷ 3 ∷ 3 ∷ 0 ∷ 3 ∷ 3 ∷ 1 ∷ 1 ∷ 3 ∷ 2 ∷ 2 ∷ [])
+    ∷ case (disjoinings 1 2 128 rowsN) (0 ∷ 0 ∷ 0 ∷ 2 ∷ 1 ∷ 0 ∷ 1 ∷ 1 ∷ 1 ∷ 3 ∷ [])
+    ∷ case (disjoinings 1 2 130 rowsT) (0 ∷ 0 ∷ 0 ∷ 1 ∷ 1 ∷ 0 ∷ 3 ∷ [])
+    ∷ case (disjoinings 2 1 128 rowsH) (0 ∷ 0 ∷ 0 ∷ 3 ∷ 3 ∷ 0 ∷ 0 ∷ 3 ∷ 1 ∷ 0 ∷ 3 ∷ 2 ∷ 0 ∷ [])
+    ∷ case (disjoinings 2 2 128 rowsM) (0 ∷ 0 ∷ 0 ∷ 2 ∷ 3 ∷ 0 ∷ 1 ∷ 3 ∷ 3 ∷ 2 ∷ [])
+    ∷ case (disjoinings 3 9 128 rowsD) (0 ∷ 0 ∷ 0 ∷ 2 ∷ 1 ∷ 0 ∷ 255 ∷ 1 ∷ 1 ∷ 511 ∷ [])
+    ∷ case (disjoinings 17 16 127 rowsO) (1 ∷ 0 ∷ 0 ∷ 0 ∷ [])
+    ∷ case (disjoinings 2 16 127 rowsO) (2 ∷ 0 ∷ 0 ∷ 0 ∷ [])
+    ∷ case (disjoinings 2 2 127 []) (4 ∷ 0 ∷ 0 ∷ 0 ∷ [])
+    ∷ case (disjoinings 1 1 127 rowsK) (5 ∷ 0 ∷ 0 ∷ 0 ∷ [])
+    ∷ case (disjoinings 2 1 128 rowsO) (6 ∷ 0 ∷ 1 ∷ 0 ∷ [])
     ∷ []
 
 -- the test of a table of cases, which antt computes
@@ -281,11 +328,11 @@ right-all (c ∷ cs) h = (
 
 pub cases : Right table
 unfolding
-    ask flat table right tableA rowsC rowsD rowsE rowsF rowsG rowsH rowsM rowsU rowsI rowsK rowsL rowsZ tableM ones onesIn parity tab first sum count ofRows same shift measure
+    ask flat table right tableA rowsC rowsD rowsE rowsF rowsG rowsH rowsM rowsU rowsI rowsK rowsL rowsZ rowsO rowsN rowsT tableM ones onesIn parity tab first sum count ofRows same shift measure
     span candidate before better best next chosen columns apply inverse basisOf sigmaOf smallerOf highest partner exchange rest shear
     reached splitRow splitRows moved verdict badRow share second sharing driven undriven dependent tableValueVerdict tableValue tableMethodVerdict
     tableMethod smallerTable restoreVerdict restored rowValueVerdict rowValue rowsAfter passing methodChecks rowMethodVerdict
     rowMethod smallerList fillVerdict filled equal symmetricTable grayColumn grayTable isSymmetric symmetricVerdict symmetricBlock
     tableSymmetricVerdict tableSymmetric reason reasonOf whyVerdict whyNot joins mate joining without joinAt joinNext joinUpTo joined joinVerdict
-    join joinedRoom
+    join joinedRoom ors liesInside met crossed metWord undecided greatest cut pieces freeInputs regionRows disjoined disjoinChecked disjoinVerdict disjoin
 cases = right-all table tt

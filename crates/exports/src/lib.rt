@@ -2,6 +2,7 @@
 // is passed as a pointer and then a length, an array as a pointer alone, and an answer comes back as a struct of numbers. The names begin
 // with irwystl_, those on rows that are lent as records with irwystl_records_. This crate holds nothing else.
 use block::Answer;
+use block::DisjoinAnswer;
 use block::JoinAnswer;
 use block::LIST_INPUTS;
 use block::MODEL_ROOM;
@@ -24,6 +25,7 @@ ghost use Rattle.promises.specs.Symmetric.{SymmetricBlockPromise, TableSymmetri
 ghost use Rattle.promises.specs.Lists.{RowValuePromise, RowMethodPromise, FillPromise};
 ghost use Rattle.promises.specs.Reasons.{WhyNotPromise};
 ghost use Rattle.promises.specs.Joins.{JoinPromise, PrintJoinPromise};
+ghost use Rattle.promises.specs.Overlaps.{DisjoinPromise, PrintDisjointPromise};
 ghost use Rattle.promises.specs.Texts.{WritePromise, ReadPromise};
 ghost use Rattle.promises.specs.Sheets.{SheetPromise, PrintPromise};
 ghost use Rattle.promises.specs.Models.{WriteModelPromise, ReadModelPromise, ModelValuePromise, PrintModelPromise};
@@ -204,6 +206,33 @@ pub extern "C" fn irwystl_join_rows(
 }
 
 #[no_mangle]
+pub extern "C" fn irwystl_disjoin_rows(
+    n: usize,
+    k: usize,
+    masks: &[u32],
+    values: &[u32],
+    words: &[u32],
+    disjoint_masks: &mut [u32],
+    disjoint_values: &mut [u32],
+    disjoint_words: &mut [u32],
+) -> DisjoinAnswer
+    ensures { λ r. ⌜ DisjoinPromise n k (rowsOf (now (masks .entry)) (now (values .entry)) (now (words .entry)))
+        (lentFlat (now («disjoint_masks» .entry)) (now («disjoint_values» .entry)) (now («disjoint_words» .entry))
+        (now («disjoint_masks» .exit)) (now («disjoint_values» .exit)) (now («disjoint_words» .exit))) r ⌝ }
+{
+    disjoining::disjoin_rows(
+        n,
+        k,
+        masks,
+        values,
+        words,
+        disjoint_masks,
+        disjoint_values,
+        disjoint_words,
+    )
+}
+
+#[no_mangle]
 pub extern "C" fn irwystl_fill_table(
     n: usize,
     k: usize,
@@ -321,6 +350,18 @@ pub extern "C" fn irwystl_records_join_rows(n: usize, k: usize, rows: &mut [Row]
     ensures { λ r. ⌜ JoinPromise n k (now (rows .entry)) (lentRecords (now (rows .entry)) (now (rows .exit))) r ⌝ }
 {
     records::join_rows(n, k, rows)
+}
+
+#[no_mangle]
+pub extern "C" fn irwystl_records_disjoin_rows(
+    n: usize,
+    k: usize,
+    rows: &[Row],
+    disjoint: &mut [Row],
+) -> DisjoinAnswer
+    ensures { λ r. ⌜ DisjoinPromise n k (now (rows .entry)) (lentRecords (now (disjoint .entry)) (now (disjoint .exit))) r ⌝ }
+{
+    records::disjoin_rows(n, k, rows, disjoint)
 }
 
 #[no_mangle]
@@ -454,6 +495,13 @@ pub extern "C" fn irwystl_print_joined(input: &[u8], out: &mut [u8; TEXT_ROOM]) 
     ensures { λ r. ⌜ PrintJoinPromise (now (input .entry)) (now (out .entry)) r (now (out .exit)) ⌝ }
 {
     printing::print_joined(input, out)
+}
+
+#[no_mangle]
+pub extern "C" fn irwystl_print_disjoint(input: &[u8], out: &mut [u8; TEXT_ROOM]) -> usize
+    ensures { λ r. ⌜ PrintDisjointPromise (now (input .entry)) (now (out .entry)) r (now (out .exit)) ⌝ }
+{
+    printing::print_disjoint(input, out)
 }
 
 #[no_mangle]

@@ -11,20 +11,21 @@ use borrow.Author.Tests.{eq-eqb, lt-ltb, ltb-true}
 use lib.Bits.{bitAnd, and-zero-l}
 use lib.Dec.{ltb}
 use lib.ListN.{length}
-use lib.Pow.{pow-pos}
+use lib.Pow.{pow-pos, pow-mono}
 use Rattle.bits.specs.Digits.{bit}
 use Rattle.slices.specs.Places.{first}
 use Rattle.slices.specs.Least.{first-passes}
 use Rattle.slices.specs.Tests.{and-both}
 use Rattle.sums.specs.Sums.{one}
 use Rattle.sums.specs.Laws.{one-le, count-none, count-some, one-and}
+use Rattle.block.specs.Limits.{outputs}
 use Rattle.block.specs.Words.{row, under, ofRows}
 use Rattle.block.specs.Rows.{half}
 use Rattle.block.specs.Refusals.{rowAt, share, badRow}
 use Rattle.block.specs.Overlaps.{ors, orAt, liesInside, met, metWord, cut, wholeSpace, regionRows, disjoined}
 use Rattle.block.specs.declared.Row.{Row}
 use Rattle.pair_laws.specs.Cube.{Sound, sound-values}
-use Rattle.pair_laws.specs.Theorem.{Every, Apart, Nowhere, Somewhere, every-cons, find}
+use Rattle.pair_laws.specs.Theorem.{Every, Apart, Disjoint, Nowhere, Somewhere, every-cons, find}
 use Rattle.pair_laws.specs.Share.{share-at, sound-good, good-sound, good-word}
 use Rattle.step_laws.specs.Hits.{every-append, hits, hits-append, hits-cons, hits-none, hits-one, hits-apart, word-none, halves}
 use Rattle.region_laws.specs.Ors.{ors-none, ors-cong, ors-lt, ors-only}
@@ -261,6 +262,14 @@ module _ (n k : ℕ) (rs : List Row) (good : Every (λ r. badRow n k r ≡ false
   -- no row is malformed
   pub disjoined-good : Every (λ r. badRow n k r ≡ false) (disjoined n rs)
   disjoined-good i h = sound-good n k (rowAt (disjoined n rs) i) (out .sound i h) (out .words i h)
+
+  pub disjoined-disjoint : k ≤ outputs → Disjoint n (disjoined n rs)
+  disjoined-disjoint h =
+      record {
+        sound = out .sound;
+        outputs = λ i l e. omega (arith, out .words i l, pow-mono h);
+        apart = disjoined-apart;
+      }
 
   -- of a list with a row, a row
   pub disjoined-some : 1 ≤ length rs → 1 ≤ length (disjoined n rs)

@@ -178,8 +178,8 @@ pub fn disjoin_checked(
 ) -> Answer
     ensures { λ r. ⌜ r ≡ verdict (disjoinChecked n k (rowsOf (now (masks .entry)) (now (values .entry)) (now (words .entry))) room) ⌝ }
 {
-    let sizes = shared_checks::sizes(LIST_INPUTS, n, k, FD);
-    let count = then_count(sizes, GIVEN_ROWS, masks, values, words);
+    let size = shared_checks::sizes(LIST_INPUTS, n, k, FD);
+    let count = then_count(size, GIVEN_ROWS, masks, values, words);
     let short = room < GIVEN_ROWS;
     let lent = shared_checks::then_where(count, short, 5, 0, 0);
     then_formed(lent, n, k, masks, values, words)

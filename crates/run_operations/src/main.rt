@@ -1,9 +1,9 @@
 // Cases of the operations on tables and lists, run: the arguments are files of data/, one case to a line with the answer due (crate
-// case_lines has the form; crates why_cases and join_cases run the operations `why` and `join`). A case that is answered otherwise is said with
-// what was answered; at the end stands how many were as due. operations.txt, the two of the order, the two of the types, spectrum.txt,
-// symmetric.txt, why.txt, undriven.txt, join.txt and join_more.txt come from a program of another hand, ranges.txt, why_ranges.txt,
-// undriven_ranges.txt and join_ranges.txt have 01's and 02's blocks to try by hand and the ends of each range. (type_texts.txt and
-// undriven_texts.txt have cases of reading, writing and the sheet, which the tests from outside run.)
+// case_lines has the form; crates why_cases, join_cases and disjoin_cases run the operations `why`, `join` and `disjoin`). A case that is answered
+// otherwise is said with what was answered; at the end stands how many were as due. operations.txt, the two of the order, the two of the types,
+// spectrum.txt, symmetric.txt, why.txt, undriven.txt, join.txt, join_more.txt and disjoin.txt come from a program of another hand, ranges.txt,
+// why_ranges.txt, undriven_ranges.txt, join_ranges.txt and disjoin_ranges.txt have 01's and 02's blocks to try by hand and the ends of each range.
+// (type_texts.txt and undriven_texts.txt have cases of reading, writing and the sheet, which the tests from outside run.)
 use case_lines::Given;
 use case_lines::HELD;
 use case_lines::HELD_ENTRY;
@@ -444,6 +444,9 @@ fn run(name: &[u8], text: &[u8], at: usize, got: &mut [u64; NUMBERS]) -> Part
     }
     if is_same(name, b"join") {
         return join_cases::run_join(text, at, got);
+    }
+    if is_same(name, b"disjoin") {
+        return disjoin_cases::run_disjoin(text, at, got);
     }
     let h = read_given(text, at);
     run_given(name, h, text, got)
