@@ -3,8 +3,8 @@
 -- was disjoint already keeps its block, read as fd. Which rows come out of a region, and in which order; that no region is visited twice, and how many
 -- are. And what is worked out of the disjoint list is that of the block of ORs, with no refusal but 9 and 11. The laws of any region stand in crate
 -- region_laws. Assumes nothing.
-use mathlib.Core.Path.{_≡_, refl, sym, ap, _∙_}
-use mathlib.Core.Bool.{true, false, cond}
+use mathlib.Core.Path.{_≡_, _∙_}
+use mathlib.Core.Bool.{false, cond}
 use mathlib.Core.List.{List, map}
 use Prim.Native.Nat.{ℕ, _+_, _*_, _^_, _≤_, _<_}
 use native.Mathlib.Omega.{arith}
@@ -26,7 +26,7 @@ use Rattle.answered_laws.specs.Passed.{DisjoinAnswered, Passed, disjoin-answere
 use Rattle.region_laws.specs.Ors.{ors-none}
 use Rattle.region_laws.specs.Disjoined as D
 use Rattle.region_laws.specs.Pieces.{visited}
-use Rattle.region_laws.specs.Visited as V
+use Rattle.region_laws.specs.Visited.{Distinct, visited-distinct, visited-few}
 use Rattle.demands.specs.Lists.{basis-points, sigma-points, smaller-points}
 
 -- a point under no row has word 0
@@ -72,11 +72,11 @@ module _ (n k : ℕ) (rs : List Row) (room : ℕ) (h : disjoinVerdict n k rs roo
   disjoint-kept apart x l = disjoint-word x l ∙ D.apart-word n rs apart x l
 
   -- no region is visited twice, and there are one and twice n of them at most for each row that comes out
-  pub regions-once : V.Distinct (visited n rs wholeSpace)
-  regions-once = V.visited-distinct n k rs good
+  pub regions-once : Distinct (visited n rs wholeSpace)
+  regions-once = visited-distinct n k rs good
 
   pub regions-few : length (visited n rs wholeSpace) ≤ 1 + 2 * (n * disjoin n k rs room .count)
-  regions-few = rw (disjoint-count) (V.visited-few n k rs good)
+  regions-few = rw (disjoint-count) (visited-few n k rs good)
 
   -- ---- what is worked out of the disjoint list is that of the block of ORs
 
