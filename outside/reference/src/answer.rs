@@ -1,7 +1,7 @@
 //! What comes back (01, Numbers that come back): the answer, the refusal, and
 //! the results of each operation that has more than one.
 
-/// A refusal: its number from 1 to 11 and its places, 0 where not named.
+/// A refusal: its number, 1 to 11 or 14, and its places, 0 where not named.
 #[derive(Clone, Copy, Debug, PartialEq, Eq)]
 pub struct Refusal {
     pub number: u32,

@@ -1,7 +1,7 @@
 //! The refusals 1 to 8 and 11 (01, Numbers that come back; 02), one function each. An
 //! operation calls them in the order of the numbers, but for 11, which comes after 7.
-//! Not here: 9, which the row method finds at its steps, and 10, which the reader of
-//! text finds.
+//! Not here: 9, which the row method finds at its steps, 10, which the reader of text
+//! finds, and 14, which a disjoint list finds at its end.
 
 use crate::model::Pattern;
 use crate::{missing, Refusal, Row, FD, FR, OUTPUTS};

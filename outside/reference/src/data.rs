@@ -2,9 +2,9 @@
 //! files of `crates/run_operations/data` have one operation a line with its answer,
 //! `crates/run_texts/data` texts for the program with what it prints, and
 //! `crates/run_models/data` both for models. All but `ranges.txt`, `why_ranges.txt`,
-//! `undriven_ranges.txt`, `join_ranges.txt` and a few texts are worked out by a third
-//! program. Lent storage is looked at in full: what an answer does not write holds what it
-//! held.
+//! `undriven_ranges.txt`, `join_ranges.txt`, `disjoin_ranges.txt` and a few texts are worked
+//! out by a third program. Lent storage is looked at in full: what an answer does not write
+//! holds what it held.
 
 use crate::blif::{self, Network};
 use crate::inputs::LentRows;
@@ -186,6 +186,7 @@ fn answer<O: Operations>(line: &str) -> (String, Option<Vec<u8>>) {
         }
         "why" => why_answer::<O>(block(), &words),
         "join" => join_answer::<O>(&words),
+        "disjoin" => disjoin_answer::<O>(&words),
         "read" => read_answer::<O>(parse(words[1]), &text_of(words[2])),
         "write" => {
             let [n, k, block_type] = block();
@@ -440,6 +441,20 @@ fn join_answer<O: Operations>(words: &[&str]) -> String {
     format!("{} {} {said}", places(&got), got.results)
 }
 
+/// Making records and flat slices disjoint, which must agree.
+fn disjoin_answer<O: Operations>(words: &[&str]) -> String {
+    let [n, k] = [parse(words[1]), parse(words[2])];
+    let given = rows(words[4]);
+    let mut disjoint = vec![HELD_ROW; parse(words[3])];
+    let mut same = LentRows::new(&disjoint);
+    let got = O::disjoin_records(n, k, &given, &mut disjoint);
+    let flat = LentRows::new(&given);
+    assert_eq!(got, O::disjoin(n, k, flat.list(), same.room()));
+    assert_eq!(LentRows::new(&disjoint), same);
+    let said = joined_rows(written(&disjoint, got.results, HELD_ROW));
+    format!("{} {} {said}", places(&got), got.results)
+}
+
 /// Reading into records and into flat slices, which must agree.
 fn read_answer<O: Operations>(room: usize, text: &[u8]) -> String {
     let mut rows = vec![HELD_ROW; room];
@@ -529,6 +544,8 @@ pub fn check_operations<O: Operations>() {
         ("join.txt", 65),
         ("join_more.txt", 125),
         ("join_ranges.txt", 217),
+        ("disjoin.txt", 190),
+        ("disjoin_ranges.txt", 264),
     ] {
         check_file::<O>("../../crates/run_operations/data", name, cases);
     }

@@ -1,13 +1,13 @@
 //! What 02 asks to be shown of answers together, on inputs from a seed, for any
 //! implementation: symmetric blocks (Ticket 6), why a number was not taken (Ticket
-//! 7), columns that no row drives (Ticket 8), and joined lists (Ticket 9), what is printed
-//! of them among these, on any text. Not here: the demands on both methods, which are in
-//! tests/agree.rs.
+//! 7), columns that no row drives (Ticket 8), joined lists (Ticket 9) and disjoint ones
+//! (Ticket 10), what is printed of either among these, on any text. Not here: the demands on
+//! both methods, which are in tests/agree.rs.
 
 use crate::inputs::{self, LentRows, Random};
 use crate::{checks, matrix, missing, symmetric, Fast, Measures, Operations, Plain, Reason, Row};
-use crate::{FD, FR, JOIN_ROWS, MODEL_ROOM, NO_OUTPUT, ROWS, ROW_INPUTS, SHEET_ROOM};
-use crate::{SMALLER_ROWS, TEXT_ROOM};
+use crate::{TextHead, FD, FR, JOIN_ROWS, MODEL_ROOM, NO_OUTPUT, PROGRAM_READS, ROWS};
+use crate::{ROW_INPUTS, SHEET_ROOM, SMALLER_ROWS, TEXT_ROOM};
 
 /// A symmetric block of n inputs: its table is called symmetric, and with another entry
 /// it is not; R is equal at all numbers with as many one-bits; the measures are the sums
@@ -265,27 +265,34 @@ pub fn joined<O: Operations>(n: usize, seed: u64) {
 /// not, joined as the plain operation has it.
 pub fn small_joins<O: Operations>() {
     for n in 1..=2 {
-        let mut kinds = Vec::new();
-        for mask in 0..1 << n {
-            for values in (0..=mask).filter(|values| values & !mask == 0) {
-                kinds.extend([0, 1].map(|word| Row { mask, values, word }));
-            }
-        }
-        let mut lists: Vec<Vec<Row>> = vec![Vec::new()];
-        for _ in 0..4 {
-            let longer = |list: &Vec<Row>, row: &Row| [&list[..], &[*row]].concat();
-            let with_each = |list| kinds.iter().map(move |row| longer(list, row));
-            lists = lists.iter().flat_map(with_each).collect();
-            for given in &lists {
-                let [mut due, mut got] = [given.clone(), given.clone()];
-                let mut flat = LentRows::new(given);
-                let answer = Plain::join_records(n, 1, &mut due);
-                assert_eq!(O::join_records(n, 1, &mut got), answer, "{given:?}");
-                assert_eq!(O::join(n, 1, flat.room()), answer, "{given:?}");
-                assert!(got == due && flat == LentRows::new(&due), "{given:?}");
-            }
+        for given in small_lists(n, 4, &[0, 1]) {
+            let [mut due, mut got] = [given.clone(), given.clone()];
+            let mut flat = LentRows::new(&given);
+            let answer = Plain::join_records(n, 1, &mut due);
+            assert_eq!(O::join_records(n, 1, &mut got), answer, "{given:?}");
+            assert_eq!(O::join(n, 1, flat.room()), answer, "{given:?}");
+            assert!(got == due && flat == LentRows::new(&due), "{given:?}");
         }
     }
+}
+
+/// Every list of n inputs with one to `most` rows, each with one of the words.
+fn small_lists(n: usize, most: usize, words: &[u32]) -> Vec<Vec<Row>> {
+    let mut kinds = Vec::new();
+    for mask in 0..1 << n {
+        for values in (0..=mask).filter(|values| values & !mask == 0) {
+            kinds.extend(words.iter().map(|&word| Row { mask, values, word }));
+        }
+    }
+    let longer = |list: &Vec<Row>, row: &Row| [&list[..], &[*row]].concat();
+    let mut all: Vec<Vec<Row>> = Vec::new();
+    let mut lists = vec![Vec::new()];
+    for _ in 0..most {
+        let with_each = |list| kinds.iter().map(move |row| longer(list, row));
+        lists = lists.iter().flat_map(with_each).collect();
+        all.extend_from_slice(&lists);
+    }
+    all
 }
 
 /// What is printed of a text's joined rows, which is given. The text is refused where its
@@ -314,6 +321,196 @@ pub fn printed_joined<O: Operations>(name: &str, text: &[u8]) -> String {
         assert_eq!(up_to_table(&after), up_to_table(&sheet), "{name}");
     }
     printed
+}
+
+/// A list of n inputs that overlaps on purpose, made disjoint: the word at each point is the
+/// OR of all rows over it, and 0 where there is none; no two rows share a point, and the
+/// rows are well formed; the points under them are those under some row of the list; each
+/// lies inside every row that meets it; and they stand in the order of their values, for the
+/// 0 half comes first. A list that was disjoint has the same block under fd. Made disjoint
+/// again, the rows are the same; their sheet is refused with 9 and 11 alone. Gives the number
+/// of rows, none where more than 128 would come out.
+pub fn disjoint<O: Operations>(n: usize, seed: u64) -> Option<usize> {
+    let name = format!("{n} inputs, seed {seed}");
+    let random = &mut Random::new(seed);
+    let k = random.between(1, 15);
+    let count = random.pick(&[4, 8, 24, ROWS]);
+    let count = random.between(1, count);
+    let given = match n >= 8 && random.one_in(6) {
+        true => inputs::exact_rows(random, n, k, ROWS),
+        false => inputs::overlapping_rows(random, n, k, count),
+    };
+    let rows = disjoin_of::<O>(&name, [n, k], &given)?;
+    assert_eq!(checks::records(n, k, &rows), Ok(()), "{name}");
+    assert_eq!(checks::disjoint(&rows), Ok(()), "{name}");
+    let after = block(n, FD, &rows);
+    assert!(after == ors(n, &given), "{name}");
+    if checks::disjoint(&given).is_ok() {
+        assert!(after == block(n, FD, &given), "{name}");
+    }
+    let covered = |rows: &[Row], x| rows.iter().any(|row| row.covers(x));
+    let differ = |x: &u32| covered(&given, *x) != covered(&rows, *x);
+    assert_eq!((0..1 << n).find(differ), None, "{name}");
+    for row in &rows {
+        let outside = |over: &&Row| over.meets(row) && over.mask & !row.mask != 0;
+        assert_eq!(given.iter().find(outside), None, "{name}");
+    }
+    assert!(
+        rows.windows(2).all(|two| two[0].values < two[1].values),
+        "{name}"
+    );
+    let again = disjoin_of::<O>(&name, [n, k], &rows);
+    assert!(again.as_ref() == Some(&rows), "{name}");
+
+    let undriven = inputs::undriven_columns(k, &rows) != 0;
+    let w = n.min(2);
+    let sheet = O::sheet_records(n, k, FD, w, &rows, &mut vec![0; SHEET_ROOM]);
+    let may: &[u32] = if undriven { &[11] } else { &[0, 9] };
+    assert!(may.contains(&sheet.number), "{name}");
+    Some(rows.len())
+}
+
+/// Every list of one input with up to four rows, of two with up to three and of three with
+/// up to two, with the words 0, 1 and 2, and drawn ones of up to seven inputs: what comes out
+/// is what 02's words give where a region is its points.
+pub fn disjoint_by_points<O: Operations>() {
+    for (n, most) in [(1, 4), (2, 3), (3, 2)] {
+        for given in small_lists(n, most, &[0, 1, 2]) {
+            by_points::<O>(n, &given);
+        }
+    }
+    for seed in 0..600 {
+        let random = &mut Random::new(seed);
+        let n = random.between(3, 7);
+        let count = random.between(1, 12);
+        let given = inputs::overlapping_rows(random, n, 2, count);
+        by_points::<O>(n, &given);
+    }
+}
+
+/// The list, of two outputs, made disjoint, beside what the points of regions give.
+fn by_points<O: Operations>(n: usize, given: &[Row]) {
+    let name = format!("{n} inputs, {given:?}");
+    let all: Vec<u32> = (0..1 << n).collect();
+    let due = points_rows(n, given, &all);
+    let got = disjoin_of::<O>(&name, [n, 2], given);
+    assert_eq!(got, (due.len() <= ROWS).then_some(due), "{name}");
+}
+
+/// The rows that a region of these points gives. An input is free in it where it has points
+/// with either value.
+fn points_rows(n: usize, given: &[Row], points: &[u32]) -> Vec<Row> {
+    let meeting: Vec<&Row> = given
+        .iter()
+        .filter(|row| points.iter().any(|&x| row.covers(x)))
+        .collect();
+    let free = |input: &usize| {
+        let value = |x: &u32| x >> input & 1;
+        points.iter().any(|x| value(x) != value(&points[0]))
+    };
+    let lies_inside = |row: &&&Row| points.iter().all(|&x| row.covers(x));
+    if meeting.is_empty() {
+        return Vec::new();
+    }
+    if meeting.iter().filter(lies_inside).count() == meeting.len() {
+        let mask = (0..n).filter(|input| !free(input)).map(|input| 1 << input);
+        let mask = mask.sum();
+        let word = meeting.iter().fold(0, |word, row| word | row.word);
+        let values = points[0] & mask;
+        return vec![Row { mask, values, word }];
+    }
+    let fixed = |input: &usize| meeting.iter().any(|row| row.mask >> input & 1 == 1);
+    let cut = (0..n).filter(free).filter(fixed).max();
+    let cut = cut.expect("an input to halve at");
+    let (ones, zeros) = points.iter().partition(|&&x| x >> cut & 1 == 1);
+    let [ones, zeros]: [Vec<u32>; 2] = [ones, zeros];
+    [zeros, ones]
+        .map(|half| points_rows(n, given, &half))
+        .concat()
+}
+
+/// What is printed of a text's rows made disjoint, which is given. The text is refused where
+/// the reader refuses it, and with the same line; then with 3 where it is of type fr, and
+/// with 14. Else row text with the line ".type fd" is printed, which has the OR of all rows
+/// at each point, which is printed again as it is, and whose sheet is refused with 9 and 11
+/// alone.
+pub fn printed_disjoint<O: Operations>(name: &str, text: &[u8]) -> String {
+    let string = |bytes: Vec<u8>| String::from_utf8(bytes).expect("ASCII");
+    let printed = string(O::print_disjoint(text));
+    let (told, given) = match read_of(text) {
+        Ok(read) => read,
+        Err(refused) => {
+            assert_eq!(printed, refused, "{name}");
+            return printed;
+        }
+    };
+    let [n, k] = [told.n, told.k];
+    if told.block_type == FR {
+        assert_eq!(printed, "refused 3 0 0\n", "{name}");
+        return printed;
+    }
+    if disjoin_of::<O>(name, [n, k], &given).is_none() {
+        assert_eq!(printed, "refused 14 0 0\n", "{name}");
+        return printed;
+    }
+    let front = format!(".i {n}\n.o {k}\n.type fd\n.p ");
+    assert!(printed.starts_with(&front), "{name}");
+    let (_, rows) = read_of(printed.as_bytes()).expect("row text");
+    assert!(block(n, FD, &rows) == ors(n, &given), "{name}");
+    let again = string(O::print_disjoint(printed.as_bytes()));
+    assert_eq!(again, printed, "{name}");
+    let sheet = string(Fast::program(printed.as_bytes()));
+    let may = ["sheet 1\n", "refused 9 ", "refused 11 "];
+    assert!(may.iter().any(|begins| sheet.starts_with(begins)), "{name}");
+    printed
+}
+
+/// What a text tells and its rows, at most 8,192 bytes of it, or the line that refuses it.
+fn read_of(text: &[u8]) -> Result<(TextHead, Vec<Row>), String> {
+    let mut rows = vec![Row::default(); ROWS];
+    let text = &text[..text.len().min(PROGRAM_READS)];
+    let read = Plain::read_text_records(text, &mut rows);
+    rows.truncate(read.results.rows);
+    match read.number {
+        0 => Ok((read.results, rows)),
+        number => Err(format!("refused {number} {} {}\n", read.a, read.b)),
+    }
+}
+
+/// What the room for a disjoint list is lent before the call.
+const HELD_ROW: Row = Row {
+    mask: HELD,
+    values: HELD,
+    word: HELD,
+};
+
+/// The rows of the disjoint list, the same of records and of flat slices, with what lies
+/// beyond them as it was; none where more than 128 would come out, and then all is as it was.
+fn disjoin_of<O: Operations>(name: &str, [n, k]: [usize; 2], given: &[Row]) -> Option<Vec<Row>> {
+    let mut room = vec![HELD_ROW; ROWS + 2];
+    let [list, mut flat] = [given, &room].map(LentRows::new);
+    let got = O::disjoin_records(n, k, given, &mut room);
+    let same = O::disjoin(n, k, list.list(), flat.room());
+    assert_eq!(got, same, "{name}");
+    assert_eq!(flat, LentRows::new(&room), "{name}");
+    let beyond = room.split_off(got.results);
+    assert!(beyond.iter().all(|row| *row == HELD_ROW), "{name}");
+    match [got.number, got.a, got.b] {
+        [0, 0, 0] => Some(room),
+        refused => {
+            assert_eq!((refused, got.results), ([14, 0, 0], 0), "{name}");
+            None
+        }
+    }
+}
+
+/// The OR of all rows over each point.
+fn ors(n: usize, rows: &[Row]) -> Vec<u16> {
+    let word = |x| {
+        let over = rows.iter().filter(|row| row.covers(x));
+        over.fold(0, |word, row| word | row.word as u16)
+    };
+    (0..1 << n).map(word).collect()
 }
 
 /// The rows that are left of an answered list, and the records that are freed, which are

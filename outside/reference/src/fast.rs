@@ -12,7 +12,8 @@
 //! table at every t is asked by its spectrum too, and not counted there (02, Ticket 5);
 //! a symmetric block's measures come from its words (02, Ticket 6); why a number was not
 //! taken is found by elimination over the chosen ones (02, Ticket 7); the rows that one
-//! joins with are looked up (02, Ticket 9).
+//! joins with are looked up (02, Ticket 9); the rows that meet a region are a number's
+//! one-bits (02, Ticket 10).
 
 use crate::list::{answer_method, check_fill, check_value, Found};
 use crate::matrix::highest;
@@ -23,6 +24,7 @@ use crate::{
 };
 use std::iter::once;
 
+mod disjoining;
 mod joining;
 mod model;
 mod reasons;
@@ -31,6 +33,7 @@ mod symmetric;
 
 pub use crate::table::table_value;
 pub use crate::text::{read_text, write_text};
+pub use disjoining::{disjoin, print_disjoint};
 pub use joining::{join, print_joined};
 pub use model::{model_value, print_model, read_model, write_model};
 pub use reasons::why_not;

@@ -1,8 +1,8 @@
 //! Inputs from a seed, the same for the same seed: tables, words of symmetric
-//! blocks, lists of disjoint rows, some with many that join, numbers that are asked of
-//! them, matrices, row texts, models ([`models`]), and all of these damaged; their types;
-//! numbers in and out of range; rooms short, exact and long. [`Case::new`] draws a whole
-//! call of one operation with everything it is lent.
+//! blocks, lists of disjoint rows, some with many that join, lists that overlap on purpose,
+//! numbers that are asked of them, matrices, row texts, models ([`models`]), and all of these
+//! damaged; their types; numbers in and out of range; rooms short, exact and long.
+//! [`Case::new`] draws a whole call of one operation with everything it is lent.
 
 pub mod models;
 
@@ -221,6 +221,98 @@ pub fn smaller_list(random: &mut Random, n: usize, k: usize, count: usize) -> Ve
     let w = random.between(1, n.min(3));
     let block_type = random.pick(&[FR, FD]);
     smaller_of([n, k, block_type, w], &rows).unwrap_or(rows)
+}
+
+/// At most `count` rows that overlap on purpose: rows of any fixed inputs, rows inside
+/// earlier ones, rows that are there twice with any words, at times one over all points, and
+/// at times on top of disjoint rows; or disjoint rows alone. Word 0 is often among the words.
+pub fn overlapping_rows(random: &mut Random, n: usize, k: usize, count: usize) -> Vec<Row> {
+    let start = random.pick(&[0, 0, count / 2, count]);
+    let mut list = match start {
+        0 => Vec::new(),
+        _ => rows(random, n, k, start),
+    };
+    let words = words(random, k);
+    // How many inputs a row fixes: few, so that many rows meet, up to all.
+    let fixed = random.pick(&[1, 2, 4, n / 2, n]).clamp(1, n);
+    while list.len() < count && start != count {
+        let row = match random.below(6) {
+            kind @ (0 | 1) if !list.is_empty() => {
+                let earlier = random.pick(&list);
+                [inside(random, n, earlier), earlier][kind]
+            }
+            _ => cube(random, n, fixed),
+        };
+        let word = random.pick(&words);
+        list.push(Row { word, ..row });
+    }
+    if random.one_in(6) {
+        let index = random.below(list.len());
+        list[index] = Row {
+            word: random.pick(&words),
+            ..Row::default()
+        };
+    }
+    list
+}
+
+/// A row that fixes so many inputs, of word 0.
+fn cube(random: &mut Random, n: usize, fixed: usize) -> Row {
+    let mut inputs: Vec<usize> = (0..n).collect();
+    random.shuffle(&mut inputs);
+    let mask = inputs[..fixed]
+        .iter()
+        .fold(0, |mask, input| mask | 1 << input);
+    let values = random.word(n) & mask;
+    Row {
+        mask,
+        values,
+        word: 0,
+    }
+}
+
+/// A row within this one: it fixes one input more, where there is one.
+fn inside(random: &mut Random, n: usize, row: Row) -> Row {
+    let bit = 1 << random.below(n);
+    let value = random.word(n) & bit & !row.mask;
+    Row {
+        mask: row.mask | bit,
+        values: row.values | value,
+        word: row.word,
+    }
+}
+
+/// At most 128 rows of 8 inputs or more that give a disjoint list of exactly `out` rows,
+/// about 128: points, some of them two at a time in one row that leaves the highest input
+/// free; and at times points of these again, as many as there is room for.
+pub fn exact_rows(random: &mut Random, n: usize, k: usize, out: usize) -> Vec<Row> {
+    let [whole, high] = [(1 << n) - 1, 1 << (n - 1)];
+    let row = |random: &mut Random, mask: u32, point: u32| Row {
+        mask,
+        values: point & mask,
+        word: random.word(k),
+    };
+    // Which points both halves of the space have, and which the one half or the other.
+    let mut below: Vec<u32> = (0..high).collect();
+    random.shuffle(&mut below);
+    let pairs = out.saturating_sub(ROWS) + random.below(4);
+    let (both, ones) = below.split_at(pairs);
+    let mut list = Vec::with_capacity(ROWS);
+    list.extend(both.iter().map(|&point| row(random, whole & !high, point)));
+    let ones = &ones[..out - 2 * pairs];
+    let half = |random: &mut Random| random.pick(&[0, high]);
+    for &point in ones {
+        let point = point | half(random);
+        list.push(row(random, whole, point));
+    }
+    let more = random.below(ROWS - list.len() + 1);
+    for _ in 0..more {
+        let again = random.pick(&list);
+        let point = again.values | half(random) & !again.mask;
+        list.push(row(random, whole, point));
+    }
+    random.shuffle(&mut list);
+    list
 }
 
 /// The columns that no row has a 1 in, as the bits of a number.
@@ -467,6 +559,12 @@ pub fn joining_text(random: &mut Random) -> Vec<u8> {
     })
 }
 
+/// The same with rows that overlap on purpose.
+pub fn overlapping_text(random: &mut Random) -> Vec<u8> {
+    let undriven = random.one_in(8);
+    text_with(random, undriven, any_overlapping)
+}
+
 /// A row text whose rows are drawn so, for n, k and the most of them.
 fn text_with(
     random: &mut Random,
@@ -643,6 +741,16 @@ fn any_rows(random: &mut Random, n: usize, k: usize, most: usize) -> Vec<Row> {
     }
 }
 
+/// Rows that overlap on purpose, at times such that about 128 come out.
+fn any_overlapping(random: &mut Random, n: usize, k: usize, most: usize) -> Vec<Row> {
+    if n >= 8 && random.one_in(3) {
+        let out = random.between(127, 130);
+        return exact_rows(random, n, k, out);
+    }
+    let count = any_count(random, most);
+    overlapping_rows(random, n, k, count)
+}
+
 /// A number of rows, at times near the most.
 fn any_count(random: &mut Random, most: usize) -> usize {
     match random.below(6) {
@@ -788,6 +896,12 @@ pub enum Case {
         k: usize,
         rows: LentRows,
     },
+    Disjoin {
+        n: usize,
+        k: usize,
+        rows: LentRows,
+        disjoint: LentRows,
+    },
     Fill {
         n: usize,
         k: usize,
@@ -848,13 +962,16 @@ pub enum Case {
     PrintJoined {
         input: Vec<u8>,
     },
+    PrintDisjoint {
+        input: Vec<u8>,
+    },
 }
 
 impl Case {
     /// The case of a seed.
     pub fn new(seed: u64) -> Case {
         let random = &mut Random::new(seed);
-        match random.below(20) {
+        match random.below(22) {
             0 => {
                 let ([n, k, block_type], table) = any_table(random);
                 let t = number(random, 0, (1 << n.min(16)) - 1);
@@ -912,15 +1029,7 @@ impl Case {
             }
             4 => {
                 let ([n, k, block_type, w], rows) = method_list(random);
-                let mut smaller = LentRows {
-                    masks: numbers(random, SMALLER_ROWS),
-                    ..LentRows::default()
-                };
-                smaller.values = smaller.masks.clone();
-                smaller.words = smaller.masks.clone();
-                if random.one_in(16) {
-                    smaller.uneven(random);
-                }
+                let smaller = lent_rows(random, SMALLER_ROWS);
                 Case::RowMethod {
                     n,
                     k,
@@ -951,15 +1060,7 @@ impl Case {
                     .find_map(|line| line.strip_prefix(b".p "))
                     .and_then(|digits| std::str::from_utf8(digits).ok()?.parse().ok())
                     .map_or(ROWS, |due: usize| due.min(1_000));
-                let masks = numbers(random, due);
-                let mut rows = LentRows {
-                    values: masks.clone(),
-                    words: masks.clone(),
-                    masks,
-                };
-                if random.one_in(16) {
-                    rows.uneven(random);
-                }
+                let rows = lent_rows(random, due);
                 Case::ReadText { text, rows }
             }
             7 => {
@@ -1101,8 +1202,21 @@ impl Case {
                 let ([n, k], rows) = joining_list(random);
                 Case::Join { n, k, rows }
             }
-            _ => Case::PrintJoined {
+            19 => Case::PrintJoined {
                 input: any_joining_text(random),
+            },
+            20 => {
+                let ([n, k], rows) = overlapping_list(random);
+                let disjoint = lent_rows(random, ROWS);
+                Case::Disjoin {
+                    n,
+                    k,
+                    rows,
+                    disjoint,
+                }
+            }
+            _ => Case::PrintDisjoint {
+                input: any_overlapping_text(random),
             },
         }
     }
@@ -1222,6 +1336,14 @@ impl Case {
             Case::Join { n, k, rows } => {
                 flat(O::join(*n, *k, rows.room()), |left| vec![left as u64])
             }
+            Case::Disjoin {
+                n,
+                k,
+                rows,
+                disjoint,
+            } => flat(O::disjoin(*n, *k, rows.list(), disjoint.room()), |count| {
+                vec![count as u64]
+            }),
             Case::Fill {
                 n,
                 k,
@@ -1300,6 +1422,10 @@ impl Case {
                 *input = O::print_joined(input);
                 Answer::default()
             }
+            Case::PrintDisjoint { input } => {
+                *input = O::print_disjoint(input);
+                Answer::default()
+            }
         }
     }
 
@@ -1364,6 +1490,17 @@ impl Case {
                 let answer = O::join_records(*n, *k, &mut list);
                 *rows = LentRows::new(&list);
                 flat(answer, |left| vec![left as u64])
+            }
+            Case::Disjoin {
+                n,
+                k,
+                rows,
+                disjoint,
+            } => {
+                let [rows, mut room] = [rows.records()?, disjoint.records()?];
+                let answer = O::disjoin_records(*n, *k, &rows, &mut room);
+                *disjoint = LentRows::new(&room);
+                flat(answer, |count| vec![count as u64])
             }
             Case::Fill {
                 n,
@@ -1570,6 +1707,15 @@ pub fn joining_list(random: &mut Random) -> ([usize; 2], LentRows) {
     ([n, k], lent)
 }
 
+/// n, k and a list that overlaps on purpose, mostly within their ranges.
+pub fn overlapping_list(random: &mut Random) -> ([usize; 2], LentRows) {
+    let n = number(random, 1, ROW_INPUTS);
+    let k = number(random, 1, OUTPUTS);
+    let mut rows = any_overlapping(random, n.clamp(1, 20), k.clamp(1, OUTPUTS), ROWS);
+    let lent = harmed(random, n, k, ROWS, &mut rows);
+    ([n, k], lent)
+}
+
 /// A t for the question why it was not taken, mostly below 2^n and near what was taken;
 /// of a list that is refused any numbers are.
 fn any_asked(random: &mut Random, [n, k, block_type, w]: [usize; 4], rows: &LentRows) -> usize {
@@ -1628,6 +1774,16 @@ pub fn any_joining_text(random: &mut Random) -> Vec<u8> {
     }
 }
 
+/// A text whose rows are to be made disjoint, whole or damaged.
+pub fn any_overlapping_text(random: &mut Random) -> Vec<u8> {
+    let text = overlapping_text(random);
+    if random.one_in(2) {
+        text
+    } else {
+        damaged(random, text)
+    }
+}
+
 /// Takes the last item away or puts it there twice.
 fn uneven<T: Copy>(random: &mut Random, items: &mut Vec<T>) {
     match items.last().copied() {
@@ -1646,6 +1802,20 @@ fn entries(random: &mut Random, due: usize) -> Vec<u16> {
 fn numbers(random: &mut Random, due: usize) -> Vec<u32> {
     let count = room(random, due);
     (0..count).map(|_| random.word(32)).collect()
+}
+
+/// Lent room for rows with any contents, mostly of equal lengths.
+fn lent_rows(random: &mut Random, due: usize) -> LentRows {
+    let masks = numbers(random, due);
+    let mut rows = LentRows {
+        values: masks.clone(),
+        words: masks.clone(),
+        masks,
+    };
+    if random.one_in(16) {
+        rows.uneven(random);
+    }
+    rows
 }
 
 /// Lent signed numbers with any contents, the ends of their range among them.

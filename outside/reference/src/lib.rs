@@ -1,17 +1,18 @@
 //! The operations of 01 in plain Rust, with the requests of 02 that are met. A
 //! client gets: single values of R, R at every t of a table by its spectrum, the
 //! table method, restoring, symmetric blocks by Gray decoding, the row method,
-//! why a number was not taken, joining rows, filling, reading and writing row text, the
-//! sheet, models in BLIF, and what the program prints. Every operation takes any inputs
-//! and answers with a number, the places A and B, and its results. A type goes with every
-//! list and table, but not with a list that is joined.
+//! why a number was not taken, joining rows, making a list disjoint, filling, reading and
+//! writing row text, the sheet, models in BLIF, and what the program prints. Every operation
+//! takes any inputs and answers with a number, the places A and B, and its results. A type
+//! goes with every list and table, but not with a list that is joined or made disjoint.
 //!
 //! In order: [`answer`] and [`rows`] hold what goes in and out, [`types`] what a
 //! missing point means, [`checks`] the refusals, [`matrix`] the basis and its
 //! inverse, [`table`] and [`list`] the operations on full tables and on rows,
 //! [`spectrum`] R of a table by Walsh transforms, [`symmetric`] blocks that depend on
 //! the number of one-bits alone, [`reasons`] why a number was not taken, [`joining`]
-//! rows written as one, [`text`], [`sheet`] and [`model`] the texts.
+//! rows written as one, [`disjoining`] lists that overlap on purpose, [`text`], [`sheet`] and
+//! [`model`] the texts.
 //! These are written to be read beside 01 and take the long way wherever that
 //! is the plain one. [`fast`] has the same operations as one would write them
 //! for speed, [`operations`] both under one trait, [`inputs`] makes inputs
@@ -27,6 +28,7 @@ pub mod blif;
 pub mod checks;
 pub mod data;
 pub mod demands;
+pub mod disjoining;
 pub mod fast;
 pub mod inputs;
 pub mod joining;
@@ -51,6 +53,7 @@ pub use types::{missing, FD, FR};
 
 /// The operations that are written to be read beside 01.
 mod plain {
+    pub use crate::disjoining::{disjoin, print_disjoint};
     pub use crate::joining::{join, print_joined};
     pub use crate::list::{fill, row_method, row_value};
     pub use crate::model::{model_value, print_model, read_model, write_model};
@@ -66,7 +69,7 @@ mod plain {
 pub const NO_OUTPUT: u16 = 65_535;
 
 /// Most inputs of the row method, its single values, why a number was not taken, joining,
-/// text and sheet.
+/// disjoining, text and sheet.
 pub const ROW_INPUTS: usize = 16;
 
 /// Most inputs of the table method, its single values, its spectrum, filling,
@@ -76,7 +79,8 @@ pub const TABLE_INPUTS: usize = 12;
 /// Most outputs.
 pub const OUTPUTS: usize = 15;
 
-/// Most rows given, but for filling and joining.
+/// Most rows given, but for filling and joining; most rows of a disjoint list, and the room
+/// to lend for them.
 pub const ROWS: usize = 128;
 
 /// Most rows given for filling.

@@ -106,6 +106,10 @@ pub trait Operations {
 
     fn join_records(n: usize, k: usize, rows: &mut [Row]) -> Answer<usize>;
 
+    fn disjoin(n: usize, k: usize, rows: Flat, disjoint: FlatRoom) -> Answer<usize>;
+
+    fn disjoin_records(n: usize, k: usize, rows: &[Row], disjoint: &mut [Row]) -> Answer<usize>;
+
     fn fill(n: usize, k: usize, block_type: usize, rows: Flat, table: &mut [u16]) -> Answer<()>;
 
     fn fill_records(
@@ -197,6 +201,8 @@ pub trait Operations {
     fn print_model(input: &[u8]) -> Vec<u8>;
 
     fn print_joined(input: &[u8]) -> Vec<u8>;
+
+    fn print_disjoint(input: &[u8]) -> Vec<u8>;
 }
 
 /// The operations that are written to be read beside 01.
@@ -366,6 +372,21 @@ macro_rules! operations_of {
                 operations::join(n, k, rows)
             }
 
+            fn disjoin(n: usize, k: usize, rows: Flat, disjoint: FlatRoom) -> Answer<usize> {
+                use $module as operations;
+                operations::disjoin(n, k, rows, disjoint)
+            }
+
+            fn disjoin_records(
+                n: usize,
+                k: usize,
+                rows: &[Row],
+                disjoint: &mut [Row],
+            ) -> Answer<usize> {
+                use $module as operations;
+                operations::disjoin(n, k, rows, disjoint)
+            }
+
             fn fill(
                 n: usize,
                 k: usize,
@@ -507,6 +528,11 @@ macro_rules! operations_of {
             fn print_joined(input: &[u8]) -> Vec<u8> {
                 use $module as operations;
                 operations::print_joined(input)
+            }
+
+            fn print_disjoint(input: &[u8]) -> Vec<u8> {
+                use $module as operations;
+                operations::print_disjoint(input)
             }
         }
     };

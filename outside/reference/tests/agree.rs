@@ -2,11 +2,12 @@
 //! both forms of rows, and the demands that hold between operations.
 
 use reference::inputs::{self, Case, LentRows, Random};
-use reference::{data, demands, fast, matrix, Fast, Operations, Plain, Row, FD, FR, NO_OUTPUT};
+use reference::{checks, data, demands, fast, matrix, Fast, Operations, Plain, Row};
+use reference::{FD, FR, NO_OUTPUT};
 use std::collections::BTreeMap;
 
 /// How many seeds the cases below are drawn from.
-const SEEDS: u64 = 12_000;
+const SEEDS: u64 = 13_200;
 
 #[test]
 fn plain_and_fast_give_the_same_and_refusals_change_nothing() {
@@ -33,7 +34,7 @@ fn plain_and_fast_give_the_same_and_refusals_change_nothing() {
         let number = match &plain {
             Case::Program { input } => refusal(input, "sheet 1\n"),
             Case::PrintModel { input } => refusal(input, ".model block\n"),
-            Case::PrintJoined { input } => refusal(input, ".i "),
+            Case::PrintJoined { input } | Case::PrintDisjoint { input } => refusal(input, ".i "),
             _ => answer.number,
         };
         let name = format!("{case:?}");
@@ -53,6 +54,7 @@ fn plain_and_fast_give_the_same_and_refusals_change_nothing() {
         ("RowMethod", &[0, 1, 2, 3, 4, 5, 6, 7, 9, 11]),
         ("WhyNot", &[0, 1, 2, 3, 4, 6, 7, 11]),
         ("Join", &[0, 1, 2, 4, 6, 7]),
+        ("Disjoin", &[0, 1, 2, 4, 5, 6, 14]),
         ("Fill", &[0, 1, 2, 3, 4, 5, 6, 7, 11]),
         ("ReadText", &[0, 1, 2, 4, 5, 10]),
         ("WriteText", &[0, 1, 2, 3, 4, 5, 6]),
@@ -63,6 +65,7 @@ fn plain_and_fast_give_the_same_and_refusals_change_nothing() {
         ("ModelValue", &[0, 1, 2, 3, 4, 6, 8]),
         ("PrintModel", &[0, 1, 2, 4, 7, 10, 11]),
         ("PrintJoined", &[0, 1, 2, 4, 7, 10]),
+        ("PrintDisjoint", &[0, 1, 2, 3, 4, 10, 14]),
     ] {
         let met: Vec<u32> = seen
             .keys()
@@ -448,6 +451,124 @@ fn joined_texts_are_as_02_has_them() {
     assert!(refused > 100 && same > 20, "{refused} {same}");
     assert!(lines.iter().all(|&count| count > 20), "{lines:?}");
     assert!(most > 100, "{most}");
+}
+
+/// Lists that overlap on purpose are made disjoint as 02, Ticket 10, has it; few and many
+/// rows come out, and more than 128 would.
+#[test]
+fn disjoint_lists_are_as_02_has_them() {
+    // At most 16 rows, at most 127, 128, and more.
+    let mut met = [0; 4];
+    for n in 1..=16 {
+        for seed in 0..if n < 13 { 60 } else { 12 } {
+            let count = demands::disjoint::<Plain>(n, seed);
+            assert_eq!(count, demands::disjoint::<Fast>(n, seed));
+            let class = [17, 128, 129].partition_point(|&least| least <= count.unwrap_or(129));
+            met[class] += 1;
+        }
+    }
+    assert!(met.iter().all(|&count| count >= 20), "{met:?}");
+}
+
+/// Every list of few rows and inputs is made disjoint as the points of regions have it.
+#[test]
+fn small_lists_are_made_disjoint() {
+    demands::disjoint_by_points::<Plain>();
+    demands::disjoint_by_points::<Fast>();
+}
+
+/// The drawn calls have lists of which exactly 127, 128, 129 and 130 rows come out, few, and
+/// many more than 128; and lists that are disjoint, with word 0, of 16 inputs, and in rooms
+/// of 127, 128 and more rows.
+#[test]
+fn overlaps_are_drawn() {
+    let mut exact = [0; 4];
+    let [mut few, mut disjoint, mut zeros, mut widest] = [0; 4];
+    let mut rooms = [0; 3];
+    for seed in 0..SEEDS {
+        let mut case = Case::new(seed);
+        let (n, given, room) = match &case {
+            Case::Disjoin {
+                n, rows, disjoint, ..
+            } => (*n, rows.records(), disjoint.records()),
+            _ => continue,
+        };
+        let answer = case.run::<Fast>();
+        if let Some(room) = room.filter(|room| room.len() >= 127) {
+            rooms[room.len().min(129) - 127] += 1;
+        }
+        if let (0 | 14, Some(given)) = (answer.number, given) {
+            let out = rows_out(&given);
+            exact
+                .iter_mut()
+                .zip(127..)
+                .for_each(|(count, due)| *count += usize::from(out == due));
+            few += usize::from(out < 24);
+            disjoint += usize::from(checks::disjoint(&given).is_ok());
+            zeros += usize::from(given.iter().any(|row| row.word == 0));
+            widest += usize::from(n == 16);
+        }
+    }
+    assert!(exact.iter().all(|&count| count >= 8), "{exact:?}");
+    assert!(rooms.iter().all(|&count| count >= 8), "{rooms:?}");
+    let all = [few, disjoint, zeros, widest];
+    assert!(all.iter().all(|&count| count >= 20), "{all:?}");
+}
+
+/// How many rows a list would give, more than 128 too: those of both halves of the space at
+/// the highest input that is fixed, and so on, each as a list of its own.
+fn rows_out(rows: &[Row]) -> usize {
+    let fixed = rows.iter().fold(0, |mask, row| mask | row.mask);
+    let bit = match fixed {
+        0 => return usize::from(!rows.is_empty()),
+        _ => 1 << (31 - fixed.leading_zeros()),
+    };
+    let half = |value: u32| -> Vec<Row> {
+        let meeting = rows
+            .iter()
+            .filter(|row| row.mask & bit == 0 || row.values & bit == value);
+        let freed = |row: &Row| Row {
+            mask: row.mask & !bit,
+            values: row.values & !bit,
+            ..*row
+        };
+        meeting.map(freed).collect()
+    };
+    rows_out(&half(0)) + rows_out(&half(bit))
+}
+
+/// What is printed of a text's rows made disjoint is as 02, Ticket 10, has the rows; drawn
+/// texts have few rows and many, with the type line and without, and are refused.
+#[test]
+fn disjoint_texts_are_as_02_has_them() {
+    let printed = |name: &str, text: &[u8]| {
+        let got = demands::printed_disjoint::<Plain>(name, text);
+        assert_eq!(got, demands::printed_disjoint::<Fast>(name, text), "{name}");
+        got
+    };
+    for (path, text) in data::texts() {
+        printed(&path.display().to_string(), &text);
+    }
+    let mut refused = BTreeMap::new();
+    // Those with the line ".type fd", and those with none.
+    let mut lines = [0; 2];
+    let mut most = 0;
+    for seed in 0..600 {
+        let text = inputs::any_overlapping_text(&mut Random::new(seed));
+        let got = printed(&format!("seed {seed}"), &text);
+        match refusal(got.as_bytes(), ".i ") {
+            0 => {
+                let told = text.windows(10).any(|line| line == b".type fd\n.");
+                lines[usize::from(!told)] += 1;
+                most = most.max(got.lines().count() - 5);
+            }
+            number => *refused.entry(number).or_insert(0) += 1,
+        }
+    }
+    let many = |number: u32| refused.get(&number).map_or(false, |&count| count >= 20);
+    assert!([3, 10, 14].into_iter().all(many), "{refused:?}");
+    assert!(lines.iter().all(|&count| count > 20), "{lines:?}");
+    assert_eq!(most, 128);
 }
 
 /// Text read and written again is the same bytes, rows written and read again

@@ -2,10 +2,10 @@
 //! sheet's example, Example 2 of document 000, blocks of either type (02, Ticket 2),
 //! the spectrum of some of these (02, Ticket 5), symmetric blocks, document 002's
 //! among them (02, Ticket 6), why a number was not taken (02, Ticket 7), lists with a
-//! column that no row drives (02, Ticket 8), and joined rows (02, Ticket 9). Each is asked
-//! of the plain and of the fast operations.
+//! column that no row drives (02, Ticket 8), joined rows (02, Ticket 9), and lists that
+//! overlap on purpose (02, Ticket 10). Each is asked of the plain and of the fast operations.
 
-use reference::{fast, spectrum, symmetric, FlatRoom, Reason, Row, FD, FR, NO_OUTPUT};
+use reference::{fast, spectrum, symmetric, Flat, FlatRoom, Reason, Row, FD, FR, NO_OUTPUT};
 
 /// Rows as 01 writes them: "symbols word".
 fn list(lines: &[&str]) -> Vec<Row> {
@@ -180,6 +180,33 @@ fn left_of(k: usize, lines: &[&str]) -> Vec<Row> {
     assert_eq!((number, lent.len()), (ANSWERED, lines.len()));
     let freed = lent.split_off(left);
     assert!(freed.iter().all(|row| *row == Row::default()));
+    lent
+}
+
+/// What the room for a disjoint list holds before the call.
+const HELD: Row = Row {
+    mask: 0xABCD_1234,
+    values: 0xABCD_1234,
+    word: 0xABCD_1234,
+};
+
+/// Number, A, B and count of a list that is made disjoint, in room for so many rows, and
+/// all of that room.
+fn disjoin_in(room: usize, [n, k]: [usize; 2], rows: &[Row]) -> ([u32; 4], Vec<Row>) {
+    let [mut lent, mut fast_lent] = [vec![HELD; room], vec![HELD; room]];
+    let got = reference::disjoin(n, k, rows, &mut lent[..]);
+    let fast = fast::disjoin(n, k, rows, &mut fast_lent[..]);
+    assert_eq!((got, &lent), (fast, &fast_lent));
+    ([got.number, got.a, got.b, got.results as u32], lent)
+}
+
+/// The disjoint list of a list; what lies beyond it in the room holds what it held.
+fn disjoint_of(k: usize, lines: &[&str]) -> Vec<Row> {
+    let n = lines[0].find(' ').unwrap();
+    let ([number, _, _, count], mut lent) = disjoin_in(128, [n, k], &list(lines));
+    assert_eq!(number, 0);
+    let beyond = lent.split_off(count as usize);
+    assert!(beyond.iter().all(|row| *row == HELD));
     lent
 }
 
@@ -1113,6 +1140,244 @@ fn the_longest_texts_are_joined() {
     let points = text(|i| format!("---------{i:07b} {:015b}\n", 1));
     let one = ".i 16\n.o 15\n.type fr\n.p 1\n---------------- 000000000000001\n.e\n";
     assert_eq!(printed_joined(&points), one);
+}
+
+/// "A point's word is then the OR of all rows over it."
+#[test]
+fn overlapping_rows_give_their_or() {
+    let due = list(&["01 10", "10 01", "11 11"]);
+    assert_eq!(disjoint_of(2, &["1- 01", "-1 10"]), due);
+    assert_eq!(disjoint_of(2, &["-1 10", "1- 01"]), due);
+    // nested, there twice, over all
+    let due = list(&["0- 01", "10 11", "11 11"]);
+    assert_eq!(disjoint_of(2, &["11 00", "1- 10", "-- 01"]), due);
+    assert_eq!(disjoint_of(2, &["10 01", "10 10"]), list(&["10 11"]));
+    assert_eq!(disjoint_of(1, &["-- 1"]), list(&["-- 1"]));
+    assert_eq!(disjoint_of(3, &["-- 001", "-- 100"]), list(&["-- 101"]));
+}
+
+/// A region that no row meets gives nothing, one whose OR is 0 a row of word 0.
+#[test]
+fn a_region_of_word_0_gives_a_row() {
+    assert_eq!(disjoint_of(1, &["-- 0"]), list(&["-- 0"]));
+    assert_eq!(
+        disjoint_of(1, &["0- 0", "-0 0"]),
+        list(&["00 0", "01 0", "10 0"])
+    );
+    assert_eq!(disjoint_of(1, &["11 0", "01 1"]), list(&["01 1", "11 0"]));
+}
+
+/// The input at which a region is halved is the highest one that is free in it and fixed in
+/// a row meeting it; other rows don't matter, and neither do inputs that no row fixes.
+#[test]
+fn regions_are_halved_at_the_highest_fixed_input() {
+    let due = list(&["-01 1", "-10 1", "-11 1"]);
+    assert_eq!(disjoint_of(1, &["-1- 1", "--1 1"]), due);
+    // The second row fixes the middle input, and does not meet the 0 half.
+    let due = list(&["0-1 01", "11- 10"]);
+    assert_eq!(disjoint_of(2, &["0-1 01", "11- 10"]), due);
+    assert_eq!(disjoint_of(1, &["1--0- 1"]), list(&["1--0- 1"]));
+    // Rows that share no point are halved too, and rows with one word are not joined.
+    let due = list(&["01 1", "10 0", "11 1"]);
+    assert_eq!(disjoint_of(1, &["-1 1", "10 0"]), due);
+    let due = list(&["0- 1", "1- 1"]);
+    assert_eq!(disjoint_of(1, &["0- 1", "1- 1"]), due);
+    // One point takes a row apart: a row for each input.
+    let due = list(&["000 0", "001 1", "01- 0", "1-- 0"]);
+    assert_eq!(disjoint_of(1, &["--- 0", "001 1"]), due);
+}
+
+/// All points of seven inputs are as many rows as may come out. Beside 127 points of the lower
+/// half of eight inputs, a row with one new point makes 128, and one with two new points, or
+/// over all, makes too many. Rows that fix one input each come apart into all regions but
+/// one.
+#[test]
+fn at_most_128_rows_come_out() {
+    let point = |mask, values| Row {
+        mask,
+        values,
+        word: 1,
+    };
+    let sevens: Vec<Row> = (0..128).map(|x| point(127, x)).collect();
+    let (answer, lent) = disjoin_in(129, [7, 1], &sevens);
+    assert_eq!(answer, [0, 0, 0, 128]);
+    assert!(lent[..128] == sevens && lent[128] == HELD);
+    for (last, due) in [
+        (point(255, 127), [0, 0, 0, 128]),
+        (point(255, 128), [0, 0, 0, 128]),
+        (point(127, 127), [14, 0, 0, 0]),
+        (point(127, 0), [0, 0, 0, 128]),
+        (point(0, 0), [14, 0, 0, 0]),
+    ] {
+        let mut eights: Vec<Row> = (0..127).map(|x| point(255, x)).collect();
+        eights.push(last);
+        let (answer, lent) = disjoin_in(128, [8, 1], &eights);
+        assert_eq!(answer, due, "{last:?}");
+        assert_eq!(due[0] == 0, lent.iter().all(|row| *row != HELD), "{last:?}");
+        assert_eq!(
+            due[0] == 14,
+            lent.iter().all(|row| *row == HELD),
+            "{last:?}"
+        );
+    }
+    // One point of 16 inputs takes the row over all apart into 17.
+    let apart = [point(0, 0), point(65_535, 40_000)];
+    assert_eq!(disjoin_in(128, [16, 1], &apart).0, [0, 0, 0, 17]);
+    // Rows that fix one input each: 2^16 - 1 regions would come out.
+    let units: Vec<Row> = (0..16).map(|i| point(1 << i, 1 << i)).collect();
+    assert_eq!(disjoin_in(128, [16, 1], &units).0, [14, 0, 0, 0]);
+    assert_eq!(disjoin_in(128, [7, 1], &units[..7]).0, [0, 0, 0, 127]);
+    assert_eq!(disjoin_in(128, [8, 1], &units[..8]).0, [14, 0, 0, 0]);
+}
+
+#[test]
+fn refusals_of_disjoining() {
+    let most = usize::MAX;
+    let row = |mask, values, word| Row { mask, values, word };
+    let bad = [row(1, 0, 1), row(1, 2, 1), row(2, 0, 2)];
+    let refused = |room: usize, numbers: [usize; 2], rows: &[Row]| {
+        let ([number, a, b, count], lent) = disjoin_in(room, numbers, rows);
+        assert!(count == 0 && lent.iter().all(|row| *row == HELD));
+        [number, a, b]
+    };
+    // Each is given before those after it.
+    for n in [0, 17, 64, most] {
+        assert_eq!(refused(0, [n, 0], &[]), [1, 0, 0]);
+        assert_eq!(refused(128, [n, 1], &bad), [1, 0, 0]);
+    }
+    for k in [0, 16, 64, most] {
+        assert_eq!(refused(0, [2, k], &[]), [2, 0, 0]);
+        assert_eq!(refused(128, [2, k], &bad), [2, 0, 0]);
+    }
+    assert_eq!(refused(0, [2, 1], &[]), [4, 0, 0]);
+    assert_eq!(refused(0, [2, 1], &[bad[1]; 129]), [4, 0, 0]);
+    // Room is looked at whatever comes out.
+    assert_eq!(refused(127, [2, 1], &bad[..1]), [5, 0, 0]);
+    assert_eq!(refused(127, [2, 1], &[bad[1]; 128]), [5, 0, 0]);
+    assert_eq!(refused(128, [2, 1], &[bad[1]; 128]), [6, 0, 0]);
+    assert_eq!(refused(128, [2, 1], &bad), [6, 0, 1]);
+    // A malformed row last, where more than 128 rows would come out without it.
+    let mut units: Vec<Row> = (0..16).map(|i| row(1 << i, 0, 1)).collect();
+    assert_eq!(refused(128, [16, 1], &units), [14, 0, 0]);
+    assert_eq!(refused(127, [16, 1], &units), [5, 0, 0]);
+    units.push(row(1, 1, 2));
+    assert_eq!(refused(128, [16, 1], &units), [6, 0, 16]);
+    // Columns that no row drives are no refusal here, and neither are rows that share points.
+    let (answer, _) = disjoin_in(200, [16, 15], &[Row::default(); 128]);
+    assert_eq!(answer, [0, 0, 0, 1]);
+}
+
+/// Flat slices of unequal length are no list; of room the shortest counts.
+#[test]
+fn uneven_slices_are_not_made_disjoint() {
+    let lent = [[HELD.mask; 130]; 3];
+    let disjoin = |plain: bool, given: [usize; 3], room: [usize; 3]| {
+        let mut rows = lent;
+        let [m, v, w] = &mut rows;
+        let list = Flat {
+            masks: &[1; 3][..given[0]],
+            values: &[0, 1, 0][..given[1]],
+            words: &[1; 3][..given[2]],
+        };
+        let disjoint = FlatRoom {
+            masks: &mut m[..room[0]],
+            values: &mut v[..room[1]],
+            words: &mut w[..room[2]],
+        };
+        let got = match plain {
+            true => reference::disjoin(1, 1, list, disjoint),
+            false => fast::disjoin(1, 1, list, disjoint),
+        };
+        (got.number, got.results, rows)
+    };
+    let both = |given, room| {
+        let [plain, fast] = [true, false].map(|plain| disjoin(plain, given, room));
+        assert!(plain == fast);
+        plain
+    };
+    for given in [[2, 2, 1], [2, 1, 2], [1, 2, 2], [3, 2, 2], [0, 2, 2]] {
+        assert!(both(given, [128; 3]) == (4, 0, lent));
+    }
+    for room in [[127, 130, 130], [130, 127, 130], [130, 130, 127]] {
+        assert!(both([2; 3], room) == (5, 0, lent));
+    }
+    for room in [[128; 3], [128, 130, 129]] {
+        let (number, count, rows) = both([2; 3], room);
+        assert_eq!((number, count), (0, 2));
+        assert_eq!(
+            rows.map(|slice| [slice[0], slice[1]]),
+            [[1, 1], [0, 1], [1, 1]]
+        );
+        let beyond = rows.iter().flat_map(|slice| &slice[2..]);
+        assert!(beyond.copied().all(|number| number == HELD.mask));
+    }
+}
+
+/// What the program prints of a list that was made disjoint, by both.
+fn printed_disjoint(text: &str) -> String {
+    let printed = reference::print_disjoint(text.as_bytes());
+    assert_eq!(printed, fast::print_disjoint(text.as_bytes()));
+    String::from_utf8(printed).unwrap()
+}
+
+/// A disjoint list is printed as row text with the line ".type fd", whether it stood in the
+/// text or not; a text of type fr is refused, and so is one that can't be read.
+#[test]
+fn disjoint_lists_are_printed() {
+    let text = |line: &str, rows: &str| {
+        let count = rows.lines().count();
+        format!(".i 2\n.o 2\n{line}.p {count}\n{rows}.e\n")
+    };
+    for (rows, due) in [
+        ("1- 01\n-1 10\n", "01 10\n10 01\n11 11\n"),
+        ("11 00\n1- 10\n-- 01\n", "0- 01\n10 11\n11 11\n"),
+        ("10 01\n10 10\n", "10 11\n"),
+        ("-- 00\n", "-- 00\n"),
+    ] {
+        for line in ["", ".type fd\n"] {
+            assert_eq!(printed_disjoint(&text(line, rows)), text(".type fd\n", due));
+        }
+        let of_fr = text(".type fr\n", rows);
+        assert_eq!(printed_disjoint(&of_fr), "refused 3 0 0\n");
+    }
+    // What can't be read, whatever its type.
+    for (text, due) in [
+        ("", "refused 10 1 0\n"),
+        (".i 17\n.o 16\n.type fr\n.p 0\n", "refused 1 0 0\n"),
+        (".i 16\n.o 16\n.type fr\n.p 0\n", "refused 2 0 0\n"),
+        (".i 16\n.o 15\n.type fr\n.p 0\n.e\n", "refused 4 0 0\n"),
+        (".i 16\n.o 15\n.p 129\n", "refused 4 0 0\n"),
+        (".i 1\n.o 1\n.type f\n.p 1\n0 1\n.e\n", "refused 10 3 0\n"),
+        (
+            ".i 1\n.o 1\n.type fr\n.p 2\n0 1\n1 1\n.e",
+            "refused 10 7 0\n",
+        ),
+    ] {
+        assert_eq!(printed_disjoint(text), due);
+    }
+}
+
+/// The longest text that is printed has 128 points of 16 inputs; 16 rows that fix one input
+/// each would give more rows than may come out, and are refused with 3 where they are of
+/// type fr.
+#[test]
+fn the_longest_disjoint_texts() {
+    let rows: String = (0..128)
+        .map(|x| format!("{:016b} {:015b}\n", x << 4, 3))
+        .collect();
+    let longest = format!(".i 16\n.o 15\n.type fd\n.p 128\n{rows}.e\n");
+    assert_eq!(longest.len(), 4_255);
+    assert_eq!(printed_disjoint(&longest), longest);
+    assert_eq!(
+        printed_disjoint(&longest.replace(".type fd\n", "")),
+        longest
+    );
+    let unit = |i: usize| format!("{}1{} 1\n", "-".repeat(i), "-".repeat(15 - i));
+    let rows: String = (0..16).map(unit).collect();
+    let units = format!(".i 16\n.o 1\n.type fd\n.p 16\n{rows}.e\n");
+    assert_eq!(printed_disjoint(&units), "refused 14 0 0\n");
+    let units = units.replace(".type fd", ".type fr");
+    assert_eq!(printed_disjoint(&units), "refused 3 0 0\n");
 }
 
 #[test]

@@ -208,9 +208,11 @@ pub fn asked(random: &mut Random) -> Asked {
 fn harm(random: &mut Random, asked: &mut Asked) {
     let [n, k, _] = asked.numbers;
     let high = 1 << random.between(n.min(31), 31);
+    // A number that was harmed before may be the greatest.
+    let next = |number: usize| number.wrapping_add(1);
     match random.below(14) {
-        0 => asked.numbers[0] = random.pick(&[0, 17, 24, 32, 64, n + 1, usize::MAX]),
-        1 => asked.numbers[1] = random.pick(&[0, 16, 32, 64, k + 1, usize::MAX]),
+        0 => asked.numbers[0] = random.pick(&[0, 17, 24, 32, 64, next(n), usize::MAX]),
+        1 => asked.numbers[1] = random.pick(&[0, 16, 32, 64, next(k), usize::MAX]),
         2 => asked.numbers[2] = random.pick(&[1 << n.min(63), 65_536, 1 << 32, usize::MAX]),
         3 => uneven(random, &mut asked.matrix),
         4 => uneven(random, &mut asked.counts),
@@ -219,10 +221,10 @@ fn harm(random: &mut Random, asked: &mut Asked) {
         // Other counts, some whose sum passes every number; and no patterns at all.
         7 => {
             if let Some(last) = asked.counts.last_mut() {
-                *last = random.pick(&[0, *last + 1, usize::MAX, 1 << 63, 1 << 32]);
+                *last = random.pick(&[0, next(*last), usize::MAX, 1 << 63, 1 << 32]);
             }
             if let Some(first) = asked.counts.first_mut().filter(|_| random.one_in(3)) {
-                *first = random.pick(&[usize::MAX, 1 << 63, *first + 1]);
+                *first = random.pick(&[usize::MAX, 1 << 63, next(*first)]);
             }
         }
         8 => {
