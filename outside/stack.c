@@ -1,8 +1,8 @@
 /*
  * How much stack each operation takes: called in a thread whose stack was filled with one byte, and counted down to the lowest byte that
  * changed. The code has no recursion and its arrays have fixed lengths, so what a call takes goes by the functions that it reaches; each
- * operation is called on a list, table or model that it answers, of either type. Prints a line an operation and type, and ends with 1 where
- * one takes more than MOST or is refused.
+ * operation is called on a list, table or model that it answers, of either type, but for a text that is to be printed disjoint, which is
+ * refused under fr. Prints a line an operation and type, and ends with 1 where one takes more than MOST or is refused otherwise.
  */
 #define _GNU_SOURCE
 #include <pthread.h>
@@ -51,6 +51,9 @@ static uint32_t join(void) {
   for (uint32_t i = 0; i < JOINED; i++) smaller_masks[i] = JOINED - 1, smaller_values[i] = i, smaller_words[i] = 1;
   return irwystl_join_rows(16, 7, smaller_masks, JOINED, smaller_values, JOINED, smaller_words, JOINED).count != 1;
 }
+static uint32_t disjoin(void) {
+  return irwystl_disjoin_rows(16, 7, FLAT, smaller_masks, ROWS, smaller_values, ROWS, smaller_words, ROWS).count != ROWS;
+}
 static uint32_t fill_table(void) { return irwystl_fill_table(12, 7, type, FLAT, made, POINTS).number; }
 static uint32_t write_text(void) {
   irwystl_text_answer r = irwystl_write_text(16, 7, type, 1, FLAT, text, sizeof text);
@@ -70,6 +73,7 @@ static uint32_t records_join(void) {
   for (uint32_t i = 0; i < JOINED; i++) smaller[i].mask = JOINED - 1, smaller[i].values = i, smaller[i].word = 1;
   return irwystl_records_join_rows(16, 7, smaller, JOINED).count != 1;
 }
+static uint32_t records_disjoin(void) { return irwystl_records_disjoin_rows(16, 7, rows, ROWS, smaller, ROWS).count != ROWS; }
 static uint32_t records_fill_table(void) { return irwystl_records_fill_table(12, 7, type, rows, ROWS, made, POINTS).number; }
 static uint32_t records_write_text(void) { return irwystl_records_write_text(16, 7, type, 1, rows, ROWS, out, sizeof out).number; }
 static uint32_t records_read_text(void) { return irwystl_records_read_text(text, text_length, smaller, ROWS).number; }
@@ -77,6 +81,9 @@ static uint32_t records_sheet(void) { return irwystl_records_sheet(16, 7, type, 
 static uint32_t print_text(void) { return irwystl_print_text(text, text_length, out) == 0 || out[0] != 's'; }
 static uint32_t print_model(void) { return irwystl_print_model(text, text_length, model) == 0 || model[0] != '.'; }
 static uint32_t print_joined(void) { return irwystl_print_joined(text, text_length, out) == 0 || out[0] != '.'; }
+static uint32_t print_disjoint(void) {
+  return irwystl_print_disjoint(text, text_length, out) == 0 || out[0] != (type == IRWYSTL_FR ? 'r' : '.');
+}
 static uint32_t records_write_model(void) { return irwystl_records_write_model(16, 7, type, 16, rows, ROWS, model, sizeof model).number; }
 static uint32_t write_model(void) {
   irwystl_text_answer r = irwystl_write_model(16, 7, type, 16, FLAT, model, sizeof model);
@@ -135,6 +142,7 @@ int main(void) {
       {"row_method", row_method, 0},
       {"why_not", why_not, 0},
       {"join", join, 0},
+      {"disjoin", disjoin, 0},
       {"fill_table", fill_table, 0},
       {"write_text", write_text, 0},
       {"read_text", read_text, 0},
@@ -143,6 +151,7 @@ int main(void) {
       {"records_row_method", records_row_method, 0},
       {"records_why_not", records_why_not, 0},
       {"records_join", records_join, 0},
+      {"records_disjoin", records_disjoin, 0},
       {"records_fill_table", records_fill_table, 0},
       {"records_write_text", records_write_text, 0},
       {"records_read_text", records_read_text, 0},
@@ -151,6 +160,7 @@ int main(void) {
       {"import_text", import_text, 0},
       {"print_model", print_model, 0},
       {"print_joined", print_joined, 0},
+      {"print_disjoint", print_disjoint, 0},
       {"records_write_model", records_write_model, 0},
       {"write_model", write_model, 0},
       {"read_model", read_model, 0},

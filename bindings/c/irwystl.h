@@ -2,8 +2,8 @@
  * Irwystl from C: the sheet of a logic block, its model in BLIF, and every operation behind them.
  *
  * Link target/staticlib/libexports.a, which `rt staticlib exports` makes for x86-64; it asks for nothing but memcpy and memset. The
- * shortest uses are irwystl_print_text, irwystl_print_model and irwystl_print_joined, at the end: row text in, and out its sheet, its model
- * or row text with its rows joined.
+ * shortest uses are irwystl_print_text, irwystl_print_model, irwystl_print_joined and irwystl_print_disjoint, at the end: row text in, and
+ * out its sheet, its model, or row text with its rows joined or made disjoint.
  *
  * Words. A block has n inputs and k outputs. A point is a number below 2^n, input x0 its lowest bit. A row fixes some inputs and gives one
  * word, a number below 2^k. What a point under no row means goes by the block's type: under IRWYSTL_FR it has no output, under IRWYSTL_FD
@@ -40,7 +40,7 @@ extern "C" {
 #define IRWYSTL_MOST_LIST_INPUTS 16  /* inputs of a list of rows, of row text, of a sheet and of a model */
 #define IRWYSTL_MOST_TABLE_INPUTS 12 /* inputs of a full table, and of a list that is filled into one */
 #define IRWYSTL_MOST_OUTPUTS 15
-#define IRWYSTL_MOST_ROWS 128     /* rows given; for irwystl_fill_table and irwystl_join_rows 512 */
+#define IRWYSTL_MOST_ROWS 128     /* rows given; for irwystl_fill_table and irwystl_join_rows 512; and the room for a disjoint list */
 #define IRWYSTL_SMALLER_ROWS 512  /* the room for smaller rows, however few they are */
 #define IRWYSTL_TEXT_ROOM 4255    /* the bytes of the longest row text: the room for any */
 #define IRWYSTL_SHEET_ROOM 17518  /* the bytes of the longest sheet: the room for any */
@@ -59,7 +59,8 @@ enum irwystl_number {
   IRWYSTL_ANSWERED = 0,
   IRWYSTL_INPUTS = 1,    /* n is out of range */
   IRWYSTL_OUTPUTS = 2,   /* k is out of range */
-  IRWYSTL_LIMIT = 3,     /* w is not 1 to n, t or x not below 2^n, the type no type; or the line of IRWYSTL_FR is left out in writing */
+  IRWYSTL_LIMIT = 3,     /* w is not 1 to n, t or x not below 2^n, the type no type; or the line of IRWYSTL_FR is left out in writing; or
+                            a text of type IRWYSTL_FR is to be printed disjoint */
   IRWYSTL_COUNT = 4,     /* no row or too many, flat rows of unequal length, a table without 2^n entries, a matrix without n rows, a
                             symmetric block without n + 1 words; not as many counts as outputs, or not as many patterns as they say */
   IRWYSTL_ROOM = 5,      /* the room lent for a result, or to work in, is too short */
@@ -68,7 +69,8 @@ enum irwystl_number {
   IRWYSTL_DEPENDENT = 8, /* matrix row a, counted from 0, is the XOR of some rows before it, or 0 */
   IRWYSTL_PASSED = 9,    /* at step a, counted from 1, the smaller rows pass 512 */
   IRWYSTL_FORM = 10,     /* line a of the text, counted from 1, is not of the form due there */
-  IRWYSTL_UNDRIVEN = 11  /* output bit a, counted from 0, is 0 in every row's word; looked for after 7 and before 9 */
+  IRWYSTL_UNDRIVEN = 11, /* output bit a, counted from 0, is 0 in every row's word; looked for after 7 and before 9 */
+  IRWYSTL_MANY = 14      /* more than 128 rows would come out of the list that is made disjoint */
 };
 
 /* ---- why a number t was not taken; the first of these that holds is answered */
@@ -134,6 +136,13 @@ typedef struct irwystl_join_answer {
   size_t b;
   size_t count; /* how many rows are left */
 } irwystl_join_answer;
+
+typedef struct irwystl_disjoin_answer {
+  uint32_t number;
+  size_t a;
+  size_t b;
+  size_t count; /* how many rows the disjoint list has */
+} irwystl_disjoin_answer;
 
 typedef struct irwystl_text_answer {
   uint32_t number;
@@ -253,6 +262,17 @@ irwystl_why_answer irwystl_records_why_not(size_t n, size_t k, size_t type, size
 irwystl_join_answer irwystl_records_join_rows(size_t n, size_t k, irwystl_row *rows, size_t rows_length);
 
 /*
+ * The disjoint list of a list of 1 to 128 rows that overlap on purpose, where a point's word is the OR of all rows over it: a list of type
+ * IRWYSTL_FD with that word at each point, 0 where there is no row, and no two of its rows share a point. The whole space is halved, and
+ * each region again: one that no row meets gives nothing; one that lies inside every row meeting it gives one row with their OR, which may
+ * be 0; any other is halved at its highest free input that is fixed in some row meeting it, 0 half first. disjoint is room for at least
+ * IRWYSTL_MOST_ROWS rows, however few come out, of which the first `count` are written. Whether the rows drive every column is not looked
+ * at. Refuses with 1, 2, 4, 5, 6, 14. Promise: records::disjoin_rows.
+ */
+irwystl_disjoin_answer irwystl_records_disjoin_rows(size_t n, size_t k, const irwystl_row *rows, size_t rows_length, irwystl_row *disjoint,
+                                                    size_t disjoint_length);
+
+/*
  * The full table of a list of 1 to 512 rows and at most 12 inputs; at points under no row it has IRWYSTL_NO_OUTPUT or 0, by the type.
  * table is room for at least 2^n entries. Refuses with 1, 2, 3 (type), 4, 5, 6, 7, 11. Promise: records::fill_table.
  */
@@ -313,7 +333,13 @@ irwystl_why_answer irwystl_why_not(size_t n, size_t k, size_t type, size_t w, si
 
 /* The arrays are the list and not room: of unequal length they are refused with 4. Promise: joining::join_rows. */
 irwystl_join_answer irwystl_join_rows(size_t n, size_t k, uint32_t *masks, size_t masks_length, uint32_t *values, size_t values_length,
-                                 uint32_t *words, size_t words_length);
+                                      uint32_t *words, size_t words_length);
+
+/* Promise: disjoining::disjoin_rows. */
+irwystl_disjoin_answer irwystl_disjoin_rows(size_t n, size_t k, const uint32_t *masks, size_t masks_length, const uint32_t *values,
+                                            size_t values_length, const uint32_t *words, size_t words_length, uint32_t *disjoint_masks,
+                                            size_t disjoint_masks_length, uint32_t *disjoint_values, size_t disjoint_values_length,
+                                            uint32_t *disjoint_words, size_t disjoint_words_length);
 
 /* Promise: lists::fill_table. */
 irwystl_answer irwystl_fill_table(size_t n, size_t k, size_t type, const uint32_t *masks, size_t masks_length, const uint32_t *values,
@@ -362,8 +388,8 @@ irwystl_value_answer irwystl_model_value(size_t n, size_t k, size_t x, const uin
                                          size_t values_length);
 
 /* ---- from row text to its sheet or model, with weight limit 3, or n where the block has n < 3 inputs, and the type that the text tells:
- * IRWYSTL_FD without a type line; and to its joined rows. Any bytes may come in; at most 8,192 of them are looked at, and no longer text is
- * accepted. */
+ * IRWYSTL_FD without a type line; and to its joined rows or its disjoint list. Any bytes may come in; at most 8,192 of them are looked at,
+ * and no longer text is accepted. */
 
 /*
  * Writes to the front of out what the program prints, and returns how many bytes that is: the sheet, which begins with the word sheet, or
@@ -383,6 +409,14 @@ size_t irwystl_print_model(const uint8_t *text, size_t text_length, uint8_t *out
  * with the word refused. out is room for IRWYSTL_TEXT_ROOM bytes. Promise: printing::print_joined.
  */
 size_t irwystl_print_joined(const uint8_t *text, size_t text_length, uint8_t *out);
+
+/*
+ * Writes row text with the disjoint list, as irwystl_records_disjoin_rows has it, to the front of out, or one line "refused N A B", where N
+ * is 1, 2, 3, 4, 10 or 14, and returns how many bytes it is. The line .type fd stands in it always. A text of type IRWYSTL_FR is refused with
+ * 3 once it is read: its missing points have no output, and those of the disjoint list have word 0. out is room for IRWYSTL_TEXT_ROOM bytes.
+ * Promise: printing::print_disjoint.
+ */
+size_t irwystl_print_disjoint(const uint8_t *text, size_t text_length, uint8_t *out);
 
 /*
  * One list of a bulk import: the sheet of the text, and the line that says what came of it, without its end: the name, and then

@@ -403,6 +403,24 @@ static void join(void) {
   is_joined(irwystl_join_rows(n, k, smaller[0], given.length, smaller[1], given.length, smaller[2], given.length));
 }
 
+static void is_disjoint(irwystl_disjoin_answer r) {
+  answered(r.number, r.a, r.b);
+  is(r.count);
+}
+
+static void disjoin(void) {
+  size_t n = next(), k = next(), rows_room = room();
+  next_list(&given);
+  as_rows(&given);
+  arrow();
+  lend();
+  is_disjoint(irwystl_records_disjoin_rows(n, k, rows, given.length, smaller_rows, rows_room));
+  are_records();
+  lend();
+  is_disjoint(irwystl_disjoin_rows(n, k, FLAT, smaller[0], rows_room, smaller[1], rows_room, smaller[2], rows_room));
+  are_flat();
+}
+
 static void is_filled(irwystl_answer r) {
   answered(r.number, r.a, r.b);
   is_table(other_table);
@@ -512,7 +530,7 @@ static const struct {
                   {"row_method", row_method},   {"fill", fill},           {"restore", restore},
                   {"read", read_text},          {"write", write_text},    {"sheet", sheet},
                   {"spectrum", spectrum},       {"gray", gray},           {"symmetric", symmetric},
-                  {"why", why},                 {"join", join}};
+                  {"why", why},                 {"join", join},           {"disjoin", disjoin}};
 
 static void run_line(const char *line) {
   size_t length = strcspn(line, " ");

@@ -1,8 +1,8 @@
 /*
  * The operations on texts, called through irwystl.h, on the texts that are named, NAME.txt or NAME.pla, each beside what the program prints
- * for it, NAME.sheet: printed and imported; read, written again and made a sheet of, with records and with flat arrays; and printed with its
- * rows joined, beside what reading, joining and writing give. Lent storage holds a pattern before each call and is looked at in full after
- * it. The status is 0 where every text has what is due.
+ * for it, NAME.sheet: printed and imported; read, written again and made a sheet of, with records and with flat arrays; printed with its
+ * rows joined, and made disjoint, beside what reading, joining or disjoining, and writing give. Lent storage holds a pattern before each call
+ * and is looked at in full after it. The status is 0 where every text has what is due.
  */
 #include "irwystl.h"
 
@@ -19,9 +19,9 @@ typedef struct bytes {
   size_t length;
 } bytes;
 
-static bytes text, due, out, line, due_line, joined;
-static irwystl_row rows[IRWYSTL_MOST_ROWS];
-static uint32_t flat[3][IRWYSTL_MOST_ROWS];
+static bytes text, due, out, line, due_line, joined, disjoint;
+static irwystl_row rows[IRWYSTL_MOST_ROWS], disjoint_rows[IRWYSTL_MOST_ROWS];
+static uint32_t flat[3][IRWYSTL_MOST_ROWS], disjoint_flat[3][IRWYSTL_MOST_ROWS];
 static const char *file;
 static unsigned long texts, wrong;
 
@@ -198,6 +198,60 @@ static void join_flat_arrays(void) {
   is_joined("irwystl_print_joined beside flat arrays", joined.at, w.count);
 }
 
+static void is_disjoint(const char *what, const uint8_t *front, size_t length) {
+  lend(&out);
+  size_t count = irwystl_print_disjoint(text.at, text.length, out.at);
+  if (count != length || !holds(&out, front, length)) differs(what);
+}
+
+static void is_disjoint_refusal(const char *what, const char *said) { is_disjoint(what, (const uint8_t *)said, strlen(said)); }
+
+/*
+ * Where a text that was read has no row text due, its line: a text of type fr is refused with 3, and 14 is the one refusal of a list that
+ * was read.
+ */
+static int no_disjoint(size_t type, irwystl_disjoin_answer r) {
+  if (type == IRWYSTL_FR) {
+    is_disjoint_refusal("irwystl_print_disjoint of type fr", "refused 3 0 0\n");
+    return 1;
+  }
+  if (r.number == 0) return 0;
+  if (r.number != IRWYSTL_MANY || r.a != 0 || r.b != 0 || r.count != 0) differs("the refusal of disjoining");
+  is_disjoint_refusal("irwystl_print_disjoint of many rows", "refused 14 0 0\n");
+  return 1;
+}
+
+/* The row text due has the disjoint list of a list that was read. Where the text can't be read, the line due is that of the sheet. */
+static void disjoin_records(void) {
+  irwystl_read_answer r = irwystl_records_read_text(text.at, text.length, rows, IRWYSTL_MOST_ROWS);
+  if (r.number != 0) {
+    is_disjoint("irwystl_print_disjoint", due.at, due.length);
+    return;
+  }
+  irwystl_disjoin_answer d = irwystl_records_disjoin_rows(r.n, r.k, rows, r.count, disjoint_rows, IRWYSTL_MOST_ROWS);
+  if (no_disjoint(r.type, d)) return;
+  lend(&disjoint);
+  irwystl_text_answer w =
+      irwystl_records_write_text(r.n, r.k, IRWYSTL_FD, 1, disjoint_rows, d.count, disjoint.at, IRWYSTL_TEXT_ROOM);
+  if (w.number != 0) differs("irwystl_records_write_text of a disjoint list");
+  is_disjoint("irwystl_print_disjoint", disjoint.at, w.count);
+}
+
+/* The same with flat arrays. */
+static void disjoin_flat_arrays(void) {
+  irwystl_read_answer r = irwystl_read_text(text.at, text.length, flat[0], IRWYSTL_MOST_ROWS, flat[1], IRWYSTL_MOST_ROWS, flat[2],
+                                            IRWYSTL_MOST_ROWS);
+  if (r.number != 0) return;
+  irwystl_disjoin_answer d = irwystl_disjoin_rows(r.n, r.k, FLAT, disjoint_flat[0], IRWYSTL_MOST_ROWS, disjoint_flat[1],
+                                                  IRWYSTL_MOST_ROWS, disjoint_flat[2], IRWYSTL_MOST_ROWS);
+  if (no_disjoint(r.type, d)) return;
+  lend(&disjoint);
+  irwystl_text_answer w = irwystl_write_text(r.n, r.k, IRWYSTL_FD, 1, disjoint_flat[0], d.count, disjoint_flat[1], d.count,
+                                             disjoint_flat[2], d.count, disjoint.at, IRWYSTL_TEXT_ROOM);
+  if (w.number != 0) differs("irwystl_write_text of a disjoint list");
+  is_disjoint("irwystl_print_disjoint beside flat arrays", disjoint.at, w.count);
+}
+
 /* NAME.sheet for NAME.txt or NAME.pla */
 static void load_due(void) {
   static char name[4096];
@@ -224,6 +278,8 @@ int main(int count, char **names) {
     with_flat_arrays();
     join_records();
     join_flat_arrays();
+    disjoin_records();
+    disjoin_flat_arrays();
     texts++;
   }
   printf("C: %lu texts, %lu answers that are not those due\n", texts, wrong);

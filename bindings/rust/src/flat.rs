@@ -133,6 +133,33 @@ pub fn join_rows(n: usize, k: usize, rows: Room<'_>) -> Result<usize, Refusal> {
     .result()
 }
 
+pub fn disjoin_rows(
+    n: usize,
+    k: usize,
+    rows: Rows<'_>,
+    disjoint: Room<'_>,
+) -> Result<usize, Refusal> {
+    unsafe {
+        raw::irwystl_disjoin_rows(
+            n,
+            k,
+            rows.masks.as_ptr(),
+            rows.masks.len(),
+            rows.values.as_ptr(),
+            rows.values.len(),
+            rows.words.as_ptr(),
+            rows.words.len(),
+            disjoint.masks.as_mut_ptr(),
+            disjoint.masks.len(),
+            disjoint.values.as_mut_ptr(),
+            disjoint.values.len(),
+            disjoint.words.as_mut_ptr(),
+            disjoint.words.len(),
+        )
+    }
+    .result()
+}
+
 pub fn fill_table(
     n: usize,
     k: usize,

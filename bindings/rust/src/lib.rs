@@ -41,7 +41,8 @@ pub const MOST_TABLE_INPUTS: usize = 12;
 /// The most outputs.
 pub const MOST_OUTPUTS: usize = 15;
 
-/// The most rows given; [`fill_table`] and [`join_rows`] take [`SMALLER_ROWS`].
+/// The most rows given; [`fill_table`] and [`join_rows`] take [`SMALLER_ROWS`]. The most rows
+/// of a disjoint list too, and the room for it.
 pub const MOST_ROWS: usize = 128;
 
 /// The room for smaller rows, however few they are.
@@ -448,6 +449,50 @@ pub fn join_rows(n: usize, k: usize, rows: &mut [Row]) -> Result<usize, Refusal>
     unsafe { raw::irwystl_records_join_rows(n, k, rows.as_mut_ptr(), rows.len()) }.result()
 }
 
+/// Makes the disjoint list of a list of 1 to 128 rows that overlap on purpose, where a
+/// point's word is the OR of all rows over it, and gives the number of its rows. It is a list
+/// of type [`FD`] with that word at each point, 0 where there is no row, and no two of its
+/// rows share a point. The whole space is halved, and each region again: one that no row
+/// meets gives nothing; one that lies inside every row meeting it gives one row with their
+/// OR, which may be 0; any other is halved at its highest free input that is fixed in some
+/// row meeting it, 0 half first. `disjoint` is room for [`MOST_ROWS`] rows, however few come
+/// out. Whether the rows drive every column is not looked at. Refuses with 1, 2, 4, 5, 6 and
+/// 14.
+///
+/// ```
+/// use irwystl::{disjoin_rows, Refusal, Row, MOST_ROWS};
+/// let row = |mask, values, word| Row { mask, values, word };
+/// // 1- with word 01 and -1 with word 10 share the point 11
+/// let rows = [row(2, 2, 1), row(1, 1, 2)];
+/// let mut disjoint = [Row::default(); MOST_ROWS];
+/// assert_eq!(disjoin_rows(2, 2, &rows, &mut disjoint), Ok(3));
+/// assert_eq!(disjoint[..3], [row(3, 1, 2), row(3, 2, 1), row(3, 3, 3)]);
+/// let refused = disjoin_rows(2, 2, &rows, &mut disjoint[..3]);
+/// assert_eq!(refused, Err(Refusal::Room));
+/// // rows that fix one of eight inputs each come apart into 255
+/// let rows: Vec<Row> = (0..8).map(|i| row(1 << i, 1 << i, 1)).collect();
+/// let refused = disjoin_rows(8, 1, &rows, &mut disjoint);
+/// assert_eq!(refused, Err(Refusal::TooManyDisjoint));
+/// ```
+pub fn disjoin_rows(
+    n: usize,
+    k: usize,
+    rows: &[Row],
+    disjoint: &mut [Row],
+) -> Result<usize, Refusal> {
+    unsafe {
+        raw::irwystl_records_disjoin_rows(
+            n,
+            k,
+            rows.as_ptr(),
+            rows.len(),
+            disjoint.as_mut_ptr(),
+            disjoint.len(),
+        )
+    }
+    .result()
+}
+
 /// The full table of a list of 1 to 512 rows and at most 12 inputs. `table` is
 /// room for 2^n entries. Refuses with 1, 2, 3 (the type), 4, 5, 6, 7 and 11.
 ///
@@ -620,6 +665,25 @@ pub fn print_model(text: &[u8], out: &mut [u8; MODEL_ROOM]) -> usize {
 /// ```
 pub fn print_joined(text: &[u8], out: &mut [u8; TEXT_ROOM]) -> usize {
     unsafe { raw::irwystl_print_joined(text.as_ptr(), text.len(), out.as_mut_ptr()) }
+}
+
+/// Writes row text with the disjoint list of a text, as [`disjoin_rows`] has it, to the front
+/// of `out`, and gives the number of its bytes; or else one line "refused N A B". The line
+/// ".type fd" stands in it always; a text of type [`FR`] is refused with 3, for its missing
+/// points have no output, and those of the disjoint list have word 0.
+///
+/// ```
+/// let mut out = [0; irwystl::TEXT_ROOM];
+/// let text = b".i 2\n.o 2\n.p 2\n1- 01\n-1 10\n.e\n";
+/// let count = irwystl::print_disjoint(text, &mut out);
+/// let due = b".i 2\n.o 2\n.type fd\n.p 3\n01 10\n10 01\n11 11\n.e\n";
+/// assert_eq!(&out[..count], due);
+/// let text = b".i 1\n.o 1\n.type fr\n.p 1\n- 1\n.e\n";
+/// let count = irwystl::print_disjoint(text, &mut out);
+/// assert_eq!(&out[..count], b"refused 3 0 0\n");
+/// ```
+pub fn print_disjoint(text: &[u8], out: &mut [u8; TEXT_ROOM]) -> usize {
+    unsafe { raw::irwystl_print_disjoint(text.as_ptr(), text.len(), out.as_mut_ptr()) }
 }
 
 /// One list of an import: the sheet of a text, with the weight limit of

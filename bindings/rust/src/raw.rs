@@ -76,6 +76,15 @@ pub struct JoinAnswer {
 
 #[repr(C)]
 #[derive(Clone, Copy, Debug, PartialEq, Eq)]
+pub struct DisjoinAnswer {
+    pub number: u32,
+    pub a: usize,
+    pub b: usize,
+    pub count: usize,
+}
+
+#[repr(C)]
+#[derive(Clone, Copy, Debug, PartialEq, Eq)]
 pub struct TextAnswer {
     pub number: u32,
     pub a: usize,
@@ -178,6 +187,12 @@ impl WhyAnswer {
 }
 
 impl JoinAnswer {
+    pub(crate) fn result(self) -> Result<usize, Refusal> {
+        result(self.number, self.a, self.b, self.count)
+    }
+}
+
+impl DisjoinAnswer {
     pub(crate) fn result(self) -> Result<usize, Refusal> {
         result(self.number, self.a, self.b, self.count)
     }
@@ -333,6 +348,15 @@ extern "C" {
         rows_length: usize,
     ) -> JoinAnswer;
 
+    pub fn irwystl_records_disjoin_rows(
+        n: usize,
+        k: usize,
+        rows: *const Row,
+        rows_length: usize,
+        disjoint: *mut Row,
+        disjoint_length: usize,
+    ) -> DisjoinAnswer;
+
     pub fn irwystl_records_fill_table(
         n: usize,
         k: usize,
@@ -445,6 +469,23 @@ extern "C" {
         words_length: usize,
     ) -> JoinAnswer;
 
+    pub fn irwystl_disjoin_rows(
+        n: usize,
+        k: usize,
+        masks: *const u32,
+        masks_length: usize,
+        values: *const u32,
+        values_length: usize,
+        words: *const u32,
+        words_length: usize,
+        disjoint_masks: *mut u32,
+        disjoint_masks_length: usize,
+        disjoint_values: *mut u32,
+        disjoint_values_length: usize,
+        disjoint_words: *mut u32,
+        disjoint_words_length: usize,
+    ) -> DisjoinAnswer;
+
     pub fn irwystl_fill_table(
         n: usize,
         k: usize,
@@ -547,6 +588,8 @@ extern "C" {
     pub fn irwystl_print_model(text: *const u8, text_length: usize, out: *mut u8) -> usize;
 
     pub fn irwystl_print_joined(text: *const u8, text_length: usize, out: *mut u8) -> usize;
+
+    pub fn irwystl_print_disjoint(text: *const u8, text_length: usize, out: *mut u8) -> usize;
 
     pub fn irwystl_import_text(
         name: *const u8,

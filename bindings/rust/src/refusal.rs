@@ -38,6 +38,8 @@ pub enum Refusal {
     /// 11: an output bit, counted from 0, is 0 in every row's word, so that no row drives
     /// that column; the lowest such bit. Looked for after 7 and before 9.
     UndrivenColumn { bit: usize },
+    /// 14: more than 128 rows would come out of the list that is made disjoint.
+    TooManyDisjoint,
 }
 
 impl Refusal {
@@ -57,11 +59,12 @@ impl Refusal {
             Refusal::TooManyRows { step } => (9, step, 0),
             Refusal::Line { line } => (10, line, 0),
             Refusal::UndrivenColumn { bit } => (11, bit, 0),
+            Refusal::TooManyDisjoint => (14, 0, 0),
         }
     }
 
-    /// The refusal of a number and its places; none for 0. The library gives no
-    /// number above 11, so the last case is 11.
+    /// The refusal of a number and its places; none for 0. Above 11 the library gives no
+    /// number but 14, so the last case is 14.
     pub(crate) fn of(number: u32, a: usize, b: usize) -> Option<Refusal> {
         Some(match number {
             0 => return None,
@@ -79,7 +82,8 @@ impl Refusal {
             8 => Refusal::DependentRow { index: a },
             9 => Refusal::TooManyRows { step: a },
             10 => Refusal::Line { line: a },
-            _ => Refusal::UndrivenColumn { bit: a },
+            11 => Refusal::UndrivenColumn { bit: a },
+            _ => Refusal::TooManyDisjoint,
         })
     }
 
@@ -131,6 +135,12 @@ impl fmt::Display for Refusal {
             }
             Refusal::Line { line } => write!(out, "line {line} is not of the form due there"),
             Refusal::UndrivenColumn { bit } => write!(out, "no row drives output bit {bit}"),
+            Refusal::TooManyDisjoint => {
+                write!(
+                    out,
+                    "more than 128 rows would come out of the disjoint list"
+                )
+            }
         }
     }
 }

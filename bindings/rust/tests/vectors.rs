@@ -5,7 +5,7 @@ use irwystl::flat::{self, Room, Rows};
 use irwystl::{Headings, Refusal, Why, MODEL_ROOM, SHEET_ROOM, TEXT_ROOM};
 use reference::data::{check_lists, check_models, check_operations, texts};
 use reference::demands;
-use reference::inputs::{any_joining_text, models, Case, Random};
+use reference::inputs::{any_joining_text, any_overlapping_text, models, Case, Random};
 use reference::{Answer, Flat, FlatRoom, Measures, ModelHead, Operations, Plain, Reason, Row};
 use reference::{Smaller, TextHead, ROW_INPUTS};
 
@@ -255,6 +255,19 @@ impl Operations for Safe {
         answer(left, |left| left)
     }
 
+    fn disjoin(n: usize, k: usize, rows: Flat, disjoint: FlatRoom) -> Answer<usize> {
+        let made = flat::disjoin_rows(n, k, given(rows), room_of(disjoint));
+        answer(made, |count| count)
+    }
+
+    fn disjoin_records(n: usize, k: usize, rows: &[Row], disjoint: &mut [Row]) -> Answer<usize> {
+        let rows = records(rows);
+        let made = lent(disjoint, |disjoint| {
+            irwystl::disjoin_rows(n, k, &rows, disjoint)
+        });
+        answer(made, |count| count)
+    }
+
     fn fill(n: usize, k: usize, block_type: usize, rows: Flat, table: &mut [u16]) -> Answer<()> {
         answer(
             flat::fill_table(n, k, block_type, given(rows), table),
@@ -409,6 +422,12 @@ impl Operations for Safe {
         let count = irwystl::print_joined(input, &mut out);
         out[..count].to_vec()
     }
+
+    fn print_disjoint(input: &[u8]) -> Vec<u8> {
+        let mut out = [0; TEXT_ROOM];
+        let count = irwystl::print_disjoint(input, &mut out);
+        out[..count].to_vec()
+    }
 }
 
 #[test]
@@ -477,6 +496,17 @@ fn joined_lists_are_as_02_has_them() {
     }
 }
 
+/// What is printed where so many bytes were written, or the call was refused.
+fn text_or_line(written: Result<usize, Refusal>, out: &[u8]) -> Vec<u8> {
+    match written {
+        Ok(count) => out[..count].to_vec(),
+        Err(refusal) => {
+            let (number, a, b) = refusal.numbers();
+            format!("refused {number} {a} {b}\n").into_bytes()
+        }
+    }
+}
+
 /// What is printed of a text's joined rows is what reading, joining and writing give, and
 /// what the independent implementation prints.
 fn printed_joined(name: &str, text: &[u8]) {
@@ -488,13 +518,7 @@ fn printed_joined(name: &str, text: &[u8]) {
         let [block_type, line] = [told.block_type, told.type_line];
         irwystl::write_text(told.n, told.k, block_type, line, &rows[..left], &mut out)
     });
-    let due = match written {
-        Ok(count) => out[..count].to_vec(),
-        Err(refusal) => {
-            let (number, a, b) = refusal.numbers();
-            format!("refused {number} {a} {b}\n").into_bytes()
-        }
-    };
+    let due = text_or_line(written, &out);
     let printed = demands::printed_joined::<Safe>(name, text);
     assert_eq!(printed.as_bytes(), due, "{name}");
     assert_eq!(printed.as_bytes(), Plain::print_joined(text), "{name}");
@@ -509,6 +533,50 @@ fn joined_texts_are_as_02_has_them() {
     for seed in 0..600 {
         let text = any_joining_text(&mut Random::new(seed));
         printed_joined(&format!("seed {seed}"), &text);
+    }
+}
+
+/// What 02, Ticket 10, says of lists that overlap on purpose.
+#[test]
+fn disjoint_lists_are_as_02_has_them() {
+    demands::disjoint_by_points::<Safe>();
+    for n in 1..=16 {
+        for seed in 0..if n < 13 { 12 } else { 3 } {
+            demands::disjoint::<Safe>(n, seed);
+        }
+    }
+}
+
+/// What is printed of a text made disjoint is what reading, disjoining and writing give,
+/// where it is not of type fr, and what the independent implementation prints.
+fn printed_disjoint(name: &str, text: &[u8]) {
+    let mut rows = [irwystl::Row::default(); irwystl::MOST_ROWS];
+    let mut disjoint = rows;
+    let mut out = [0; TEXT_ROOM];
+    let written = irwystl::read_text(text, &mut rows).and_then(|told| {
+        if told.block_type == irwystl::FR {
+            return Err(Refusal::Limit);
+        }
+        let rows = &rows[..told.count];
+        let count = irwystl::disjoin_rows(told.n, told.k, rows, &mut disjoint)?;
+        let rows = &disjoint[..count];
+        irwystl::write_text(told.n, told.k, irwystl::FD, 1, rows, &mut out)
+    });
+    let due = text_or_line(written, &out);
+    let printed = demands::printed_disjoint::<Safe>(name, text);
+    assert_eq!(printed.as_bytes(), due, "{name}");
+    assert_eq!(printed.as_bytes(), Plain::print_disjoint(text), "{name}");
+}
+
+/// The texts with answers, and drawn ones.
+#[test]
+fn disjoint_texts_are_as_02_has_them() {
+    for (path, text) in texts() {
+        printed_disjoint(&path.display().to_string(), &text);
+    }
+    for seed in 0..600 {
+        let text = any_overlapping_text(&mut Random::new(seed));
+        printed_disjoint(&format!("seed {seed}"), &text);
     }
 }
 

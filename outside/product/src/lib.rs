@@ -5,8 +5,8 @@
 //! that comes back is looked at.
 
 use irwystl::raw::{
-    self, JoinAnswer, ModelAnswer, ReadAnswer, RowMethodAnswer, TableMethodAnswer, TextAnswer,
-    ValueAnswer, WhyAnswer,
+    self, DisjoinAnswer, JoinAnswer, ModelAnswer, ReadAnswer, RowMethodAnswer, TableMethodAnswer,
+    TextAnswer, ValueAnswer, WhyAnswer,
 };
 use reference::{
     Answer, Flat, FlatRoom, Measures, ModelHead, Operations, Reason, Row, Smaller, TextHead,
@@ -68,6 +68,10 @@ fn why(r: WhyAnswer) -> Answer<Option<Reason>> {
 }
 
 fn rows_left(r: JoinAnswer) -> Answer<usize> {
+    answer(r.number, r.a, r.b, r.count)
+}
+
+fn rows_made(r: DisjoinAnswer) -> Answer<usize> {
     answer(r.number, r.a, r.b, r.count)
 }
 
@@ -375,6 +379,34 @@ impl Operations for Product {
         rows_left(unsafe { raw::irwystl_records_join_rows(n, k, lent(rows), rows.len()) })
     }
 
+    fn disjoin(n: usize, k: usize, rows: Flat, disjoint: FlatRoom) -> Answer<usize> {
+        rows_made(unsafe {
+            raw::irwystl_disjoin_rows(
+                n,
+                k,
+                rows.masks.as_ptr(),
+                rows.masks.len(),
+                rows.values.as_ptr(),
+                rows.values.len(),
+                rows.words.as_ptr(),
+                rows.words.len(),
+                disjoint.masks.as_mut_ptr(),
+                disjoint.masks.len(),
+                disjoint.values.as_mut_ptr(),
+                disjoint.values.len(),
+                disjoint.words.as_mut_ptr(),
+                disjoint.words.len(),
+            )
+        })
+    }
+
+    fn disjoin_records(n: usize, k: usize, rows: &[Row], disjoint: &mut [Row]) -> Answer<usize> {
+        let length = disjoint.len();
+        rows_made(unsafe {
+            raw::irwystl_records_disjoin_rows(n, k, given(rows), rows.len(), lent(disjoint), length)
+        })
+    }
+
     fn fill(n: usize, k: usize, block_type: usize, rows: Flat, table: &mut [u16]) -> Answer<()> {
         plain(unsafe {
             raw::irwystl_fill_table(
@@ -647,6 +679,14 @@ impl Operations for Product {
         let mut out = vec![0; TEXT_ROOM];
         let count =
             unsafe { raw::irwystl_print_joined(input.as_ptr(), input.len(), out.as_mut_ptr()) };
+        out.truncate(count);
+        out
+    }
+
+    fn print_disjoint(input: &[u8]) -> Vec<u8> {
+        let mut out = vec![0; TEXT_ROOM];
+        let count =
+            unsafe { raw::irwystl_print_disjoint(input.as_ptr(), input.len(), out.as_mut_ptr()) };
         out.truncate(count);
         out
     }

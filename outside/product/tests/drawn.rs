@@ -6,26 +6,28 @@
 //! not taken, and numbers of lists that pass 512 rows, and what 02 says of the reasons;
 //! what it says of columns that no row drives; joined lists, each within a longer one, every
 //! small list, and what 02 says of them; texts with their rows joined, in room within a
-//! longer one; models there and back, damaged, and with rooms near what they ask for;
-//! imports of drawn texts; then the cases with answers (outside/CASES.md). Lent storage holds a pattern before each call and is never cleared,
-//! so that a stray write shows. Each call of the product runs in a thread with 1 MiB of
-//! stack.
+//! longer one; lists that overlap on purpose, made disjoint in rooms within longer ones and
+//! near 128 rows, every small list, those with the most regions, what 02 says of them, and
+//! texts made disjoint; models there and back, damaged, and with rooms near what they ask
+//! for; imports of drawn texts; then the cases with answers (outside/CASES.md). Lent storage
+//! holds a pattern before each call and is never cleared, so that a stray write shows. Each
+//! call of the product runs in a thread with 1 MiB of stack.
 
-use irwystl::{import_text, print_joined, LINE_ROOM};
+use irwystl::{import_text, print_disjoint, print_joined, LINE_ROOM};
 use product::Product;
 use reference::data::{check_lists, check_models, check_operations, lists_past_512, texts};
 use reference::inputs::{self, models, Case, LentRows, Random};
 use reference::{
-    demands, Answer, Fast, FlatRoom, Operations, Plain, Row, FD, FR, MODEL_ROOM, ROW_INPUTS,
+    demands, Answer, Fast, FlatRoom, Operations, Plain, Row, FD, FR, MODEL_ROOM, ROWS, ROW_INPUTS,
     SHEET_ROOM, TEXT_ROOM,
 };
 use std::{env, thread};
 
-/// What the rooms of an import and of joined text hold before the call.
+/// What the rooms of an import and of joined or disjoint text hold before the call.
 const HELD: u8 = 0xAB;
 
 /// What the room for the numbers that are taken holds before the call, and what stands
-/// around a list that is joined.
+/// around a list that is joined, and around the room for a disjoint one.
 const HELD_NUMBER: u32 = 0xABCD_1234;
 
 /// The same as a record.
@@ -407,22 +409,31 @@ fn joined_lists_are_as_02_has_them() {
     }
 }
 
-/// What is printed of a text's joined rows, as the plain operation has it, in room within a
-/// longer one. What is not printed holds what it held.
-fn same_printed_joined(name: &str, text: &[u8]) {
+/// What is printed of a text, where `print` writes it, is what is due, in room within a longer
+/// one. What is not printed holds what it held.
+fn is_printed(
+    name: &str,
+    text: &[u8],
+    print: fn(&[u8], &mut [u8; TEXT_ROOM]) -> usize,
+    due: &[u8],
+) {
     let mut longer = [[HELD; TEXT_ROOM]; 3];
     let [before, room, after] = &mut longer;
-    let count = print_joined(text, room);
+    let count = print(text, room);
     assert!(count <= TEXT_ROOM, "{name}");
     let (printed, beyond) = room.split_at(count);
-    let due = Plain::print_joined(text);
     assert_eq!(
         String::from_utf8_lossy(printed),
-        String::from_utf8_lossy(&due),
+        String::from_utf8_lossy(due),
         "{name}"
     );
     let rest = before.iter().chain(beyond).chain(after.iter());
     assert!(rest.copied().all(|byte| byte == HELD), "{name}");
+}
+
+/// What is printed of a text's joined rows, as the plain operation has it.
+fn same_printed_joined(name: &str, text: &[u8]) {
+    is_printed(name, text, print_joined, &Plain::print_joined(text));
 }
 
 /// Drawn texts with many rows that join, whole and damaged.
@@ -442,6 +453,186 @@ fn joined_texts_are_as_02_has_them() {
             let name = path.display().to_string();
             same_printed_joined(&name, &text);
             demands::printed_joined::<Product>(&name, &text);
+        });
+    }
+}
+
+/// A list made disjoint in room within a longer one, as flat slices, of any lengths.
+fn disjoint_flat(
+    [n, k]: [usize; 2],
+    rows: &LentRows,
+    room: &LentRows,
+) -> (Answer<usize>, LentRows) {
+    let slices = [&room.masks, &room.values, &room.words];
+    let mut lent = slices.map(|slice| longer(slice, HELD_NUMBER));
+    let [masks, values, words] = &mut lent;
+    let disjoint = FlatRoom {
+        masks: lent_part(masks),
+        values: lent_part(values),
+        words: lent_part(words),
+    };
+    let got = Product::disjoin(n, k, rows.list(), disjoint);
+    let [masks, values, words] = lent.map(|slice| shorter(&slice, HELD_NUMBER));
+    let room = LentRows {
+        masks,
+        values,
+        words,
+    };
+    (got, room)
+}
+
+/// The same of records.
+fn disjoint_records([n, k]: [usize; 2], rows: &[Row], room: &[Row]) -> (Answer<usize>, LentRows) {
+    let mut lent = longer(room, HELD_ROW);
+    let got = Product::disjoin_records(n, k, rows, lent_part(&mut lent));
+    (got, LentRows::new(&shorter(&lent, HELD_ROW)))
+}
+
+/// A list made disjoint in such room, in both forms, as the plain operation has it; the list
+/// itself is as it was.
+fn same_disjoint(
+    name: &str,
+    numbers: [usize; 2],
+    rows: &LentRows,
+    room: &LentRows,
+) -> Answer<usize> {
+    let [mut due, given] = [room.clone(), rows.clone()];
+    let answer = Plain::disjoin(numbers[0], numbers[1], rows.list(), due.room());
+    assert!(
+        disjoint_flat(numbers, &given, room) == (answer, due.clone()),
+        "{name}"
+    );
+    assert!(given == *rows, "{name}: the list");
+    if let (Some(records), Some(room)) = (rows.records(), room.records()) {
+        let lent = records.clone();
+        assert!(
+            disjoint_records(numbers, &lent, &room) == (answer, due),
+            "{name}"
+        );
+        assert!(lent == records, "{name}: the list");
+    }
+    answer
+}
+
+/// Room for so many rows in each slice, with a pattern in it.
+fn room_for([masks, values, words]: [usize; 3]) -> LentRows {
+    let held = |count| vec![HELD_NUMBER; count];
+    LentRows {
+        masks: held(masks),
+        values: held(values),
+        words: held(words),
+    }
+}
+
+/// Drawn lists that overlap on purpose, with each fault at times.
+#[test]
+fn drawn_lists_made_disjoint() {
+    for seed in 0..draws() {
+        let (numbers, rows) = inputs::overlapping_list(&mut Random::new(seed));
+        let name = format!("seed {seed}");
+        small_stack(move || same_disjoint(&name, numbers, &rows, &room_for([ROWS; 3])));
+    }
+}
+
+/// Lists of which exactly 1, 127, 128, 129 and 130 rows come out, with each room exact, one
+/// short and a little longer.
+#[test]
+fn disjoint_lists_in_rooms() {
+    for out in [1, 127, 128, 129, 130] {
+        let random = &mut Random::new(out as u64);
+        let n = random.between(8, 16);
+        let rows = match out {
+            1 => vec![Row::default(); 3],
+            _ => inputs::exact_rows(random, n, 2, out),
+        };
+        for room in [
+            [ROWS; 3],
+            [ROWS - 1, ROWS, ROWS],
+            [ROWS, ROWS - 1, ROWS],
+            [ROWS, ROWS, ROWS - 1],
+            [ROWS + 2, ROWS + 1, ROWS],
+            [ROWS + 2; 3],
+            [ROWS - 1; 3],
+            [out.min(ROWS - 1); 3],
+            [0; 3],
+        ] {
+            let name = format!("{out} rows, rooms {room:?}");
+            let [rows, room] = [LentRows::new(&rows), room_for(room)];
+            let answer = small_stack(move || same_disjoint(&name, [n, 2], &rows, &room));
+            let met = [0, 5, 14].contains(&answer.number);
+            assert!(met && (answer.number != 0 || answer.results == out));
+        }
+    }
+}
+
+/// The lists of 16 inputs that have the most regions: 128 points, each with its own seven
+/// highest inputs, are 2,559; where one row more than may come out stands in the last region,
+/// it is the 2,575th.
+#[test]
+fn most_regions() {
+    let random = &mut Random::new(16);
+    for turn in 0..8 {
+        let point = |high: u32| Row {
+            mask: 65_535,
+            values: high << 9 | random.word(9),
+            word: random.word(15),
+        };
+        let mut rows: Vec<Row> = (0..128).map(point).collect();
+        // Two points in one row: that of the highest region, and one of the lower half.
+        if turn % 2 == 1 {
+            rows[127] = Row {
+                mask: 32_767,
+                values: 32_767,
+                word: 1,
+            };
+            rows[63].values = 32_766;
+        }
+        random.shuffle(&mut rows);
+        let [rows, room] = [LentRows::new(&rows), room_for([ROWS; 3])];
+        let name = format!("turn {turn}");
+        let answer = small_stack(move || same_disjoint(&name, [16, 15], &rows, &room));
+        assert_eq!(answer.number, if turn % 2 == 1 { 14 } else { 0 });
+    }
+}
+
+/// Every list of few rows and inputs.
+#[test]
+fn small_lists_made_disjoint() {
+    small_stack(demands::disjoint_by_points::<Product>);
+}
+
+/// Disjoint lists are as 02, Ticket 10, has them.
+#[test]
+fn disjoint_lists_are_as_02_has_them() {
+    for n in 1..=16 {
+        for seed in 0..if n < 13 { 24 } else { 6 } {
+            small_stack(move || demands::disjoint::<Product>(n, seed));
+        }
+    }
+}
+
+/// What is printed of a text made disjoint, as the plain operation has it.
+fn same_printed_disjoint(name: &str, text: &[u8]) {
+    is_printed(name, text, print_disjoint, &Plain::print_disjoint(text));
+}
+
+/// Drawn texts with rows that overlap on purpose, whole and damaged.
+#[test]
+fn drawn_texts_made_disjoint() {
+    for seed in 0..draws() {
+        let text = inputs::any_overlapping_text(&mut Random::new(seed));
+        small_stack(move || same_printed_disjoint(&format!("seed {seed}"), &text));
+    }
+}
+
+/// The texts with answers, made disjoint, and what 02, Ticket 10, says of the rows.
+#[test]
+fn disjoint_texts_are_as_02_has_them() {
+    for (path, text) in texts() {
+        small_stack(move || {
+            let name = path.display().to_string();
+            same_printed_disjoint(&name, &text);
+            demands::printed_disjoint::<Product>(&name, &text);
         });
     }
 }
