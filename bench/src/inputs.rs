@@ -3,11 +3,11 @@
 use crate::calls::Call;
 use reference::inputs::models::rooms_due;
 use reference::inputs::{
-    driven_text, halved_points, hidden_rows, rows, table, Case, LentRows, Random,
+    driven_text, halved_points, hidden_rows, overlapping_rows, rows, table, Case, LentRows, Random,
 };
 use reference::{
-    Fast, Operations, Reason, Row, TextHead, FD, FR, MODEL_ROOM, OUTPUTS, ROW_INPUTS, SHEET_ROOM,
-    SMALLER_ROWS,
+    checks, Fast, Operations, Reason, Row, TextHead, FD, FR, MODEL_ROOM, OUTPUTS, ROWS, ROW_INPUTS,
+    SHEET_ROOM, SMALLER_ROWS,
 };
 use std::ops::Range;
 
@@ -22,6 +22,7 @@ pub fn tables() -> Vec<Table> {
     vec![
         operations(),
         joining(),
+        disjoining(),
         spectra(),
         by_type(),
         text_parts(),
@@ -163,6 +164,87 @@ fn smaller(w: usize, rows: &LentRows) -> LentRows {
     let records = rows.records().expect("slices of equal length");
     let found = Fast::row_method_records(16, 15, FR, w, &records, &mut smaller, t, s);
     LentRows::new(&smaller[..found.results.rows])
+}
+
+/// Making lists of 16 inputs disjoint, beside plain Rust and plain Rust that goes through
+/// all regions with all rows, as 02 says it.
+///
+/// The first list has the most regions of all that are answered, 2,559: a row comes out of
+/// each region that is halved, so that there are at most 128 of one size, and the whole space
+/// has no more than 2^d of those with d inputs fixed; the 128 points stand apart as early as
+/// may be. The second has 2,575, the most there are before a list is refused: its 129th row
+/// comes out of the last.
+fn disjoining() -> Table {
+    let deep = deep_points();
+    let mut late = deep.clone();
+    // The last region of all, and one of the lower half, in one row.
+    late[127] = Row {
+        mask: 32_767,
+        values: 32_767,
+        word: 1,
+    };
+    late[63].values = 32_766;
+    // Of 2^16 points all but one lie under a row, and each is a region.
+    let units: Vec<Row> = (0..16).map(|i| row_of(1 << i, 1 << i)).collect();
+    let calls = [
+        ("128 points, the most regions", deep),
+        ("the same, the last too many", late),
+        ("one input fixed in each row", units),
+        ("drawn, 96 to 128 rows out", crossing()),
+        ("128 times a row over all", vec![row_of(0, 0); 128]),
+    ];
+    Table {
+        title: "lists that overlap on purpose",
+        calls: calls.map(|(name, rows)| disjoin(name, &rows)).into(),
+    }
+}
+
+/// Making a list disjoint, with how many rows it has and how many come out in its name; a
+/// list that is refused with 14 is timed too, for that takes the longest.
+fn disjoin(name: &str, rows: &[Row]) -> Call {
+    let case = Case::Disjoin {
+        n: 16,
+        k: 15,
+        rows: LentRows::new(rows),
+        disjoint: LentRows::new(&[Row::default(); ROWS]),
+    };
+    let answer = case.clone().run::<Fast>();
+    let out = match answer.number {
+        0 => format!("to {}", answer.results[0]),
+        14 => "refused with 14".to_string(),
+        other => panic!("{name} is refused with {other}"),
+    };
+    Call::all(format!("{name}: {} {out}", rows.len()), vec![case]).beside_plain()
+}
+
+/// A row of word 1.
+fn row_of(mask: u32, values: u32) -> Row {
+    Row {
+        mask,
+        values,
+        word: 1,
+    }
+}
+
+/// 128 points of 16 inputs, each with seven highest inputs of its own.
+fn deep_points() -> Vec<Row> {
+    let random = &mut Random::new(7);
+    let point = |high: u32| row_of(65_535, high << 9 | random.word(9));
+    (0..128).map(point).collect()
+}
+
+/// The first list drawn of 24 rows, some of which share points, of which 96 to 128 rows come
+/// out.
+fn crossing() -> Vec<Row> {
+    let gives = |rows: &Vec<Row>| {
+        let mut room = [Row::default(); ROWS];
+        let made = Fast::disjoin_records(16, 15, rows, &mut room);
+        made.number == 0 && made.results >= 96 && checks::disjoint(rows).is_err()
+    };
+    (1..)
+        .map(|seed| overlapping_rows(&mut Random::new(seed), 16, 15, 24))
+        .find(gives)
+        .expect("some seed gives one")
 }
 
 /// R at every t of a table of 12 inputs with more and more words, each on as many
