@@ -1148,6 +1148,8 @@ fn overlapping_rows_give_their_or() {
     let due = list(&["01 10", "10 01", "11 11"]);
     assert_eq!(disjoint_of(2, &["1- 01", "-1 10"]), due);
     assert_eq!(disjoint_of(2, &["-1 10", "1- 01"]), due);
+    let due = list(&["01 110", "10 011", "11 111"]);
+    assert_eq!(disjoint_of(3, &["1- 011", "-1 110"]), due);
     // nested, there twice, over all
     let due = list(&["0- 01", "10 11", "11 11"]);
     assert_eq!(disjoint_of(2, &["11 00", "1- 10", "-- 01"]), due);
