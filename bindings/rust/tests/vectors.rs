@@ -547,6 +547,25 @@ fn disjoint_lists_are_as_02_has_them() {
     }
 }
 
+/// The refusal of a list of which too many rows would come out, in words.
+#[test]
+fn too_many_disjoint_rows_are_refused() {
+    // eight rows that fix one input each come apart into 255
+    let units = [1, 2, 4, 8, 16, 32, 64, 128].map(|bit| irwystl::Row {
+        mask: bit,
+        values: bit,
+        word: 1,
+    });
+    let mut room = [irwystl::Row::default(); irwystl::MOST_ROWS];
+    let refused = irwystl::disjoin_rows(8, 1, &units, &mut room);
+    assert_eq!(refused, Err(Refusal::TooManyDisjoint));
+    let said = refused.unwrap_err().to_string();
+    assert_eq!(
+        said,
+        "more than 128 rows would come out of the disjoint list"
+    );
+}
+
 /// What is printed of a text made disjoint is what reading, disjoining and writing give,
 /// where it is not of type fr, and what the independent implementation prints.
 fn printed_disjoint(name: &str, text: &[u8]) {

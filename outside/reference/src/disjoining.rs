@@ -14,12 +14,12 @@ pub fn disjoin(n: usize, k: usize, rows: impl List, mut disjoint: impl Room) -> 
         return Err(refusal).into();
     }
     let whole_space = Row::default();
-    let given = region_rows(n, &rows, whole_space);
-    if given.len() > ROWS {
+    let made = region_rows(n, &rows, whole_space);
+    if made.len() > ROWS {
         return Err(Refusal::plain(14)).into();
     }
-    disjoint.put(&given);
-    Ok(given.len()).into()
+    disjoint.put(&made);
+    Ok(made.len()).into()
 }
 
 /// The rows that a region gives, in their order.

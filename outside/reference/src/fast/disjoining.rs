@@ -12,10 +12,10 @@ use crate::{Answer, List, Refusal, Room, Row, ROWS, ROW_INPUTS};
 pub fn disjoin(n: usize, k: usize, rows: impl List, mut disjoint: impl Room) -> Answer<usize> {
     let rows = rows.rows();
     let checked = check_disjoin(n, k, &rows, disjoint.room());
-    let given = checked.and_then(|()| Sets::new(&rows).disjoint(n));
-    let count = given.map(|given| {
-        disjoint.put(&given);
-        given.len()
+    let made = checked.and_then(|()| Sets::new(&rows).disjoint(n));
+    let count = made.map(|made| {
+        disjoint.put(&made);
+        made.len()
     });
     count.into()
 }
@@ -58,7 +58,7 @@ impl Sets<'_> {
 
     /// The disjoint list. It ends where a row more than 128 would come out.
     fn disjoint(&self, n: usize) -> Result<Vec<Row>, Refusal> {
-        let mut given = Vec::with_capacity(ROWS);
+        let mut made = Vec::with_capacity(ROWS);
         // The next region stands last.
         let mut open = Vec::with_capacity(2 * ROW_INPUTS);
         open.push(Open {
@@ -68,8 +68,8 @@ impl Sets<'_> {
         });
         while let Some(next) = open.pop() {
             match self.cut(&next) {
-                None if given.len() == ROWS => return Err(Refusal::plain(14)),
-                None => given.push(Row {
+                None if made.len() == ROWS => return Err(Refusal::plain(14)),
+                None => made.push(Row {
                     word: self.word(next.met),
                     ..next.region
                 }),
@@ -79,7 +79,7 @@ impl Sets<'_> {
                 }
             }
         }
-        Ok(given)
+        Ok(made)
     }
 
     /// The highest free input that a row meeting the region fixes.
