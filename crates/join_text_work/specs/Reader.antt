@@ -1,16 +1,15 @@
 -- The joined rows of a text, by the reader's answer: its refusal, or what joining the rows that the text says, which lie in working storage, comes
 -- to. Writing them adds no refusal: with no type line the type is fd, and the rest the reader has seen. Assumes nothing.
-use mathlib.Core.Path.{_≡_, refl, sym, ap, _∙_}
-use mathlib.Core.Bool.{Bool, true, false, cond}
+use mathlib.Core.Path.{_≡_, sym, ap, _∙_}
 use mathlib.Core.List.{List, map}
 use mathlib.Core.Logic.{_⊎_, inl, inr}
 use Prim.Native.Nat.{ℕ, _≤_}
 use native.Mathlib.Omega.{arith}
-use borrow.Author.Tests.{eq-eqb, eqb-true}
+use borrow.Author.Tests.{eq-eqb}
 use lib.ListN.{length, take}
 use Rattle.block.specs.Limits.{givenRows, readBytes, textRoom}
 use Rattle.block.specs.Words.{fr, fd, maskPart, valuesPart, wordPart}
-use Rattle.block.specs.Refusals.{answer, answered, andThen, stored}
+use Rattle.block.specs.Refusals.{answer, andThen, stored}
 use Rattle.block.specs.Text.{textOf, typeLine, lineAt, typeLineIn, typeIn, inputsIn, outputsIn, rowsIn, readVerdict, readText, kindNumber, numbers, writeVerdict}
 use Rattle.block.specs.Joins.{joined, joinVerdict}
 use Rattle.block.specs.declared.Row.{Row}
@@ -25,6 +24,7 @@ use Rattle.answered_laws.specs.Passed.{join-passed, join-answers}
 use Rattle.read_laws.specs.Front.{rows-count}
 use Rattle.read_laws.specs.TypeLines.{type-cases, type-known}
 use Rattle.text_work.specs.Work.{firstRows}
+use Rattle.text_work.specs.Front.{adds-none}
 use Rattle.text_work.specs.Reader.{count-le, reader-said, reader-some, reader-zero, reader-inputs, reader-outputs, reader-type, reader-line, reader-rows}
 use Rattle.join_text_work.specs.Work.{joinInVerdict, joinIn}
 use Rattle.join_text_work.specs.Rows.{joined-writable}
@@ -42,7 +42,7 @@ pub write-adds-none : (text : List ℕ) (room : ℕ) → readVerdict text givenR
     → andThen (joinVerdict (inputsIn text) (outputsIn text) (rowsIn text))
     (writeVerdict (inputsIn text) (outputsIn text) (typeIn text) (typeLineIn text) (joined (rowsIn text)) room)
     ≡ joinVerdict (inputsIn text) (outputsIn text) (rowsIn text)
-write-adds-none text room e h = go (answered v) refl
+write-adds-none text room e h = adds-none v _ written
   where
     v : Answer
     v = joinVerdict (inputsIn text) (outputsIn text) (rowsIn text)
@@ -55,11 +55,6 @@ write-adds-none text room e h = go (answered v) refl
         let p = join-passed (inputsIn text) (outputsIn text) (rowsIn text) z in
         joined-writable (inputsIn text) (outputsIn text) (typeIn text) (typeLineIn text) (rowsIn text) room p few (type-known text) (fr-lined text) h
         ∙ sym (join-answers (inputsIn text) (outputsIn text) (rowsIn text) p)
-
-    go : (b : Bool) → answered v ≡ b
-        → cond b (writeVerdict (inputsIn text) (outputsIn text) (typeIn text) (typeLineIn text) (joined (rowsIn text)) room) v ≡ v
-    go true d = written (eqb-true (v .number) 0 d)
-    go false d = refl
 
 module _ (input text : List ℕ) (reading : Reading) (cut : text ≡ take readBytes input)
     (answers : numbers reading ≡ readText text givenRows) where

@@ -5,13 +5,12 @@ use mathlib.Core.Path.{_≡_, sym, ap, _∙_}
 use mathlib.Core.List.{List, _++_, map, map-append, append-assoc}
 use Prim.Native.Nat.{ℕ, _-_, _≤_}
 use native.Mathlib.Omega.{arith}
-use lib.ListN.{length, take, drop, length-map, length-append}
-use lib.Seq.{take-at}
+use lib.ListN.{length, drop}
 use Rattle.slices.specs.Places.{tab, over}
 use Rattle.block.specs.Limits.{givenRows, textRoom}
 use Rattle.block.specs.Words.{fr, fd, row, rowsOf, maskPart, valuesPart, wordPart}
 use Rattle.block.specs.Refusals.{answer, andThen, stored}
-use Rattle.block.specs.Text.{textOf, writeVerdict, writeText, withBytes}
+use Rattle.block.specs.Text.{textOf, writeVerdict}
 use Rattle.block.specs.Joins.{joined, joinVerdict, join, joinedRoom}
 use Rattle.block.specs.declared.Row.{Row}
 use Rattle.block.specs.declared.Answer.{Answer}
@@ -20,39 +19,24 @@ use Rattle.block.specs.declared.TextAnswer.{TextAnswer}
 use Rattle.promises.specs.Lent.{lentFlat}
 use Rattle.promises.specs.Joins.{JoinPromise}
 use Rattle.promises.specs.Texts.{WritePromise}
-use Rattle.refusal_laws.specs.Verdicts.{then-refused, then-answered, carried-yes, stored-yes, Written, not-written}
+use Rattle.refusal_laws.specs.Verdicts.{carried-yes, stored-yes, Written}
 use Rattle.answered_laws.specs.Passed.{JoinPassed}
 use Rattle.put_text.specs.Checks.{write-answers}
 use Rattle.join_laws.specs.Joined.{joined-good, joined-length, joined-some}
-use Rattle.join_laws.specs.Room.{room-length}
 use Rattle.text_work.specs.Work.{firstRows}
-use Rattle.text_work.specs.Reader.{rows-parts}
+use Rattle.text_work.specs.Front.{InFront, in-front, front-rows, front-long, rows-refused, rows-written}
 
 -- ---- where the joined rows lie
 
--- a part of the joined rows at the front of storage, and the storage is no shorter
-module _ (part : Row → ℕ) (rs : List Row) (l l′ : List ℕ) (e : l′ ≡ over (map part (joinedRoom rs)) l) where
-  part-front : take (length (joined rs)) l′ ≡ map part (joined rs)
-  unfolding joinedRoom
-  part-front =
-      let freed : List Row = tab (length rs - length (joined rs)) (λ _. row 0 0 0) in
-      ap (take (length (joined rs)))
-      (e
-      ∙ ap (λ (s : List ℕ). s ++ drop (length (map part (joinedRoom rs))) l) (map-append part (joined rs) freed)
-      ∙ append-assoc (map part (joined rs)) (map part freed) (drop (length (map part (joinedRoom rs))) l))
-      ∙ take-at (map part (joined rs)) (map part freed ++ drop (length (map part (joinedRoom rs))) l) (length (joined rs))
-      (length-map (joined rs) part)
-
-  part-long : length (joined rs) ≤ length l′
-  part-long =
-      omega (
-        arith,
-        ap length e,
-        length-append (map part (joinedRoom rs)) (drop (length (map part (joinedRoom rs))) l),
-        length-map (joinedRoom rs) part,
-        room-length rs,
-        joined-length rs,
-      )
+-- a part of the joined rows at the front of storage, before the freed records
+part-front : (part : Row → ℕ) (rs : List Row) (l l′ : List ℕ) → l′ ≡ over (map part (joinedRoom rs)) l → InFront part (joined rs) l′
+unfolding joinedRoom
+part-front part rs l l′ e =
+    let freed : List Row = tab (length rs - length (joined rs)) (λ _. row 0 0 0) in
+    in-front part (joined rs) _ l′
+    (e
+    ∙ ap (λ (s : List ℕ). s ++ drop (length (map part (joinedRoom rs))) l) (map-append part (joined rs) freed)
+    ∙ append-assoc (map part (joined rs)) (map part freed) (drop (length (map part (joinedRoom rs))) l))
 
 -- joining has answered r, and left m′, v′ and w′ where m, v and w held the list
 module _ (n k : ℕ) (m v w m′ v′ w′ : List ℕ) (r : JoinAnswer) (p : JoinPromise n k (rowsOf m v w) (lentFlat m v w m′ v′ w′) r) where
@@ -71,28 +55,20 @@ module _ (n k : ℕ) (m v w m′ v′ w′ : List ℕ) (r : JoinAnswer) (p : Joi
     unfolding join
     counted = ap (λ (x : JoinAnswer). x .count) (p .answer) ∙ carried-yes (joinVerdict n k rs) (length (joined rs)) joined-zero
 
-    laid : (part : Row → ℕ) (l l′ : List ℕ) → l′ ≡ stored (joinVerdict n k rs) (map part (joinedRoom rs)) l
-        → l′ ≡ over (map part (joinedRoom rs)) l
-    laid part l l′ e = e ∙ stored-yes (joinVerdict n k rs) (map part (joinedRoom rs)) l joined-zero
+    laid : (part : Row → ℕ) (l l′ : List ℕ) → l′ ≡ stored (joinVerdict n k rs) (map part (joinedRoom rs)) l → InFront part (joined rs) l′
+    laid part l l′ e = part-front part rs l l′ (e ∙ stored-yes (joinVerdict n k rs) (map part (joinedRoom rs)) l joined-zero)
 
     -- as many rows as are answered lie in storage
     pub joined-lies : (r .count ≤ length m′) × (r .count ≤ length v′) × (r .count ≤ length w′)
-    joined-lies = (
-      omega (arith, counted, part-long maskPart rs m m′ (laid maskPart m m′ (p .rows .masks))),
-      omega (arith, counted, part-long valuesPart rs v v′ (laid valuesPart v v′ (p .rows .values))),
-      omega (arith, counted, part-long wordPart rs w w′ (laid wordPart w w′ (p .rows .words))),
-    )
+    joined-lies =
+        front-long (joined rs) (r .count) counted m′ v′ w′
+        (laid maskPart m m′ (p .rows .masks)) (laid valuesPart v v′ (p .rows .values)) (laid wordPart w w′ (p .rows .words))
 
     -- and these are the joined rows
     pub joined-front : firstRows (r .count) m′ v′ w′ ≡ joined rs
     joined-front =
-        rw (
-          counted,
-          part-front maskPart rs m m′ (laid maskPart m m′ (p .rows .masks)),
-          part-front valuesPart rs v v′ (laid valuesPart v v′ (p .rows .values)),
-          part-front wordPart rs w w′ (laid wordPart w w′ (p .rows .words)),
-          rows-parts (joined rs),
-        )
+        front-rows (joined rs) (r .count) counted m′ v′ w′
+        (laid maskPart m m′ (p .rows .masks)) (laid valuesPart v v′ (p .rows .values)) (laid wordPart w w′ (p .rows .words))
 
   -- ---- joining and then writing, as text of type y, with its type line or, where z is 0, without
 
@@ -104,17 +80,12 @@ module _ (n k : ℕ) (m v w m′ v′ w′ : List ℕ) (r : JoinAnswer) (p : Joi
     both = andThen (joinVerdict n k rs) (writeVerdict n k y z (joined rs) (length l))
 
     pub join-refused : (r .number ≡ 0 → ⊥) → Written both text l (record { number = r .number; a = r .a; b = r .b; count = 0 }) l
-    join-refused h =
-        not-written (answer (r .number) (r .a) (r .b)) both text l
-        (joined-said ∙ then-refused (joinVerdict n k rs) _ (λ e. h (ap (λ (x : Answer). x .number) joined-said ∙ e))) h
+    join-refused = rows-refused (joinVerdict n k rs) (r .number) (r .a) (r .b) joined-said n k y z (joined rs) l
 
     pub join-written : r .number ≡ 0 → (t : TextAnswer) (l′ : List ℕ) → WritePromise n k y z (firstRows (r .count) m′ v′ w′) l t l′
         → Written both text l t l′
-    unfolding writeText
     join-written h t l′ q =
-        let g : WritePromise n k y z (joined rs) l t l′ = rw (joined-front h) at q in
-        let e = then-answered (joinVerdict n k rs) (writeVerdict n k y z (joined rs) (length l)) (joined-zero h) in
-        (g .answer ∙ ap (λ (v : Answer). withBytes v text) e, g .text ∙ ap (λ (v : Answer). stored v text l) e)
+        rows-written (joinVerdict n k rs) (r .number) (r .a) (r .b) joined-said n k y z (joined rs) l h t l′ (rw (joined-front h) at q)
 
 -- ---- the writer does not refuse them
 

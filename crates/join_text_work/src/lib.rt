@@ -13,37 +13,7 @@ ghost use Rattle.block.specs.Words.{rowsOf};
 ghost use Rattle.block.specs.Refusals.{andThen, stored};
 ghost use Rattle.block.specs.Text.{textOf, writeVerdict, withBytes};
 ghost use Rattle.block.specs.Joins.{joined, joinVerdict};
-ghost use Rattle.promises.specs.Texts.{WritePromise};
-ghost use Rattle.text_work.specs.Work.{firstRows};
 ghost use Rattle.join_text_work.specs.Work.{joinInVerdict, joinIn};
-
-// Writes the list of the first `count` rows in storage as row text to the front of out, or refuses.
-pub fn write_rows(
-    n: usize,
-    k: usize,
-    block_type: usize,
-    type_line: usize,
-    count: usize,
-    masks: &[u32],
-    values: &[u32],
-    words: &[u32],
-    out: &mut [u8],
-) -> TextAnswer
-    requires { ⌜ (count ≤ length (now masks)) × (count ≤ length (now values)) × (count ≤ length (now words)) ⌝ }
-    ensures { λ r. ⌜ WritePromise n k «block_type» «type_line»
-        (firstRows count (now (masks .entry)) (now (values .entry)) (now (words .entry))) (now (out .entry)) r (now (out .exit)) ⌝ }
-{
-    writing::write_text(
-        n,
-        k,
-        block_type,
-        type_line,
-        &masks[..count],
-        &values[..count],
-        &words[..count],
-        out,
-    )
-}
 
 // Joins the rows of a list in place and writes what is left of them as row text to the front of out, or refuses.
 pub fn join_list(
@@ -72,7 +42,7 @@ pub fn join_list(
             count: 0,
         };
     }
-    write_rows(
+    text_work::write_rows(
         n,
         k,
         block_type,

@@ -6,12 +6,9 @@ use mathlib.Core.List.{List, map}
 use Prim.Native.Nat.{ℕ, _≤_, min}
 use native.Mathlib.Omega.{arith}
 use borrow.Author.Tests.{eq-eqb, ne-eqb, le-ltb}
-use lib.ListN.{length, getD, take, drop, length-map, List·getD-map}
-use lib.Seq.{take-at}
-use Rattle.slices.specs.Places.{at}
-use Rattle.slices.specs.Filled.{tab-cong, tab-list}
+use lib.ListN.{length, take}
 use Rattle.block.specs.Limits.{sheetRoom, givenRows, readBytes}
-use Rattle.block.specs.Words.{missing, row, rowsOf, maskPart, valuesPart, wordPart}
+use Rattle.block.specs.Words.{missing, maskPart, valuesPart, wordPart}
 use Rattle.block.specs.Refusals.{answer, verdict, stored}
 use Rattle.block.specs.Text.{typeLineIn, typeIn, inputsIn, outputsIn, countIn, readChecks, readVerdict, readText, rowsIn, kindNumber, numbers}
 use Rattle.block.specs.Lists.{methodChecks}
@@ -27,11 +24,11 @@ use Rattle.block.specs.declared.Reading.{Reading}
 use Rattle.block.specs.declared.Reading.the-variants.{Accepted, Refused}
 use Rattle.refusal_laws.specs.Verdicts.{answered-clear, carried-yes, stored-yes, stored-no}
 use Rattle.shared_checks.specs.Sizes.{inside}
-use Rattle.flat_rows.specs.Listing.{rowsFrom, rows-of}
 use Rattle.read_laws.specs.Front.{rows-count}
 use Rattle.sheet_work.specs.Work.{withSheet, sheetWork}
 use Rattle.block.specs.declared.SheetWork.{SheetWork}
 use Rattle.text_work.specs.Work.{firstRows, textVerdict, sheetIn, textWork}
+use Rattle.text_work.specs.Front.{InFront, in-front, front-rows}
 
 -- every refusal has a number of its own
 kind-some : (k : Kind) → kindNumber k ≡ 0 → ⊥
@@ -47,25 +44,6 @@ unfolding readVerdict
 count-le text room e =
     let clear = answered-clear (readChecks text room) (refl, (refl, (refl, (refl, (refl, (refl, tt)))))) (eq-eqb _ 0 e) in
     inside 1 givenRows (countIn text) (clear 3 (omega arith)) .1
-
--- the list whose masks, values and words lie in three slices is the list
-pub rows-parts : (rs : List Row)
-    → rowsOf (map maskPart rs) (map valuesPart rs) (map wordPart rs) ≡ rs
-rows-parts rs =
-    let masks : List ℕ = map maskPart rs in
-    let values : List ℕ = map valuesPart rs in
-    let words : List ℕ = map wordPart rs in
-    let size = length-map rs maskPart in
-    rows-of masks values words (length-map rs valuesPart ∙ sym size) (length-map rs wordPart ∙ sym size)
-    ∙ ap (λ (i : ℕ). rowsFrom i masks values words) size
-    ∙ tab-cong (length rs) (λ i. row (at masks i) (at values i) (at words i)) (λ i. getD rs i (row 0 0 0))
-    (λ i h.
-    rw (
-      List·getD-map maskPart rs i (row 0 0 0),
-      List·getD-map valuesPart rs i (row 0 0 0),
-      List·getD-map wordPart rs i (row 0 0 0),
-    ))
-    ∙ tab-list (row 0 0 0) rs
 
 -- the verdict of a room that is long enough
 enough : (n k y w : ℕ) (rs : List Row) (room : ℕ) → sheetRoom ≤ room → sheetVerdict n k y w rs room ≡ sheetVerdict n k y w rs sheetRoom
@@ -146,24 +124,16 @@ module _ (input text : List ℕ) (reading : Reading) (cut : text ≡ take readBy
     pub reader-count : h .count ≤ givenRows
     reader-count = rw counted (count-le text givenRows reader-zero)
 
-    -- a part of the rows at the front of storage
-    front : (f : Row → ℕ) (l l′ : List ℕ) → l′ ≡ stored u (map f (rowsIn text)) l → take (h .count) l′ ≡ map f (rowsIn text)
-    front f l l′ q =
-        ap (take (h .count)) (q ∙ stored-yes u (map f (rowsIn text)) l reader-zero)
-        ∙ take-at (map f (rowsIn text)) (drop (length (map f (rowsIn text))) l) (h .count)
-        (length-map (rowsIn text) f ∙ rows-count text ∙ sym counted)
+    laid : (f : Row → ℕ) (l l′ : List ℕ) → l′ ≡ stored u (map f (rowsIn text)) l → InFront f (rowsIn text) l′
+    laid f l l′ q = in-front f (rowsIn text) _ l′ (q ∙ stored-yes u (map f (rowsIn text)) l reader-zero)
 
     -- the rows in storage are those that the text says
     pub reader-rows : (m v d m′ v′ d′ : List ℕ) → m′ ≡ stored u (map maskPart (rowsIn text)) m
         → v′ ≡ stored u (map valuesPart (rowsIn text)) v → d′ ≡ stored u (map wordPart (rowsIn text)) d
         → firstRows (h .count) m′ v′ d′ ≡ rowsIn text
     reader-rows m v d m′ v′ d′ a b c =
-        rw (
-          front maskPart m m′ a,
-          front valuesPart v v′ b,
-          front wordPart d d′ c,
-          rows-parts (rowsIn text),
-        )
+        front-rows (rowsIn text) (h .count) (counted ∙ sym (rows-count text)) m′ v′ d′
+        (laid maskPart m m′ a) (laid valuesPart v v′ b) (laid wordPart d d′ c)
 
     -- the work of the rows in storage
     pub reader-accepted : (m v d m′ v′ d′ : List ℕ) → m′ ≡ stored u (map maskPart (rowsIn text)) m

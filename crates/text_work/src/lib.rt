@@ -1,9 +1,11 @@
 // The work of a text (01, the first section, and The sheet): the weight limit, and the sheet of the rows that the text says, with its
-// measures and the number of smaller rows. What the programs print rests on it. All functions here are inner.
+// measures and the number of smaller rows; and the rows at the front of storage as row text, for the work that prints a list. What the programs
+// print rests on it. All functions here are inner.
 use block::GIVEN_ROWS;
 use block::READ_BYTES;
 use block::Reading;
 use block::SheetWork;
+use block::TextAnswer;
 ghost use mathlib.Core.Path.{_≡_};
 ghost use Prim.Native.Nat.{_≤_, min};
 ghost use lib.ListN.{length};
@@ -11,6 +13,7 @@ ghost use Rattle.block.specs.Limits.{sheetRoom};
 ghost use Rattle.block.specs.Words.{missing, rowsOf};
 ghost use Rattle.block.specs.Refusals.{stored};
 ghost use Rattle.block.specs.Sheet.{sheetText, sheetVerdict};
+ghost use Rattle.promises.specs.Texts.{WritePromise};
 ghost use Rattle.sheet_work.specs.Work.{sheetWork};
 ghost use Rattle.text_work.specs.Work.{firstRows, textVerdict, sheetIn, textWork};
 
@@ -59,6 +62,34 @@ pub fn work_rows(
         n,
         k,
         block_type,
+        &masks[..count],
+        &values[..count],
+        &words[..count],
+        out,
+    )
+}
+
+// Writes the list of the first `count` rows in storage as row text to the front of out, or refuses.
+pub fn write_rows(
+    n: usize,
+    k: usize,
+    block_type: usize,
+    type_line: usize,
+    count: usize,
+    masks: &[u32],
+    values: &[u32],
+    words: &[u32],
+    out: &mut [u8],
+) -> TextAnswer
+    requires { ⌜ (count ≤ length (now masks)) × (count ≤ length (now values)) × (count ≤ length (now words)) ⌝ }
+    ensures { λ r. ⌜ WritePromise n k «block_type» «type_line»
+        (firstRows count (now (masks .entry)) (now (values .entry)) (now (words .entry))) (now (out .entry)) r (now (out .exit)) ⌝ }
+{
+    writing::write_text(
+        n,
+        k,
+        block_type,
+        type_line,
         &masks[..count],
         &values[..count],
         &words[..count],

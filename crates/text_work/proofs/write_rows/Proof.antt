@@ -1,9 +1,9 @@
--- `join_text_work::write_rows` meets its contract: by the writing of the list that the first rows are. Assumes nothing.
+-- `text_work::write_rows` meets its contract: by the writing of the list that the first rows are. Assumes nothing.
 use native.Mathlib.Omega.{arith}
 use lib.ListN.{length-take}
 use borrow.Author.Needs.{needs}
-use Rattle.join_text_work.proofs.write_rows.Statement.{statement}
-use Rattle.join_text_work.proofs.write_rows.Tie as tie
+use Rattle.text_work.proofs.write_rows.Statement.{statement}
+use Rattle.text_work.proofs.write_rows.Tie as tie
 
 slice-aggregate-write-text : tie.Need-slice-aggregate-write-text
 slice-aggregate-write-text c = simp length-take (omega arith)
