@@ -1,4 +1,4 @@
--- What the program prints, by the work of its text: the sheet, the model or the joined rows themselves, or the line of the refusal. Assumes nothing.
+-- What the program prints, by the work of its text: the sheet, the model, the joined rows or the disjoint list itself, or the line of the refusal. Assumes nothing.
 use mathlib.Core.Path.{_≡_, refl, sym, ap, _∙_}
 use mathlib.Core.Bool.{Bool, true, false, cond}
 use mathlib.Core.List.{List}
@@ -12,6 +12,7 @@ use Rattle.block.specs.Refusals.{answer, answered, carried, stored}
 use Rattle.block.specs.Sheet.{refusalLine, orRefused, printedList, printed}
 use Rattle.block.specs.Model.{printedModelOf, printedModel}
 use Rattle.block.specs.Joins.{printedJoinOf, printedJoin}
+use Rattle.block.specs.Overlaps.{printedDisjointOf, printedDisjoint}
 use Rattle.block.specs.declared.Answer.{Answer}
 use Rattle.refusal_laws.specs.Verdicts.{carried-yes, stored-yes, stored-no}
 use Rattle.put_bytes.specs.Puts.{Put, put-over}
@@ -19,6 +20,7 @@ use Rattle.put_refusal.specs.Length.{refusalRoom, refusal-le}
 use Rattle.text_work.specs.Work.{textVerdict, sheetIn}
 use Rattle.model_text_work.specs.Work.{modelInVerdict, modelIn}
 use Rattle.join_text_work.specs.Work.{joinInVerdict, joinIn}
+use Rattle.disjoin_text_work.specs.Work.{disjoinInVerdict, disjoinIn}
 
 -- a text or the line of a second refusal, or the line of a first, is by the verdict of both
 or-or : (u v : Answer) (t : List ℕ) → orRefused u (orRefused v t) ≡ orRefused (cond (answered u) v u) t
@@ -45,6 +47,11 @@ printed-model-by input = or-or _ _ _
 pub printed-join-by : (input : List ℕ) → printedJoin input ≡ orRefused (joinInVerdict input) (joinIn input)
 unfolding printedJoin printedJoinOf joinInVerdict joinIn
 printed-join-by input = or-or _ _ _
+
+-- and with --disjoint the disjoint list
+pub printed-disjoint-by : (input : List ℕ) → printedDisjoint input ≡ orRefused (disjoinInVerdict input) (disjoinIn input)
+unfolding printedDisjoint printedDisjointOf disjoinInVerdict disjoinIn
+printed-disjoint-by input = or-or _ _ _
 
 -- what is printed where the work of a text left l′ in l and says this number and these places, by the verdict u and the text t
 module _ (u : Answer) (t l l′ : List ℕ) (text : l′ ≡ stored u t l) (number a b : ℕ) (said : answer number a b ≡ u) where

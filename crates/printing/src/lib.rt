@@ -1,12 +1,13 @@
-// What the program prints (01, the first section, and The sheet; 02, Tickets 4 and 9). Three functions, each of which looks at the first 8,192
+// What the program prints (01, the first section, and The sheet; 02, Tickets 4, 9 and 10). Four functions, each of which looks at the first 8,192
 // bytes of a text and writes to the front of lent room: `print_text` the sheet of the text's rows and `print_model` their model in BLIF, both with
-// weight limit 3, or n where n is below 3, and `print_joined` the rows joined, as row text; or the one line "refused N A B". Each answers the
-// number of bytes. This crate holds nothing else.
+// weight limit 3, or n where n is below 3, and as row text `print_joined` the rows joined and `print_disjoint` the disjoint list of rows that may
+// share points; or the one line "refused N A B". Each answers the number of bytes. This crate holds nothing else.
 use block::MODEL_ROOM;
 use block::SHEET_ROOM;
 use block::TEXT_ROOM;
 ghost use Rattle.promises.specs.Joins.{PrintJoinPromise};
 ghost use Rattle.promises.specs.Models.{PrintModelPromise};
+ghost use Rattle.promises.specs.Overlaps.{PrintDisjointPromise};
 ghost use Rattle.promises.specs.Sheets.{PrintPromise};
 
 // Prints the sheet of a text, or the line that says why not: every byte, and how many.
@@ -40,4 +41,15 @@ pub fn print_joined(input: &[u8], out: &mut [u8; TEXT_ROOM]) -> usize
         return put_refusal::put_refusal(out, j.number, j.a, j.b);
     }
     j.count
+}
+
+// Prints the disjoint list of a text, or the line that says why not: every byte, and how many.
+pub fn print_disjoint(input: &[u8], out: &mut [u8; TEXT_ROOM]) -> usize
+    ensures { λ r. ⌜ PrintDisjointPromise (now (input .entry)) (now (out .entry)) r (now (out .exit)) ⌝ }
+{
+    let d = disjoin_text_work::disjoin_text(input, out);
+    if d.number != 0 {
+        return put_refusal::put_refusal(out, d.number, d.a, d.b);
+    }
+    d.count
 }
