@@ -1,12 +1,13 @@
-// The program (01, the first section; 02, Tickets 4 to 7 and 9). It reads row text on standard input, at most 8,192 bytes of it, and prints its
+// The program (01, the first section; 02, Tickets 4 to 7, 9 and 10). It reads row text on standard input, at most 8,192 bytes of it, and prints its
 // sheet with weight limit 3, or n where n is below 3; called with --blif it prints the model in BLIF in the sheet's place, with --join the list
-// with its rows joined, with --shifts R at every t, by the spectrum, with --symmetric whether the block is symmetric, with --why and a number why
-// that was not taken, with the sheet's weight limit or the one that follows. Called with --symmetric and words, it reads nothing and prints the
-// symmetric block of these words. Called with --model it reads a model, and prints "model INPUTS OUTPUTS PATTERNS", or, where a point follows,
-// "word" and the word there. Whatever it can't answer it answers with the one line "refused N A B". What is printed of a list is promised by
-// `print_text`, `print_model` and `print_joined` of the crate printing, what is said of a model by `read_model` and `model_value` of the crate
-// models; crates shift_lines, symmetric_lines and why_lines say by which promises the rest is said. No contract says which bytes the system reads
-// and writes. A read or a write that fails is told on standard error; where a read fails nothing is printed, since the text is not known.
+// with its rows joined, with --disjoint the disjoint list of one whose rows may share points, with --shifts R at every t, by the spectrum, with
+// --symmetric whether the block is symmetric, with --why and a number why that was not taken, with the sheet's weight limit or the one that follows.
+// Called with --symmetric and words, it reads nothing and prints the symmetric block of these words. Called with --model it reads a model, and
+// prints "model INPUTS OUTPUTS PATTERNS", or, where a point follows, "word" and the word there. Whatever it can't answer it answers with the one
+// line "refused N A B". What is printed of a list is promised by `print_text`, `print_model`, `print_joined` and `print_disjoint` of the crate
+// printing, what is said of a model by `read_model` and `model_value` of the crate models; crates shift_lines, symmetric_lines and why_lines say by
+// which promises the rest is said. No contract says which bytes the system reads and writes. A read or a write that fails is told on standard
+// error; where a read fails nothing is printed, since the text is not known.
 use arguments::WhyCall;
 use arguments::is_given;
 use block::LIST_INPUTS;
@@ -97,11 +98,19 @@ fn print_joined(text: &[u8]) {
     print_bytes(&out[..count]);
 }
 
+// Prints the disjoint list of a text, or why not.
+fn print_disjoint(text: &[u8]) {
+    let mut out = [0u8; TEXT_ROOM];
+    let count = printing::print_disjoint(text, &mut out);
+    print_bytes(&out[..count]);
+}
+
 // What is printed of a list.
 enum Due {
     Sheet,
     Model,
     Joined,
+    Disjoint,
     Shifts,
     Symmetry,
     Why(WhyCall),
@@ -113,6 +122,7 @@ fn print_due(due: Due, text: &[u8]) {
         Due::Sheet => print_sheet(text),
         Due::Model => print_model(text),
         Due::Joined => print_joined(text),
+        Due::Disjoint => print_disjoint(text),
         Due::Shifts => shift_lines::say_shifts(text),
         Due::Symmetry => symmetric_lines::say_symmetry(text),
         Due::Why(call) => why_lines::say_why(text, call),
@@ -281,6 +291,10 @@ fn answer_option() {
     }
     if is_given(1, b"--join") {
         answer_list(Due::Joined);
+        return;
+    }
+    if is_given(1, b"--disjoint") {
+        answer_list(Due::Disjoint);
         return;
     }
     if is_given(1, b"--shifts") {
