@@ -1,8 +1,9 @@
 /*
  * How much stack each operation takes: called in a thread whose stack was filled with one byte, and counted down to the lowest byte that
- * changed. The code has no recursion and its arrays have fixed lengths, so what a call takes goes by the functions that it reaches; each
- * operation is called on a list, table or model that it answers, of either type, but for a text that is to be printed disjoint, which is
- * refused under fr. Prints a line an operation and type, and ends with 1 where one takes more than MOST or is refused otherwise.
+ * changed. Arrays have fixed lengths and one function alone calls itself, that of disjoining, as deep as rows fix inputs, so what a call takes
+ * goes by the functions that it reaches; disjoining has points of 16 inputs. Each operation is called on a list, table or model that it answers,
+ * of either type, but for a text that is to be printed disjoint, which is refused under fr. Prints a line an operation and type, and ends with 1
+ * where one takes more than MOST or is refused otherwise.
  */
 #define _GNU_SOURCE
 #include <pthread.h>
@@ -20,17 +21,18 @@
 #define JOINED IRWYSTL_SMALLER_ROWS /* rows that join to one: all points of nine inputs */
 #define PATTERNS (IRWYSTL_MOST_OUTPUTS * IRWYSTL_SMALLER_ROWS)
 
-static irwystl_row rows[ROWS], smaller[IRWYSTL_SMALLER_ROWS];
-static uint32_t masks[ROWS], values[ROWS], words[ROWS], basis[16], sigma[16];
+static irwystl_row rows[ROWS], smaller[IRWYSTL_SMALLER_ROWS], points[ROWS];
+static uint32_t masks[ROWS], values[ROWS], words[ROWS], basis[16], sigma[16], point_masks[ROWS], point_values[ROWS];
 static uint32_t smaller_masks[IRWYSTL_SMALLER_ROWS], smaller_values[IRWYSTL_SMALLER_ROWS], smaller_words[IRWYSTL_SMALLER_ROWS];
 static uint16_t table[POINTS], made[POINTS], made_smaller[POINTS];
 static uint32_t shifts[POINTS];
 static int32_t working[POINTS];
-static uint8_t text[8192], out[IRWYSTL_SHEET_ROOM], line[IRWYSTL_LINE_ROOM], model[IRWYSTL_MODEL_ROOM];
+static uint8_t text[8192], points_text[8192], out[IRWYSTL_SHEET_ROOM], line[IRWYSTL_LINE_ROOM], model[IRWYSTL_MODEL_ROOM];
 static uint32_t model_masks[PATTERNS], model_values[PATTERNS], model_matrix[16];
-static size_t text_length, model_length, counts[IRWYSTL_MOST_OUTPUTS], patterns, type;
+static size_t text_length, points_length, model_length, counts[IRWYSTL_MOST_OUTPUTS], patterns, type;
 
 #define FLAT masks, ROWS, values, ROWS, words, ROWS
+#define FLAT_POINTS point_masks, ROWS, point_values, ROWS, words, ROWS
 
 static uint32_t nothing(void) { return 0; }
 static uint32_t table_value(void) { return irwystl_table_value(12, 7, type, 5, table, POINTS).number; }
@@ -52,7 +54,7 @@ static uint32_t join(void) {
   return irwystl_join_rows(16, 7, smaller_masks, JOINED, smaller_values, JOINED, smaller_words, JOINED).count != 1;
 }
 static uint32_t disjoin(void) {
-  return irwystl_disjoin_rows(16, 7, FLAT, smaller_masks, ROWS, smaller_values, ROWS, smaller_words, ROWS).count != ROWS;
+  return irwystl_disjoin_rows(16, 7, FLAT_POINTS, smaller_masks, ROWS, smaller_values, ROWS, smaller_words, ROWS).count != ROWS;
 }
 static uint32_t fill_table(void) { return irwystl_fill_table(12, 7, type, FLAT, made, POINTS).number; }
 static uint32_t write_text(void) {
@@ -73,7 +75,7 @@ static uint32_t records_join(void) {
   for (uint32_t i = 0; i < JOINED; i++) smaller[i].mask = JOINED - 1, smaller[i].values = i, smaller[i].word = 1;
   return irwystl_records_join_rows(16, 7, smaller, JOINED).count != 1;
 }
-static uint32_t records_disjoin(void) { return irwystl_records_disjoin_rows(16, 7, rows, ROWS, smaller, ROWS).count != ROWS; }
+static uint32_t records_disjoin(void) { return irwystl_records_disjoin_rows(16, 7, points, ROWS, smaller, ROWS).count != ROWS; }
 static uint32_t records_fill_table(void) { return irwystl_records_fill_table(12, 7, type, rows, ROWS, made, POINTS).number; }
 static uint32_t records_write_text(void) { return irwystl_records_write_text(16, 7, type, 1, rows, ROWS, out, sizeof out).number; }
 static uint32_t records_read_text(void) { return irwystl_records_read_text(text, text_length, smaller, ROWS).number; }
@@ -82,7 +84,8 @@ static uint32_t print_text(void) { return irwystl_print_text(text, text_length, 
 static uint32_t print_model(void) { return irwystl_print_model(text, text_length, model) == 0 || model[0] != '.'; }
 static uint32_t print_joined(void) { return irwystl_print_joined(text, text_length, out) == 0 || out[0] != '.'; }
 static uint32_t print_disjoint(void) {
-  return irwystl_print_disjoint(text, text_length, out) == 0 || out[0] != (type == IRWYSTL_FR ? 'r' : '.');
+  if (type == IRWYSTL_FR) return irwystl_print_disjoint(text, text_length, out) == 0 || out[0] != 'r';
+  return irwystl_print_disjoint(points_text, points_length, out) == 0 || out[0] != '.';
 }
 static uint32_t records_write_model(void) { return irwystl_records_write_model(16, 7, type, 16, rows, ROWS, model, sizeof model).number; }
 static uint32_t write_model(void) {
@@ -175,7 +178,14 @@ int main(void) {
     rows[i].mask = masks[i];
     rows[i].values = values[i];
     rows[i].word = words[i];
+    /* each has seven inputs of its own, the highest, so that regions are halved at all 16 */
+    point_masks[i] = 65535;
+    point_values[i] = (uint32_t)i << 9;
+    points[i].mask = point_masks[i];
+    points[i].values = point_values[i];
+    points[i].word = words[i];
   }
+  points_length = irwystl_write_text(16, 7, IRWYSTL_FD, 1, FLAT_POINTS, points_text, sizeof points_text).count;
   for (i = 0; i < POINTS; i++) table[i] = (uint16_t)((i * 37 + 11) % 128);
   taken(&none);
   start = taken(&none);
