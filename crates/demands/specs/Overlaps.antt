@@ -76,7 +76,7 @@ module _ (n k : ℕ) (rs : List Row) (room : ℕ) (h : disjoinVerdict n k rs roo
   regions-once = visited-distinct n k rs good
 
   pub regions-few : length (visited n rs wholeSpace) ≤ 1 + 2 * (n * disjoin n k rs room .count)
-  regions-few = rw (disjoint-count) (visited-few n k rs good)
+  regions-few = rw disjoint-count (visited-few n k rs good)
 
   -- ---- what is worked out of the disjoint list is that of the block of ORs
 

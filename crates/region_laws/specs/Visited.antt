@@ -1,7 +1,7 @@
 -- The regions that are visited: each lies in the region that it comes from, none is visited twice, and each that is halved leads to a row, so that
 -- there are no more than twice as many as inputs for each row that comes out, and one. Assumes nothing.
 use mathlib.Core.Path.{_≡_, sym, ap, _∙_, subst}
-use mathlib.Core.Bool.{Bool, true, false}
+use mathlib.Core.Bool.{true, false}
 use mathlib.Core.List.{List, [], _∷_, _++_}
 use mathlib.Core.Logic.{_⊎_, inl, inr}
 use Prim.Native.Nat.{ℕ, suc, _+_, _*_, _≤_, _<_}
@@ -13,6 +13,7 @@ use lib.ListN.{length, length-append}
 use Rattle.bits.specs.Digits.{bit}
 use Rattle.slices.specs.Tests.{and-both}
 use Rattle.sums.specs.Sums.{one}
+use Rattle.sums.specs.Laws.{one-le}
 use Rattle.block.specs.Words.{under}
 use Rattle.block.specs.Rows.{half}
 use Rattle.block.specs.Refusals.{rowAt, badRow}
@@ -83,11 +84,7 @@ no-common n h q a free r u v w e =
     let x : ℕ = u .values in
     let low : under (half h 0 q) x ≡ true = v .inside x (subst (λ (s : Row). under s x ≡ true) e (w .point)) in
     let high : under (half h 1 q) x ≡ true = w .inside x (w .point) in
-    omega (arith, halves n h q x a free, ap one low, ap one high, at-most (under q x))
-  where
-    at-most : (b : Bool) → one b ≤ 1
-    at-most true = omega arith
-    at-most false = omega arith
+    omega (arith, halves n h q x a free, ap one low, ap one high, one-le (under q x))
 
 once-two : (n h : ℕ) (q : Row) (s t : List Row) → h < n → Sound n q → bit (q .mask) h ≡ 0
     → Once n (half h 0 q) s → Once n (half h 1 q) t → Once n q (q ∷ s ++ t)
