@@ -1,8 +1,8 @@
 -- Lists that overlap on purpose (02, Ticket 10), on the answers themselves: at each point the disjoint list, of type fd, has the OR of all rows over it,
 -- 0 where there is none; no two of its rows share a point, and none is malformed; its rows lie over the points that the list's lie over; a list that
--- was disjoint already keeps its block, read as fd. Which rows come out of a region, and in which order; that no region is visited twice, and how many
--- are. And what is worked out of the disjoint list is that of the block of ORs, with no refusal but 9 and 11. The laws of any region stand in crate
--- region_laws. Assumes nothing.
+-- was disjoint already keeps its block, read as fd. Of the rule itself: it visits no region twice, and how many it visits. And what is worked out of the
+-- disjoint list is that of the block of ORs; of its rows no more is asked than that they drive each column. The laws of any region, and the rule in three
+-- cases, stand in crate region_laws. Assumes nothing.
 use mathlib.Core.Path.{_≡_, _∙_}
 use mathlib.Core.Bool.{false, cond}
 use mathlib.Core.List.{List, map}
