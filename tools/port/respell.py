@@ -6,7 +6,7 @@ usage: tools/port/respell.py        at the top of the repository, once
 port.py respells the names that the library's own tables have. This script turns the others: each name that a file of specs/ or proofs/
 declares, that begins in lower case and has a capital within, as `smallerOf`, is written `smaller_of`; a fact among them is a type and gets
 a capital. Lemma names keep their dashes, which join two names. Functions of src/, exported names and strings keep their names. Where port.py
-has written a local lemma as a definition is written now, the lemma gets its dash back. It goes by whole words.
+has written a lemma as a definition is written now, the lemma gets its dash back. It goes by whole words.
 """
 import os
 import re
@@ -17,7 +17,7 @@ WORD = r"(?<![^\s(){}.;,@\"«»`\[\]|'′*])%s(?![^\s(){}.;,@\"«»`\[\]|:'′*]
 TYPES = {"openWithin": "OpenWithin"}
 # a parameter of functions has the plain spelling
 OTHER = {"typeLine": "type_line_of"}
-# local lemmas that would meet a definition
+# lemmas that would meet a definition
 LOCAL = ["end_test", "end_line", "is_digit", "last_line", "demanded_at", "counted_of", "opening_of", "row_from"]
 
 
@@ -52,8 +52,7 @@ def main():
             text = f.read()
         new = text
         if "/specs/" in path:
-            own = {n for n in LOCAL if re.search(r"(?m)^ +" + n + r" : ", new)}
-            new = local.sub(lambda m: m[1].replace("_", "-") if m[1] in own else m[1], new)
+            new = local.sub(lambda m: m[1].replace("_", "-"), new)
         new = word.sub(lambda m: turned[m[1]], new)
         if new != text:
             with open(path, "w", encoding="utf-8") as f:

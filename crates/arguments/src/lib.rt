@@ -1,12 +1,14 @@
 // What the arguments of a call say: whether one is a certain text, the decimal number that one is, the words of a symmetric block with what
 // stands before them (02, Ticket 6), and the number and the weight limit of a call for why the number was not taken (Ticket 7). Every function
 // here is inner.
+#![tactic(auto)]
+
 ghost use Rattle.std.specs.Prelude.{◌≤◌};
 
 use block::{FD, FR, LIST_POINTS};
 
 // A decimal number, where an argument is one.
-#[derive(Drop)]
+#[derive(Clone, Copy)]
 pub struct Number {
     pub known: bool,
     pub value: usize,
@@ -119,7 +121,7 @@ fn given_type() -> usize {
 }
 
 // A call for a symmetric block, where it has the form: the number of outputs, the type and the number of words, at least 1.
-#[derive(Drop)]
+#[derive(Clone, Copy)]
 pub struct SymmetricCall {
     pub known: bool,
     pub k: usize,
@@ -165,7 +167,7 @@ pub fn symmetric_call(words: &mut [u16]) -> SymmetricCall
 // ---- why a number was not taken
 
 // A call for why t was not taken, where it has the form: t, and the weight limit w where it names one.
-#[derive(Drop)]
+#[derive(Clone, Copy)]
 pub struct WhyCall {
     pub known: bool,
     pub t: usize,

@@ -1,5 +1,7 @@
 // Small steps on numbers that the inner loops share: powers of two, parities, single bits, and an XOR that a digit switches.
 // Every function here is inner: callers meet what it requires.
+#![tactic(auto)]
+
 ghost use Rattle.std.specs.Prelude.{◌≡◌, ◌<◌, ◌^◌, ◌*◌};
 ghost use Rattle.std.specs.Int.Bits.{bit_xor};
 ghost use Rattle.bits.specs.Digits.{bit, parity};

@@ -1,5 +1,6 @@
 // The meaning of 01: the types that callers and answers share, and in specs/ every definition that a contract cites, one file for
 // each section of 01. This crate has no functions. What is proved about the definitions stands in the crates above it.
+#![tactic(auto)]
 
 // ---- the limits of specs/Limits.antt, for code: arrays have these lengths, and a proof holds each beside the limit that a contract cites
 
@@ -39,7 +40,7 @@ pub const FD: usize = 2;
 
 // A row: the mask of its fixed inputs, their values, and its output word.
 #[repr(C)]
-#[derive(Drop)]
+#[derive(Clone, Copy)]
 pub struct Row {
     pub mask: u32,
     pub values: u32,
@@ -48,7 +49,7 @@ pub struct Row {
 
 // An answer's number and its two places, 0 where not named.
 #[repr(C)]
-#[derive(Drop)]
+#[derive(Clone, Copy)]
 pub struct Answer {
     pub number: u32,
     pub a: usize,
@@ -57,7 +58,7 @@ pub struct Answer {
 
 // The answer to a single shift value, and whether a table is symmetric, 1 or 0.
 #[repr(C)]
-#[derive(Drop)]
+#[derive(Clone, Copy)]
 pub struct ValueAnswer {
     pub number: u32,
     pub a: usize,
@@ -66,7 +67,7 @@ pub struct ValueAnswer {
 }
 
 // The measures of a block and of its smaller block, where the work hands them on.
-#[derive(Drop)]
+#[derive(Clone, Copy)]
 pub struct Measures {
     pub before: u64,
     pub after: u64,
@@ -74,7 +75,7 @@ pub struct Measures {
 
 // The answer of the table method and of a symmetric block: the measure of the block and of the smaller block.
 #[repr(C)]
-#[derive(Drop)]
+#[derive(Clone, Copy)]
 pub struct TableMethodAnswer {
     pub number: u32,
     pub a: usize,
@@ -85,7 +86,7 @@ pub struct TableMethodAnswer {
 
 // The answer of the row method: the measures, and the number of smaller rows.
 #[repr(C)]
-#[derive(Drop)]
+#[derive(Clone, Copy)]
 pub struct RowMethodAnswer {
     pub number: u32,
     pub a: usize,
@@ -97,7 +98,7 @@ pub struct RowMethodAnswer {
 
 // The answer of an operation that writes text: the number of bytes.
 #[repr(C)]
-#[derive(Drop)]
+#[derive(Clone, Copy)]
 pub struct TextAnswer {
     pub number: u32,
     pub a: usize,
@@ -107,7 +108,7 @@ pub struct TextAnswer {
 
 // The answer of joining: the number of rows that are left.
 #[repr(C)]
-#[derive(Drop)]
+#[derive(Clone, Copy)]
 pub struct JoinAnswer {
     pub number: u32,
     pub a: usize,
@@ -117,7 +118,7 @@ pub struct JoinAnswer {
 
 // The answer of disjoining: the number of rows that come out.
 #[repr(C)]
-#[derive(Drop)]
+#[derive(Clone, Copy)]
 pub struct DisjoinAnswer {
     pub number: u32,
     pub a: usize,
@@ -127,7 +128,7 @@ pub struct DisjoinAnswer {
 
 // What the work of a sheet comes to: beside the number of bytes the measures and the number of smaller rows, for the line of an import.
 #[repr(C)]
-#[derive(Drop)]
+#[derive(Clone, Copy)]
 pub struct SheetWork {
     pub number: u32,
     pub a: usize,
@@ -140,7 +141,7 @@ pub struct SheetWork {
 
 // The answer of the text reader in numbers: n, k, the type, whether its line stands in the text (1, or 0), and the number of rows.
 #[repr(C)]
-#[derive(Drop)]
+#[derive(Clone, Copy)]
 pub struct ReadAnswer {
     pub number: u32,
     pub a: usize,
@@ -154,7 +155,7 @@ pub struct ReadAnswer {
 
 // A pattern of a model's output: the mask of its fixed z, and their values.
 #[repr(C)]
-#[derive(Drop)]
+#[derive(Clone, Copy)]
 pub struct Pattern {
     pub mask: u32,
     pub values: u32,
@@ -162,7 +163,7 @@ pub struct Pattern {
 
 // The answer of the reader of models: n, k, and the number of patterns of all outputs.
 #[repr(C)]
-#[derive(Drop)]
+#[derive(Clone, Copy)]
 pub struct ModelAnswer {
     pub number: u32,
     pub a: usize,
@@ -173,7 +174,7 @@ pub struct ModelAnswer {
 }
 
 // Why the text reader refuses: the ranges of n, k and rows, the lent room, or a line's form.
-#[derive(Drop)]
+#[derive(Clone, Copy)]
 pub enum Kind {
     Inputs,
     Outputs,
@@ -183,7 +184,7 @@ pub enum Kind {
 }
 
 // A refusal of the text reader: its kind and its two places.
-#[derive(Drop)]
+#[derive(Clone, Copy)]
 pub struct Refusal {
     pub kind: Kind,
     pub a: usize,
@@ -191,7 +192,7 @@ pub struct Refusal {
 }
 
 // What an accepted text says: n, k, the type, whether its line stands there (1, or 0), and the number of rows.
-#[derive(Drop)]
+#[derive(Clone, Copy)]
 pub struct Headings {
     pub n: usize,
     pub k: usize,
@@ -201,7 +202,7 @@ pub struct Headings {
 }
 
 // The text reader's answer.
-#[derive(Drop)]
+#[derive(Clone, Copy)]
 pub enum Reading {
     Accepted(Headings),
     Refused(Refusal),
@@ -209,7 +210,7 @@ pub enum Reading {
 
 // Why a number t was not taken (02, Ticket 7): t is 0; t has more one-bits than the weight limit; t was taken, at this step, from 1; or t is
 // the XOR of the numbers taken at the steps of this set, each of which stands before t: bit j - 1 stands for step j.
-#[derive(Drop)]
+#[derive(Clone, Copy)]
 pub enum Reason {
     Zero,
     Over,
@@ -218,7 +219,7 @@ pub enum Reason {
 }
 
 // The answer to why a number was not taken.
-#[derive(Drop)]
+#[derive(Clone, Copy)]
 pub enum Why {
     Given(Reason),
     Refused(Answer),
@@ -226,7 +227,7 @@ pub enum Why {
 
 // The same in numbers: the reason is 1 to 4 in the order above, and 0 with a refusal; the step and the set are 0 where the reason has none.
 #[repr(C)]
-#[derive(Drop)]
+#[derive(Clone, Copy)]
 pub struct WhyAnswer {
     pub number: u32,
     pub a: usize,

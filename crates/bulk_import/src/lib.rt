@@ -2,6 +2,8 @@
 // that is asked for its model as FILE.blif, and the counts at the end. What is said of a list and written for it is promised by
 // `import_text` of the crate importing and `print_model` of the crate printing; what the system does no contract says. All functions here are
 // inner: a program calls `import_all`. What became of a file is a number, by which the crate import_counts counts them.
+#![tactic(auto)]
+
 ghost use Rattle.std.specs.Prelude.{◌≤◌, length};
 ghost use Rattle.import_paths.specs.Room.{name_most};
 

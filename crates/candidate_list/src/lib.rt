@@ -2,6 +2,8 @@
 // the 696 numbers below 65,536 that have one to three one-bits, ascending"). That the list is this is the contract of printed_list. specs/ has
 // the rule, one test over a whole list, which the check computes, and that a list that passes the test follows the rule. The walk over the
 // list stands in walks. Every function here is inner.
+#![tactic(auto)]
+
 ghost use Rattle.block.specs.Limits.{list_inputs};
 ghost use Rattle.candidate_list.specs.Printed.{PrintedList, printed_limit};
 

@@ -1,6 +1,8 @@
 // The candidates of a step, one at a time: their weight and the numbers that lack it, their order, whether one is no XOR of those chosen, and whether one takes the
 // place of the best so far. The order of candidates is decided by is_before alone. Every function here is inner: the loops over the
 // candidates stand in walks and choosing.
+#![tactic(auto)]
+
 ghost use Rattle.std.specs.Prelude.{◌≡◌, false, ◌&&◌, ◌||◌, ℕ, ◌≤◌, ◌^◌, eqb, leb, length};
 ghost use Rattle.slices.specs.Places.{at};
 ghost use Rattle.block.specs.Limits.{list_inputs};

@@ -2,6 +2,8 @@
 // comma-separated, a row is mask:value:word, and - is an empty list. A number repeated is written once, as 5*4096, the answers yes and no
 // are the numbers 1 and 0, and the reasons zero, over, taken and xor the numbers 1 to 4. What an operation answers is gathered as numbers in
 // the order of the line, and compared with those due. All functions here are inner: a program that runs cases calls them.
+#![tactic(auto)]
+
 ghost use Rattle.std.specs.Prelude.{◌≡◌, ◌≤◌, ◌<◌, length};
 ghost use Rattle.case_lines.specs.Room.{numbers_most, rows_most};
 

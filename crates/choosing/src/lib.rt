@@ -1,5 +1,7 @@
 // The choice of the basis by R: at each step the candidate that stands before the others, by the walk and the values at its places, and
 // the matrix reached; T, sigma and both measures. Every function here is inner.
+#![tactic(auto)]
+
 ghost use Rattle.std.specs.Prelude.{◌≡◌, ◌≤◌, ◌<◌, ◌^◌, length};
 ghost use Rattle.slices.specs.Places.{at, tab, over};
 ghost use Rattle.block.specs.Limits.{list_inputs};

@@ -1,5 +1,7 @@
 // Copying numbers from one slice to another: the first of them, and those at the places that a third slice names. Every function here
 // is inner.
+#![tactic(auto)]
+
 ghost use Rattle.std.specs.Prelude.{◌≡◌, ℕ, ◌≤◌, ◌<◌, length};
 ghost use Rattle.slices.specs.Places.{at, tab, over};
 

@@ -1,5 +1,7 @@
 // Cases of disjoining (02, Ticket 10), run as `disjoin n k ROOM ROWS => N A B COUNT ROWS` says: crate case_lines has the form of such a line. Every
 // function here is inner: the program run_operations calls them.
+#![tactic(auto)]
+
 ghost use Rattle.std.specs.Prelude.{◌≤◌, length};
 ghost use Rattle.case_lines.specs.Room.{numbers_most};
 

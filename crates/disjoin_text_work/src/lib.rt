@@ -2,6 +2,8 @@
 // and written as row text of type fd, with its type line. A list of type fr is refused, since its missing points have no output and those of a
 // list of type fd have word 0. At least one row and at most 128 come out and none is malformed, so that writing never refuses what disjoining has
 // answered. All functions here are inner.
+#![tactic(auto)]
+
 ghost use Rattle.std.specs.Prelude.{◌≡◌, ◌≤◌, length};
 ghost use Rattle.block.specs.Limits.{text_room};
 ghost use Rattle.block.specs.Words.{fd, rows_of};

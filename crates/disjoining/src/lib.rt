@@ -1,6 +1,8 @@
 // Lists that overlap on purpose (02, Ticket 10). One operation, for rows in three flat slices: `disjoin_rows` makes a disjoint list of type fd, whose
 // word at each point is the OR of all rows over it, and answers how many rows it has. It answers for every input, and on a refusal what was lent
 // holds what it held. This crate holds nothing else.
+#![tactic(auto)]
+
 ghost use Rattle.block.specs.Words.{rows_of};
 ghost use Rattle.promises.specs.Lent.{lent_flat};
 ghost use Rattle.promises.specs.Overlaps.{DisjoinPromise};

@@ -1,4 +1,6 @@
 // The search for an output that no row drives (02, Ticket 8, 11), by the words of the rows. Every function here is inner.
+#![tactic(auto)]
+
 ghost use Rattle.std.specs.Prelude.{◌≡◌, [], ◌∷◌, ◌≤◌};
 ghost use Rattle.block.specs.Limits.{outputs};
 ghost use Rattle.block.specs.Refusals.{verdict, and_then, undriven};

@@ -1,4 +1,6 @@
 // The files that a run left, held to those that are due: for the programs that the gate runs. All functions here are inner.
+#![tactic(auto)]
+
 use block::MODEL_ROOM;
 use saying::say;
 

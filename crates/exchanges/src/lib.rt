@@ -1,5 +1,7 @@
 // The exchange of two positions at a step (01, How rows are transformed): which position is exchanged with k, and a number after the exchange.
 // Every function here is inner.
+#![tactic(auto)]
+
 ghost use Rattle.std.specs.Prelude.{◌≡◌, ◌≤◌, ◌<◌, ◌^◌};
 ghost use Rattle.std.specs.Int.Bits.{bit_xor};
 ghost use Rattle.block.specs.Limits.{list_inputs};

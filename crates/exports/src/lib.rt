@@ -1,6 +1,8 @@
 // The operations for programs in C and Rust: each function calls the operation of the same name and promises what it promises. A slice
 // is passed as a pointer and then a length, an array as a pointer alone, and an answer comes back as a struct of numbers. The names begin
 // with irwystl_, those on rows that are lent as records with irwystl_records_. This crate holds nothing else.
+#![tactic(auto)]
+
 ghost use Rattle.block.specs.Words.{rows_of};
 ghost use Rattle.block.specs.ModelRead.{patterns_flat};
 ghost use Rattle.promises.specs.Lent.{lent_flat, lent_records};

@@ -1,5 +1,7 @@
 // What the system knows of a file by its name: whether there is one, which one, of what kind, and its permissions. The system fills a
 // struct behind a reference, which a proof by hand follows, so that is done in `look` alone. All functions here are inner.
+#![tactic(auto)]
+
 ghost use Rattle.std.specs.Prelude.{◌≤◌, length};
 ghost use Rattle.libc.specs.Io.{Ended};
 ghost use Rattle.import_paths.specs.Room.{name_most};
@@ -8,7 +10,7 @@ use import_paths::PATH_ROOM;
 use libc::types;
 
 // What is known of a file: 0 or else why nothing is, the numbers by which the system tells files apart, its kind and permissions.
-#[derive(Drop)]
+#[derive(Clone, Copy)]
 pub struct Facts {
     pub status: i32,
     pub device: u64,

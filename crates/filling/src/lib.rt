@@ -1,5 +1,7 @@
 // Filling a table from rows: the word of a missing point everywhere, then each row's word at the row's own points. Every function here is
 // inner.
+#![tactic(auto)]
+
 ghost use Rattle.std.specs.Prelude.{◌≡◌, ℕ, ◌≤◌, ◌<◌, ◌^◌, length};
 ghost use Rattle.slices.specs.Places.{at, tab, over};
 ghost use Rattle.block.specs.Limits.{table_inputs, smaller_rows};

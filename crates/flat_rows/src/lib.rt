@@ -1,5 +1,7 @@
 // What the checks look at in a list of rows that lies in three flat slices: how many rows there are (4), how much room three lent
 // slices give (5), and the least malformed row (6). All functions here are inner: the operations on lists and on row text call them.
+#![tactic(auto)]
+
 ghost use Rattle.std.specs.Prelude.{◌≡◌, [], ◌∷◌, ◌≤◌, ◌^◌, min, ltb, length};
 ghost use Rattle.slices.specs.Places.{first};
 ghost use Rattle.block.specs.Limits.{list_inputs, outputs, smaller_rows};

@@ -1,5 +1,7 @@
 // The program of the bulk import: `import FILE..` makes the sheet of each list beside it as FILE.sheet, and says what became of each in
 // one line. The crate bulk_import has the work.
+#![tactic(auto)]
+
 fn main() {
     bulk_import::import_all();
 }

@@ -1,6 +1,8 @@
 // The counts of a bulk import: what became of each file, how far the import is, and what is said at its end. All functions here are inner.
 // What became of a file is a number: 0, 1 and 2 for a sheet, as the crate import_sheets counts them, and then those below. What became of
 // its model is a number too, which counts from 8: 0, 1 and 2 in the same way, and 3 where there is none.
+#![tactic(auto)]
+
 ghost use Rattle.std.specs.Prelude.{◌<◌, ◌≤◌};
 
 use import_says::{say_kind, say_name};

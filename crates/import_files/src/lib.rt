@@ -2,6 +2,8 @@
 // removed. A list's name, and whether its model is meant or its sheet, say which file an ending is of. What the system does no contract
 // says, so these functions promise no more than that they are safe and end; the gate runs them (crates run_imports, run_blif_imports). All
 // functions here are inner. An error is the system's number for it, 0 for none.
+#![tactic(auto)]
+
 ghost use Rattle.std.specs.Prelude.{◌≤◌, length};
 ghost use Rattle.io.specs.Counts.{IsPrefixLen};
 ghost use Rattle.libc.specs.Io.{Ended};
@@ -78,7 +80,7 @@ pub fn fill_file(fd: i32, bytes: &[u8]) -> i32 {
 }
 
 // A file made under a new name: its descriptor and the number of its name, or why not.
-#[derive(Drop)]
+#[derive(Clone, Copy)]
 pub struct Made {
     pub error: i32,
     pub fd: i32,
@@ -193,7 +195,7 @@ pub fn remove_beside(name: &[u8], model: bool, ending: &[u8])
 }
 
 // An older sheet or model set aside: the number of its name now, 0 where there was none, or why it stands where it stood.
-#[derive(Drop)]
+#[derive(Clone, Copy)]
 pub struct Aside {
     pub error: i32,
     pub k: usize,

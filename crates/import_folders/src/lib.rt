@@ -1,5 +1,7 @@
 // The folders that the lists of a bulk import lie in: a list that is given twice is told by them, and they are synced, so that the new
 // names in them outlast a power cut. All functions here are inner.
+#![tactic(auto)]
+
 ghost use Rattle.std.specs.Prelude.{◌≤◌, length};
 ghost use Rattle.io.specs.Counts.{IsPrefixLen};
 ghost use Rattle.import_paths.specs.Room.{name_most};

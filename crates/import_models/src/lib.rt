@@ -1,6 +1,8 @@
 // The model of a list in a bulk import: it is written beside its list as FILE.blif once the sheet is there, by the rules of the sheet, or
 // the list's line says why not; and a model that is older than its list does not look current unnoticed, whether models are asked for or
 // not. All functions here are inner.
+#![tactic(auto)]
+
 ghost use Rattle.std.specs.Prelude.{◌≤◌, length};
 ghost use Rattle.import_paths.specs.Room.{name_most};
 

@@ -1,4 +1,6 @@
 // The names that a bulk import gives, told from those of lists, and where the names of lists begin. All functions here are inner.
+#![tactic(auto)]
+
 ghost use Rattle.std.specs.Prelude.{◌≤◌};
 ghost use Rattle.io.specs.Counts.{IsPrefixLen};
 

@@ -1,6 +1,8 @@
 // The names beside a list's file: FILE.sheet and FILE.blif, the new name that a sheet or model is first written to, and the names that an
 // older one waits and is set aside under. A wrong name would overwrite another file, so every byte is promised. All functions here are
 // inner.
+#![tactic(auto)]
+
 ghost use Rattle.std.specs.Prelude.{◌≡◌, ◌+◌, ◌≤◌, length, take};
 ghost use Rattle.io.specs.Counts.{IsPrefixLen};
 ghost use Rattle.libc.specs.Io.{Ended};

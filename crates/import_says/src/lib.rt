@@ -1,5 +1,7 @@
 // What a bulk import says beside the line of a list: why a file can't be read or written, what became of an older sheet or model, and what
 // an import that was cut short left. All functions here are inner.
+#![tactic(auto)]
+
 ghost use Rattle.std.specs.Prelude.{◌≤◌, length};
 ghost use Rattle.import_paths.specs.Room.{name_most, ending_most};
 

@@ -2,6 +2,8 @@
 // FILE.sheet.before or FILE.blif.before while the import is under way, and the new one takes its place, or it is set aside. All functions
 // here are inner. What stands there is a number: 0 nothing, 1 a sheet or, where that is due, a model, 2 the list itself, 3 something else, 4
 // what can't be read.
+#![tactic(auto)]
+
 ghost use Rattle.std.specs.Prelude.{◌≤◌, length};
 ghost use Rattle.import_paths.specs.Room.{name_most, ending_most};
 
@@ -21,7 +23,7 @@ pub const ANOTHER: usize = 3;
 pub const UNREADABLE: usize = 4;
 
 // What stands under a name, and why it can't be read.
-#[derive(Drop)]
+#[derive(Clone, Copy)]
 pub struct Standing {
     pub kind: usize,
     pub error: i32,
@@ -179,7 +181,7 @@ pub const CHANGED: usize = 1;
 pub const UNCHANGED: usize = 2;
 
 // What it became, or why it could not be written.
-#[derive(Drop)]
+#[derive(Clone, Copy)]
 pub struct Written {
     pub error: i32,
     pub became: usize,

@@ -1,6 +1,8 @@
 // The first pass of a bulk import, before any sheet is written. Each list's older sheet is renamed to FILE.sheet.before, so that none looks
 // current once there is a new one, and where models are asked for its older model to FILE.blif.before; and what an import that was cut short
 // left is told and removed. All functions here are inner.
+#![tactic(auto)]
+
 ghost use Rattle.std.specs.Prelude.{◌≤◌, length};
 ghost use Rattle.import_paths.specs.Room.{name_most};
 

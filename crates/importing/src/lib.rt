@@ -1,5 +1,7 @@
 // One list of a bulk import. One operation: `import_text` makes the sheet of a list that a file held, as the program prints it, and the
 // line that says what came of it. This crate holds nothing else.
+#![tactic(auto)]
+
 ghost use Rattle.importing.specs.Import.{ImportPromise};
 
 use block::SHEET_ROOM;

@@ -8,6 +8,8 @@
 // printing, what is said of a model by `read_model` and `model_value` of the crate models; crates shift_lines, symmetric_lines and why_lines say by
 // which promises the rest is said. No contract says which bytes the system reads and writes. A read or a write that fails is told on standard
 // error; where a read fails nothing is printed, since the text is not known.
+#![tactic(auto)]
+
 ghost use Rattle.io.specs.Counts.{IsPrefixLen};
 
 use arguments::{WhyCall, is_given};
@@ -95,7 +97,7 @@ fn print_disjoint(text: &[u8]) {
 }
 
 // What is printed of a list.
-#[derive(Drop)]
+#[derive(Clone, Copy)]
 enum Due {
     Sheet,
     Model,

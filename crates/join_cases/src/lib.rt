@@ -1,5 +1,7 @@
 // Cases of joining (02, Ticket 9), run as `join n k ROWS => N A B COUNT ROWS` says, freed records among the rows: crate case_lines has the form of
 // such a line. Every function here is inner: the program run_operations calls them.
+#![tactic(auto)]
+
 ghost use Rattle.std.specs.Prelude.{◌≡◌, ◌≤◌, length};
 ghost use Rattle.case_lines.specs.Room.{numbers_most, rows_most};
 

@@ -1,6 +1,8 @@
 // The work of a text where the program prints its rows joined (02, Ticket 9): the rows that the text says are joined in working storage and
 // written as row text, of the text's type and with its type line where that stands. Joining makes no more rows than there were, keeps one
 // and makes none malformed, so that writing never refuses what joining has answered. All functions here are inner.
+#![tactic(auto)]
+
 ghost use Rattle.std.specs.Prelude.{◌≡◌, ◌≤◌, length};
 ghost use Rattle.block.specs.Limits.{text_room};
 ghost use Rattle.block.specs.Words.{rows_of};

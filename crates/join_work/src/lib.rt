@@ -1,6 +1,8 @@
 // The work of joining (02, Ticket 9), on rows in three flat slices that have passed their checks: the next pair is joined in place while there
 // is one, and freed entries become 0. One row is looked at: every pair whose first row was seen has that row in it, so that one look through
 // the list finds the next pair, and after a join the joined row is looked at, which may join an earlier one. Every function here is inner.
+#![tactic(auto)]
+
 ghost use Rattle.std.specs.Prelude.{◌≡◌, ◌≤◌, ◌<◌, length};
 ghost use Rattle.block.specs.Words.{row};
 ghost use Rattle.block.specs.Joins.{joins};
@@ -10,7 +12,7 @@ ghost use Rattle.join_work.specs.Closing.{Closed};
 ghost use Rattle.join_work.specs.All.{OneJoin, AllJoined};
 
 // Two rows, by their places.
-#[derive(Drop)]
+#[derive(Clone, Copy)]
 pub struct Pair {
     pub first: usize,
     pub second: usize,

@@ -2,6 +2,8 @@
 // pair first, while there is such a pair, and answers how many rows are left; each freed record is all zeros. The block at each point is
 // unchanged, whichever type the list is of, so that none is asked for. It answers for every input, and on a refusal the slices hold what they
 // held. This crate holds nothing else.
+#![tactic(auto)]
+
 ghost use Rattle.block.specs.Words.{rows_of};
 ghost use Rattle.promises.specs.Lent.{lent_flat};
 ghost use Rattle.promises.specs.Joins.{JoinPromise};

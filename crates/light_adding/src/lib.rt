@@ -1,6 +1,8 @@
 // What one cube (mask, value, weight) adds to an array over all t: its weight at each light number t, one with at most w one-bits, that lies
 // in it. Those numbers are the cube's value with few of the free inputs flipped, so that the others are not looked at.
 // Every function here is inner.
+#![tactic(auto)]
+
 ghost use Rattle.std.specs.Prelude.{◌≡◌, ◌^◌, ◌≤◌, ◌<◌, length};
 ghost use Rattle.std.specs.Int.Bits.{bit_and};
 ghost use Rattle.slices.specs.Places.{over};

@@ -1,6 +1,8 @@
 // R of a list of rows at light numbers, those with at most w one-bits, where w is at most 3: few of them lie in a cube, so that each pair of
 // rows that counts adds its weight at those in an array by t, and no number is tried against each cube. `missing` is the word of a missing
 // point, as in row_shifts. What one cube adds to the array is in light_adding. Every function here is inner.
+#![tactic(auto)]
+
 ghost use Rattle.std.specs.Prelude.{◌≡◌, ℕ, ◌+◌, ◌-◌, ◌*◌, ◌≤◌, ◌<◌, ◌^◌, length};
 ghost use Rattle.std.specs.Int.Count.{ones};
 ghost use Rattle.slices.specs.Places.{at, tab, over};

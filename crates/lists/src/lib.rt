@@ -2,6 +2,8 @@
 // `row_method` gives T, sigma and the smaller rows, and `fill_table` fills a table. The type says what a missing point means. Each answers
 // for every input, and on a refusal what was lent holds what it held. This crate holds nothing else: what the operations are made of
 // stands in the crates below it.
+#![tactic(auto)]
+
 ghost use Rattle.block.specs.Words.{rows_of};
 ghost use Rattle.promises.specs.Lent.{lent_flat};
 ghost use Rattle.promises.specs.Lists.{RowValuePromise, RowMethodPromise, FillPromise};

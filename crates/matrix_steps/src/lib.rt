@@ -1,5 +1,7 @@
 // The matrix reached, step by step: one step of it, and the check that the rows of a matrix are independent. Every function here is
 // inner.
+#![tactic(auto)]
+
 ghost use Rattle.std.specs.Prelude.{◌≡◌, ℕ, ◌≤◌, ◌<◌, ◌^◌, length};
 ghost use Rattle.slices.specs.Places.{at};
 ghost use Rattle.block.specs.Limits.{list_inputs};
@@ -7,7 +9,7 @@ ghost use Rattle.block.specs.Refusals.{dependent};
 ghost use Rattle.matrix_steps.specs.Steps.{Advanced};
 
 // What step k + 1 did: the position exchanged with k, and the chosen number without bit k.
-#[derive(Drop)]
+#[derive(Clone, Copy)]
 pub struct Move {
     pub partner: usize,
     pub rest: u32,

@@ -1,5 +1,7 @@
 // Matrices over GF(2) in slices, n numbers of n bits: a matrix at a point and at every point, and the two row operations that a step is
 // made of. Every function here is inner.
+#![tactic(auto)]
+
 ghost use Rattle.std.specs.Prelude.{◌≡◌, ◌+◌, ◌≤◌, ◌<◌, ◌^◌, length};
 ghost use Rattle.slices.specs.Places.{at, tab, over};
 ghost use Rattle.block.specs.Limits.{list_inputs};

@@ -1,5 +1,7 @@
 // The points that rows have and those that they leave: what all rows take from R where missing points count, and how many points they cover,
 // which leave none missing where they cover all. Every function here is inner.
+#![tactic(auto)]
+
 ghost use Rattle.std.specs.Prelude.{◌≡◌, ℕ, ◌≤◌, ◌<◌, ◌^◌, length};
 ghost use Rattle.block.specs.Limits.{list_inputs, given_rows, smaller_rows};
 ghost use Rattle.block.specs.Words.{of_rows, rows_of};

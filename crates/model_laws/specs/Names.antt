@@ -19,8 +19,8 @@ unequal a b h = go (equal a b) refl
 
 -- ---- digits
 
-is_digit : (x : ℕ) → x < 10 → is_digit (48 + x) ≡ true
-is_digit x h = rw (le-leb 48 (48 + x) (omega arith), le-leb (48 + x) 57 (omega arith))
+is-digit : (x : ℕ) → x < 10 → is_digit (48 + x) ≡ true
+is-digit x h = rw (le-leb 48 (48 + x) (omega arith), le-leb (48 + x) 57 (omega arith))
 
 digits-every : (most v : ℕ) → every is_digit (digits most v) ≡ true
 unfolding digits every
@@ -29,8 +29,8 @@ digits-every (suc most) v = go (ltb v 10) refl (digits-every most (v / 10))
   where
     go : (b : Bool) → ltb v 10 ≡ b → every is_digit (digits most (v / 10)) ≡ true
         → every is_digit (cond b ((48 + v) ∷ []) (digits most (v / 10) ++ ((48 + v % 10) ∷ []))) ≡ true
-    go true e ih = rw (is_digit v (ltb-true v 10 e))
-    go false e ih = every_append is_digit (digits most (v / 10)) ((48 + v % 10) ∷ []) ih (rw (is_digit (v % 10) (omega arith)))
+    go true e ih = rw (is-digit v (ltb-true v 10 e))
+    go false e ih = every_append is_digit (digits most (v / 10)) ((48 + v % 10) ∷ []) ih (rw (is-digit (v % 10) (omega arith)))
 
 pub digit_at : (v i : ℕ) → i < length (decimal v) → (48 ≤ at (decimal v) i) × (at (decimal v) i ≤ 57)
 digit_at v i h = digit-range (at (decimal v) i) (every-at is_digit (decimal v) (digits-every 20 v) i h)

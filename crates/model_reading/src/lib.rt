@@ -1,6 +1,8 @@
 // Reading a model of BLIF (02, Ticket 4), by lines of text and flat slices: 10, 5, then 8, and what is stored. A first reading tells what
 // the text holds, and only where nothing is refused a second one stores it, so that a refusal leaves the slices alone. All functions here
 // are inner.
+#![tactic(auto)]
+
 ghost use Rattle.std.specs.Prelude.{◌≡◌, ℕ, ◌≤◌, ◌<◌, ◌^◌, min, eqb, length, take};
 ghost use Rattle.slices.specs.Places.{at};
 ghost use Rattle.sums.specs.Sums.{one};

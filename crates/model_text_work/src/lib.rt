@@ -1,5 +1,7 @@
 // The work of a text where the program prints a model (02, Ticket 4): the model of the rows that the text says, with the weight limit of
 // the sheet. All functions here are inner.
+#![tactic(auto)]
+
 ghost use Rattle.std.specs.Prelude.{◌≡◌, ◌≤◌, min, length};
 ghost use Rattle.block.specs.Limits.{model_room};
 ghost use Rattle.block.specs.Words.{missing};

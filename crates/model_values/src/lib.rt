@@ -1,5 +1,7 @@
 // A model that was read, evaluated at a point (02, Ticket 4): the checks in the order of 01's numbers, with what they look at, and the word
 // by the patterns that drive each output. The operation is `model_value` of the crate models. All functions here are inner.
+#![tactic(auto)]
+
 ghost use Rattle.std.specs.Prelude.{◌≡◌, not, ◌||◌, [], ◌∷◌, ◌+◌, ◌*◌, ◌^◌, ◌≤◌, ◌<◌, eqb, length};
 ghost use Rattle.slices.specs.Places.{first};
 ghost use Rattle.sums.specs.Sums.{one};

@@ -1,5 +1,7 @@
 // The work of writing a model in BLIF (02, Ticket 4): the row method in working storage, and the model's text from what it leaves there.
 // The room is looked at last, after 9, against this model's own length. The function here is inner.
+#![tactic(auto)]
+
 ghost use Rattle.std.specs.Prelude.{◌≡◌, length};
 ghost use Rattle.block.specs.Words.{missing, rows_of};
 ghost use Rattle.block.specs.Refusals.{stored};

@@ -2,6 +2,8 @@
 // slices, and a weight limit; `read_model` reads the subset of BLIF that such models are, into a matrix, the number of patterns of each
 // output and the patterns themselves; `model_value` evaluates a model that was read at a point. Each refuses with a number, and then
 // everything lent holds what it held. This crate holds nothing else: what the operations are made of stands in the crates below it.
+#![tactic(auto)]
+
 ghost use Rattle.block.specs.Words.{rows_of};
 ghost use Rattle.block.specs.ModelRead.{patterns_flat};
 ghost use Rattle.promises.specs.Models.{WriteModelPromise, ReadModelPromise, ModelValuePromise};

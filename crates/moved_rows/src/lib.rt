@@ -1,4 +1,6 @@
 // A list laid at the front of three slices, and moved there through the steps over the columns of T. Every function here is inner.
+#![tactic(auto)]
+
 ghost use Rattle.std.specs.Prelude.{◌≤◌, length};
 ghost use Rattle.slices.specs.Places.{at};
 ghost use Rattle.block.specs.Limits.{list_inputs, given_rows};

@@ -2,6 +2,8 @@
 // where t lies in its cube (document 003, Theorem 1); what a cube adds that is laid out by its parts; how many points lie under a row; and
 // what the points add and a row takes where missing points count (02, Ticket 2: type fd). Every function here is inner: the loops over
 // rows and pairs stand in missing_points, row_shifts and light_shifts.
+#![tactic(auto)]
+
 ghost use Rattle.std.specs.Prelude.{◌≡◌, not, cond, ◌-◌, ◌*◌, ◌≤◌, ◌<◌, ◌^◌, eqb, length};
 ghost use Rattle.std.specs.Int.Bits.{bit_or};
 ghost use Rattle.std.specs.Int.Count.{ones};

@@ -2,6 +2,8 @@
 // bytes of a text and writes to the front of lent room: `print_text` the sheet of the text's rows and `print_model` their model in BLIF, both with
 // weight limit 3, or n where n is below 3, and as row text `print_joined` the rows joined and `print_disjoint` the disjoint list of rows that may
 // share points; or the one line "refused N A B". Each answers the number of bytes. This crate holds nothing else.
+#![tactic(auto)]
+
 ghost use Rattle.promises.specs.Joins.{PrintJoinPromise};
 ghost use Rattle.promises.specs.Models.{PrintModelPromise};
 ghost use Rattle.promises.specs.Overlaps.{PrintDisjointPromise};

@@ -1,6 +1,8 @@
 // Text, put into a lent slice at a place: bytes, bits, the symbols of a row, decimal numbers and row lines. Each function asks for room
 // for the bytes that it puts and no more, and answers the place after them; the one contract `Put` says so, and its law `then` joins two
 // puts into one. All functions here are inner: the operations that write text call them.
+#![tactic(auto)]
+
 ghost use Rattle.std.specs.Prelude.{◌≡◌, [], ◌∷◌, ◌+◌, ◌≤◌, ◌<◌, length};
 ghost use Rattle.block.specs.Words.{row};
 ghost use Rattle.block.specs.Text.{decimal, symbols, bits, row_line, row_lines};

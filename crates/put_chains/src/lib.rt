@@ -1,6 +1,8 @@
 // The covers of sigma in BLIF (02, Ticket 4): for each row a copy of its input, or a chain of XOR covers from its lowest input up, put
 // into a lent slice where they fit (`Fitted` of put_names). A row's inputs are its binary digits, taken from the lowest up. All functions
 // here are inner.
+#![tactic(auto)]
+
 ghost use Rattle.std.specs.Prelude.{◌≡◌, [], ◌∷◌, ◌+◌, ◌*◌, ◌^◌, ◌≤◌, ◌<◌, length, get_or};
 ghost use Rattle.block.specs.Model.{copy_cover, xor_cover, row_covers, inputs_of, front_covers};
 ghost use Rattle.put_names.specs.Fitting.{Fitted, reach};

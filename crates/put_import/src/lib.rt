@@ -1,5 +1,7 @@
 // The line of one list in a bulk import: its file's name, then "sheet ROWS BEFORE AFTER" or "refused N A B". All functions here are
 // inner: the operation that makes the line is `import_text` of the crate importing.
+#![tactic(auto)]
+
 ghost use Rattle.std.specs.Prelude.{◌≡◌, map, ◌+◌, ◌≤◌, length};
 ghost use Rattle.put_bytes.specs.Puts.{Put};
 ghost use Rattle.put_import.specs.Line.{shown_byte, line_words, import_line};

@@ -1,4 +1,6 @@
 // A whole model in BLIF (02, Ticket 4), put into a lent slice where it fits. All functions here are inner.
+#![tactic(auto)]
+
 ghost use Rattle.std.specs.Prelude.{◌≡◌, cond, ◌+◌, ◌≤◌, ◌<◌, ltb, length};
 ghost use Rattle.slices.specs.Places.{over};
 ghost use Rattle.block.specs.Model.{block_model};

@@ -2,6 +2,8 @@
 // the slice's end is not stored, and the place after it is answered all the same: so a model put into no room tells its length, and one put
 // into that much room is stored whole. The one contract `Fitted` says so, and its law `next` joins two pieces into one. All functions here
 // are inner.
+#![tactic(auto)]
+
 ghost use Rattle.std.specs.Prelude.{◌≡◌, [], ◌∷◌, ◌+◌, ◌*◌, ◌≤◌, ◌<◌, length};
 ghost use Rattle.slices.specs.Places.{tab};
 ghost use Rattle.block.specs.Text.{decimal};

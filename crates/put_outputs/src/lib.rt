@@ -1,5 +1,7 @@
 // The covers of the outputs in BLIF (02, Ticket 4): one for each, lowest first, over all of the z, with the smaller rows that have a 1
 // there, put into a lent slice where they fit (`Fitted` of put_names). All functions here are inner.
+#![tactic(auto)]
+
 ghost use Rattle.std.specs.Prelude.{◌≡◌, [], ◌∷◌, ◌+◌, ◌*◌, ◌^◌, ◌≤◌, ◌<◌, length};
 ghost use Rattle.slices.specs.Places.{tab};
 ghost use Rattle.block.specs.Model.{pattern, cube_of, cube_line, output_cover, back_covers, patterns_of};

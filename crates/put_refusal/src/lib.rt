@@ -1,5 +1,7 @@
 // The lines that the programs print beside sheets: a word and three numbers, as "refused N A B". All functions here are inner: the
 // function that prints is `print_text` of the crate printing.
+#![tactic(auto)]
+
 ghost use Rattle.std.specs.Prelude.{◌+◌, ◌≤◌, length};
 ghost use Rattle.block.specs.Refusals.{answer};
 ghost use Rattle.block.specs.Sheet.{refusal_line};

@@ -1,5 +1,7 @@
 // The lines of a sheet, put into a lent slice at a place: a section's first line, numbers, the columns or rows of a matrix, and the
 // whole sheet at the front. All functions here are inner: the operation is `sheet` of the crate sheets.
+#![tactic(auto)]
+
 ghost use Rattle.std.specs.Prelude.{[], ◌∷◌, ◌+◌, ◌≤◌, length};
 ghost use Rattle.block.specs.Sheet.{section, number_lines, matrix_lines, sheet_of};
 ghost use Rattle.flat_rows.specs.Listing.{rows_from};

@@ -1,5 +1,7 @@
 // What writing row text is made of: the checks in their order, and the text, put into a lent slice line by line. All functions here
 // are inner: the operation is `write_text` of the crate writing.
+#![tactic(auto)]
+
 ghost use Rattle.std.specs.Prelude.{◌≡◌, ◌&&◌, [], ◌∷◌, ◌++◌, ◌+◌, ◌≤◌, eqb, length};
 ghost use Rattle.block.specs.Limits.{list_inputs};
 ghost use Rattle.block.specs.Words.{fr, rows_of};

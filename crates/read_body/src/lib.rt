@@ -1,5 +1,7 @@
 // The body of row text, read by place from its first line on: the rows, the last line, and nothing more. Every line is looked at before
 // anything lent is written. All functions here are inner: the operation is `read_text` of the crate reading.
+#![tactic(auto)]
+
 ghost use Rattle.std.specs.Prelude.{◌≡◌, ◌≤◌, length};
 ghost use Rattle.slices.specs.Places.{tab, first, over};
 ghost use Rattle.block.specs.Limits.{list_inputs, outputs, given_rows, smaller_rows};

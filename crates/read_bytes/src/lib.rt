@@ -1,4 +1,6 @@
 // The first bytes of a text; bytes and decimal numbers, read by place. All functions here are inner.
+#![tactic(auto)]
+
 ghost use Rattle.std.specs.Prelude.{◌≡◌, ◌+◌, ◌≤◌, ◌<◌, take};
 ghost use Rattle.slices.specs.Places.{at};
 ghost use Rattle.block.specs.Text.{is_digit};

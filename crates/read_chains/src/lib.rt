@@ -1,5 +1,7 @@
 // A row of sigma that is a chain of XOR covers from its lowest input up, read by place from a model. Every line that may
 // stand at a place is tried, in the order of the inputs, and left at its first wrong byte. All functions here are inner.
+#![tactic(auto)]
+
 ghost use Rattle.std.specs.Prelude.{◌≡◌, List, ◌∷◌, ℕ, ◌≤◌, ◌<◌, ◌^◌, ◌+◌};
 ghost use Rattle.slices.specs.Places.{first};
 ghost use Rattle.block.specs.Limits.{list_inputs};
@@ -13,7 +15,7 @@ use read_names::{LOST, Place};
 
 // A chain's next cover: none stands there; it ends the row; or it has a part. With the row's inputs so far as a number, and the place after
 // its line.
-#[derive(Drop)]
+#[derive(Clone, Copy)]
 pub enum Link {
     None,
     Last(u32, usize),
@@ -21,7 +23,7 @@ pub enum Link {
 }
 
 // A row of sigma: its number and the place after its covers, or the place of the first line that is not of the form due.
-#[derive(Drop)]
+#[derive(Clone, Copy)]
 pub enum Chain {
     Row(u32, usize),
     Broken(usize),

@@ -1,5 +1,7 @@
 // The headings of row text, read by place: ".i n", ".o k", the type line where it stands, ".p rows", each ended by LF, and then their
 // ranges. All functions here are inner: the operation is `read_text` of the crate reading.
+#![tactic(auto)]
+
 ghost use Rattle.std.specs.Prelude.{◌≡◌, ◌+◌, ◌≤◌, ◌<◌, length};
 ghost use Rattle.block.specs.Text.{head_digits};
 ghost use Rattle.read_laws.specs.ByPlace.{farthest, width_of, lead_of, head_at, refusal, stands_at, typed, type_at, type_bytes, ranged_of, OpenWithin, counted_of, opening_of};

@@ -1,4 +1,6 @@
 // The text reader's answer in 01's numbers. Every function here is inner.
+#![tactic(auto)]
+
 ghost use Rattle.std.specs.Prelude.{◌≡◌};
 ghost use Rattle.block.specs.Text.{kind_number, numbers};
 

@@ -165,9 +165,9 @@ bits-same (x ∷ l) = ap₂ ◌&&◌ (go (eqb x 48) (eqb x 49)) (bits-same l)
     go false false = refl
 
 -- a row from the start of a text that is long enough
-row_from : (s : List ℕ) (n k : ℕ) → n + 1 + k + 1 ≤ length s → row_from s n k 0 ≡ cond (row_test n k s) (Sound (row_on n k s)) Broken
+row-from : (s : List ℕ) (n k : ℕ) → n + 1 + k + 1 ≤ length s → row_from s n k 0 ≡ cond (row_test n k s) (Sound (row_on n k s)) Broken
 unfolding row_from joined_of row_on
-row_from s n k h =
+row-from s n k h =
     let d = length-drop (n + 1) s in
     rw (
       spelled_is s 45 n (omega arith),
@@ -304,7 +304,7 @@ row-line s n k = go (dec_le (n + 1 + k + 1) (length s))
     long h false e false q = refl
 
     go : Dec (m ≤ length s) → row_from s n k 0 ≡ cond (row_form n k (front s)) (Sound (row_on n k (front s))) Broken
-    go (yes h) = row_from s n k h ∙ long h (row_test n k s) refl (eqb (length (front s)) m) refl
+    go (yes h) = row-from s n k h ∙ long h (row_test n k s) refl (eqb (length (front s)) m) refl
     go (no h) = rw (ne_eqb (length (front s)) m (omega (arith, front-le s))) (row-short s n k (omega arith))
 
 -- the same from a place on

@@ -71,9 +71,9 @@ module _ (s : List ℕ) (n k : ℕ) where
 -- ---- the last line, and nothing more
 
 -- the front is the last line where its three bytes are there
-end_line : (r : List ℕ) → equal (front r) end_line ≡ eqb (at r 0) 46 && (eqb (at r 1) 101 && eqb (at r 2) 10)
+end-line : (r : List ℕ) → equal (front r) end_line ≡ eqb (at r 0) 46 && (eqb (at r 1) 101 && eqb (at r 2) 10)
 unfolding every
-end_line r = go (equal (front r) end_line) refl (eqb (at r 0) 46) (eqb (at r 1) 101) (eqb (at r 2) 10) refl refl refl
+end-line r = go (equal (front r) end_line) refl (eqb (at r 0) 46) (eqb (at r 1) 101) (eqb (at r 2) 10) refl refl refl
   where
     byte : front r ≡ end_line → (i : ℕ) → i < 3 → at r i ≡ at end_line i
     byte f i h = ap (at r) (sym (zero-add i)) ∙ front-stands r i (omega (arith, ap length f)) ∙ ap (λ (l : List ℕ). at l i) f
@@ -148,7 +148,7 @@ module _ (s : List ℕ) (n k p : ℕ) where
     end-test =
         end-due n k p (line_at s p)
         ∙ ap (λ (l : List ℕ). equal l end_line) (line-front s p ∙ ap (λ (i : ℕ). front (drop i s)) (row-start s n k p h))
-        ∙ end_line (drop e s)
+        ∙ end-line (drop e s)
         ∙ rw (get_or-drop e s 0 0, get_or-drop e s 1 0, get_or-drop e s 2 0, add-zero e)
 
     rest-test : line_at s p ≡ end_line → e + 3 ≤ length s → body_due n k p (p + 1) (line_at s (p + 1)) ≡ eqb (length s) (e + 3)

@@ -1,6 +1,8 @@
 // The text reader by places, and by lines. The reader looks at bytes by their place in the text; the meaning (block's `Text`) cuts the
 // text at LF and says what is due on each line. This crate has no functions: it holds the reader's inner types and numbers, in
 // specs/ByPlace.antt what each of its functions gives, and the laws by which that is what the meaning says of the lines.
+#![tactic(auto)]
+
 use block::{Headings, Refusal, Row};
 
 // The most digits of a heading's number.
@@ -13,35 +15,35 @@ pub const TYPE_BYTES: usize = 9;
 pub const BODY_LINE: usize = 4;
 
 // A number, and how many bytes it takes with what stands before it and its LF.
-#[derive(Drop)]
+#[derive(Clone, Copy)]
 pub enum Number {
     Value(usize, usize),
     Formless,
 }
 
 // What the bytes after ".o k" say of the type: the type, and 1 where its line stands there, or 0.
-#[derive(Drop)]
+#[derive(Clone, Copy)]
 pub struct TypeLine {
     pub block_type: usize,
     pub type_line: usize,
 }
 
 // What some symbols spell: a mask and the values under it, highest input first.
-#[derive(Drop)]
+#[derive(Clone, Copy)]
 pub enum Spelling {
     Good(u32, u32),
     Bad,
 }
 
 // A row's line.
-#[derive(Drop)]
+#[derive(Clone, Copy)]
 pub enum Line {
     Sound(Row),
     Broken,
 }
 
 // The headings: what they say and the place after them, or why the text is refused before any row.
-#[derive(Drop)]
+#[derive(Clone, Copy)]
 pub enum Opening {
     Open(Headings, usize),
     Stopped(Refusal),

@@ -1,5 +1,7 @@
 // A model of BLIF (02, Ticket 4), read by place from its first line to its last: the heading, the rows of sigma and the outputs. What it
 // holds is stored where it fits. All functions here are inner: the operation is `read_lines` of the crate model_reading.
+#![tactic(auto)]
+
 ghost use Rattle.std.specs.Prelude.{◌≡◌, ◌+◌, ◌<◌, ◌≤◌};
 ghost use Rattle.slices.specs.Places.{tab, first};
 ghost use Rattle.block.specs.Model.{word_line};
@@ -13,14 +15,14 @@ use read_names::{LOST, Place};
 use read_outputs::Outputs;
 
 // The sizes that a heading names, n and k, and the place after it; or the place of the first line that is not of the form due.
-#[derive(Drop)]
+#[derive(Clone, Copy)]
 pub enum Sizes {
     Are(usize, usize, usize),
     Unsized(usize),
 }
 
 // A model that was read: n, k, and the number of patterns; or the place of the first line that is not of the form due.
-#[derive(Drop)]
+#[derive(Clone, Copy)]
 pub enum Model {
     Read(usize, usize, usize),
     Broken(usize),

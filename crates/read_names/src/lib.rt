@@ -1,6 +1,8 @@
 // The names of a model (02, Ticket 4), compared by place. Each function answers the place after the bytes that are due where they stand,
 // and else LOST, a place that no text reaches; from LOST on nothing stands, so that functions are called one after the other and only the
 // last place is looked at. All functions here are inner.
+#![tactic(auto)]
+
 ghost use Rattle.std.specs.Prelude.{◌≡◌, [], ◌∷◌, ◌≤◌, ◌<◌, true};
 ghost use Rattle.slices.specs.Places.{tab};
 ghost use Rattle.block.specs.Text.{decimal};
@@ -14,7 +16,7 @@ ghost use Rattle.read_names.specs.Fate.{Came};
 pub const LOST: usize = 18446744073709551615;
 
 // Where lines that are due were looked for: the place after them, or the place of the first line that is not of the form due.
-#[derive(Drop)]
+#[derive(Clone, Copy)]
 pub enum Place {
     After(usize),
     Stop(usize),

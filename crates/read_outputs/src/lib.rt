@@ -1,6 +1,8 @@
 // The outputs of a model, read by place: a cover's patterns, the covers one after the other, and the last line. Masks, values and counts are
 // stored where they fit and counted all the same, so that one reading tells what a text holds and another stores it. All functions here
 // are inner.
+#![tactic(auto)]
+
 ghost use Rattle.std.specs.Prelude.{◌≡◌, ◌≤◌, ◌<◌, ◌+◌, ◌-◌, false, [], length, set, drop};
 ghost use Rattle.block.specs.Limits.{outputs};
 ghost use Rattle.block.specs.Model.{names_line, output_cover};
@@ -14,21 +16,21 @@ ghost use Rattle.read_outputs.specs.Outputs.{PatternsRead, Ending, last_of};
 use read_names::LOST;
 
 // A pattern's line: its mask and values, and the place after it.
-#[derive(Drop)]
+#[derive(Clone, Copy)]
 pub enum Cube {
     None,
     Is(u32, u32, usize),
 }
 
 // The patterns of an output: the place after them, and the number of patterns up to there.
-#[derive(Drop)]
+#[derive(Clone, Copy)]
 pub struct Patterns {
     pub at: usize,
     pub count: usize,
 }
 
 // What comes of the outputs: the number of their patterns where the model is whole, or the place of the first line that is not of the form due.
-#[derive(Drop)]
+#[derive(Clone, Copy)]
 pub enum Outputs {
     All(usize),
     Broken(usize),

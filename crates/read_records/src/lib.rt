@@ -1,5 +1,7 @@
 // The work of reading row text with records, which is an operation of the crate records: arrays are lent as flat slices to the operation of
 // the same name, and the rows that it stores there are then to be copied in (crate record_copies). All functions here are inner.
+#![tactic(auto)]
+
 ghost use Rattle.std.specs.Prelude.{◌≡◌, ◌≤◌};
 ghost use Rattle.block.specs.Text.{numbers};
 ghost use Rattle.promises.specs.Texts.{ReadPromise};

@@ -1,5 +1,7 @@
 // A row of row text, read by place: what its symbols spell, and its parts joined. All functions here are inner: the operation is
 // `read_text` of the crate reading.
+#![tactic(auto)]
+
 ghost use Rattle.std.specs.Prelude.{◌≡◌, ◌+◌, ◌≤◌, ◌<◌};
 ghost use Rattle.block.specs.Limits.{list_inputs, outputs};
 ghost use Rattle.read_laws.specs.ByPlace.{farthest, spelled_at, joined_of, row_from};

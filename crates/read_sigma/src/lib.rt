@@ -1,4 +1,6 @@
 // The matrix of a model, read by place row by row: a row is a copy of an input, or a chain. All functions here are inner.
+#![tactic(auto)]
+
 ghost use Rattle.std.specs.Prelude.{◌≡◌, [], ◌∷◌, ◌≤◌, ◌<◌, ◌+◌, set};
 ghost use Rattle.slices.specs.Places.{first};
 ghost use Rattle.block.specs.Limits.{list_inputs};

@@ -1,5 +1,7 @@
 // The work of reading row text (01, Row text): the headings, then the rows from the cursor on, and what the two come to. The operation is
 // `read_text` of the crate reading. All functions here are inner.
+#![tactic(auto)]
+
 ghost use Rattle.std.specs.Prelude.{◌≡◌, ◌+◌, ◌≤◌, length};
 ghost use Rattle.block.specs.Limits.{given_rows};
 ghost use Rattle.block.specs.Words.{mask_part, values_part, word_part};

@@ -1,6 +1,8 @@
 // Row text, read (01, Row text). One operation: `read_text` reads a text, stores its rows at the front of three lent slices and answers
 // n, k, the type, whether its line stands there, and the number of rows; or it refuses, and then the slices hold what they held. This
 // crate holds nothing else.
+#![tactic(auto)]
+
 ghost use Rattle.block.specs.Text.{numbers};
 ghost use Rattle.promises.specs.Lent.{lent_flat};
 ghost use Rattle.promises.specs.Texts.{ReadPromise};

@@ -1,4 +1,6 @@
 // The answer to why a number was not taken (02, Ticket 7), in numbers. Every function here is inner.
+#![tactic(auto)]
+
 ghost use Rattle.std.specs.Prelude.{◌≡◌};
 ghost use Rattle.block.specs.Reasons.{why_numbers};
 ghost use Rattle.block.specs.declared.Why.TheVariants.{Given};

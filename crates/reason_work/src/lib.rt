@@ -1,5 +1,7 @@
 // Why a number t was not taken (02, Ticket 7), of a list that passed its checks: the taken numbers are found, and the first reason that holds is
 // told by them. Every function here is inner.
+#![tactic(auto)]
+
 ghost use Rattle.std.specs.Prelude.{◌≡◌, ◌≤◌, ◌<◌, ◌^◌, length};
 ghost use Rattle.slices.specs.Places.{at, over};
 ghost use Rattle.block.specs.Limits.{list_inputs, given_rows};

@@ -2,6 +2,8 @@
 // of these that holds: t is 0; t is over the weight limit; t was taken, at this step; t is the XOR of the numbers taken at the steps of this
 // set, each of which stands before t. The list is not moved, so one that the row method refuses with 9 has its answer here. It answers for
 // every input, and on a refusal what was lent holds what it held. This crate holds nothing else.
+#![tactic(auto)]
+
 ghost use Rattle.block.specs.Words.{rows_of};
 ghost use Rattle.block.specs.Reasons.{why_numbers};
 ghost use Rattle.promises.specs.Reasons.{WhyNotPromise};

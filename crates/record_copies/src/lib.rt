@@ -1,5 +1,7 @@
 // Records copied out into three arrays, and copied in from them: what the operations with records, which are those of the crate records,
 // share. A list of 513 rows is too long for every operation, so that no more rows are copied out. All functions here are inner.
+#![tactic(auto)]
+
 ghost use Rattle.std.specs.Prelude.{◌≡◌, ◌≤◌, min, length};
 ghost use Rattle.record_copies.specs.Flat.{held_rows, Gathered, Scattered, Sized};
 

@@ -1,6 +1,8 @@
 // The work of disjoining with records, which is an operation of the crate records: the arrays that the records were copied out to are lent as flat
 // slices to the operation of the same name, and so are arrays for the disjoint rows, which are then to be copied in (02, Ticket 10; crate
 // record_copies). All functions here are inner.
+#![tactic(auto)]
+
 ghost use Rattle.std.specs.Prelude.{◌≤◌};
 ghost use Rattle.promises.specs.Overlaps.{DisjoinPromise};
 ghost use Rattle.record_copies.specs.Flat.{held_rows, Sized, listed};

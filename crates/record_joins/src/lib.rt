@@ -1,6 +1,8 @@
 // The work of joining with records, which is an operation of the crate records: the arrays that the records were copied out to are lent as flat
 // slices to the operation of the same name, which joins the rows there, and are then to be copied in, freed records and all (02, Ticket 9; crate
 // record_copies). All functions here are inner.
+#![tactic(auto)]
+
 ghost use Rattle.std.specs.Prelude.{◌≡◌, ◌≤◌};
 ghost use Rattle.promises.specs.Joins.{JoinPromise};
 ghost use Rattle.record_copies.specs.Flat.{held_rows, Sized, listed};

@@ -1,6 +1,8 @@
 // The work of the row method with records, which is an operation of the crate records: the arrays that the records were copied out to are
 // lent as flat slices to the operation of the same name, and so are arrays for the smaller rows, which are then to be copied in (crate
 // record_copies). All functions here are inner.
+#![tactic(auto)]
+
 ghost use Rattle.std.specs.Prelude.{◌≤◌};
 ghost use Rattle.promises.specs.Lists.{RowMethodPromise};
 ghost use Rattle.record_copies.specs.Flat.{held_rows, Sized, listed};

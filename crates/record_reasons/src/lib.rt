@@ -1,5 +1,7 @@
 // The work of why a number was not taken with records, which is an operation of the crate records: the arrays that the records were copied out
 // to are lent as flat slices to the operation of the same name (02, Ticket 7). The function here is inner.
+#![tactic(auto)]
+
 ghost use Rattle.std.specs.Prelude.{◌≤◌};
 ghost use Rattle.block.specs.Reasons.{why_numbers};
 ghost use Rattle.promises.specs.Reasons.{WhyNotPromise};

@@ -1,6 +1,8 @@
 // The work of the operations with records that make no rows, which are those of the crate records: records are copied out once into three
 // arrays (crate record_copies), and for each operation a function lends these as flat slices to the operation of the same name. Those that make
 // rows stand in record_method and read_records. All functions here are inner.
+#![tactic(auto)]
+
 ghost use Rattle.std.specs.Prelude.{◌≤◌};
 ghost use Rattle.promises.specs.Lists.{RowValuePromise, FillPromise};
 ghost use Rattle.promises.specs.Texts.{WritePromise};

@@ -3,6 +3,8 @@
 // takes any numbers and any slices, and answers or refuses as 01 says; its promise speaks of the records themselves. The records are copied out into
 // arrays (crate record_copies), the work on these is that of the crates record_work, record_method, record_reasons, record_joins, record_disjoins and
 // read_records, and rows that it made are copied in. This crate holds nothing else.
+#![tactic(auto)]
+
 ghost use Rattle.block.specs.Text.{numbers};
 ghost use Rattle.block.specs.Reasons.{why_numbers};
 ghost use Rattle.promises.specs.Lent.{lent_records};

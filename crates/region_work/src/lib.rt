@@ -1,5 +1,7 @@
 // From a list of rows that may overlap to a disjoint one (02, Ticket 10): the whole space is halved until each region lies inside every row that
 // meets it. The rows lie in three flat slices. Every function here is inner.
+#![tactic(auto)]
+
 ghost use Rattle.std.specs.Prelude.{◌≡◌, [], ◌∷◌, ◌≤◌, suc, length};
 ghost use Rattle.block.specs.Limits.{list_inputs, given_rows};
 ghost use Rattle.block.specs.Overlaps.{region_rows};
@@ -13,7 +15,7 @@ ghost use Rattle.region_work.specs.Whole.{DisjointPut};
 use block::{GIVEN_ROWS, Row};
 
 // What the rows that meet a region say of it: how many there are, the inputs that they fix, and the OR of their words.
-#[derive(Drop)]
+#[derive(Clone, Copy)]
 pub struct Met {
     pub rows: usize,
     pub fixed: u32,

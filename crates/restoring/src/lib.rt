@@ -1,4 +1,6 @@
 // A table read through a matrix: the smaller table through T's columns, and the restored table through sigma's. Every function here is inner.
+#![tactic(auto)]
+
 ghost use Rattle.std.specs.Prelude.{◌≡◌, ℕ, ◌≤◌, ◌<◌, ◌^◌, length};
 ghost use Rattle.slices.specs.Places.{at, tab, over};
 ghost use Rattle.block.specs.Limits.{table_inputs};

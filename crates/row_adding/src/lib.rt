@@ -1,5 +1,7 @@
 // Rows added to a list that lies at the front of three flat slices, masks, values and words: one row, and what becomes of a row at a
 // step. Every function here is inner.
+#![tactic(auto)]
+
 ghost use Rattle.std.specs.Prelude.{[], ◌∷◌, ◌+◌, ◌*◌, ◌<◌};
 ghost use Rattle.block.specs.Limits.{list_inputs, smaller_rows};
 ghost use Rattle.block.specs.Rows.{split_row};

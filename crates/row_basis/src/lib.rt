@@ -1,5 +1,7 @@
 // T, sigma and both measures of a list of rows, where a missing point has the word `missing`: R of every number in the walk, the quicker way,
 // and the choice. Every function here is inner.
+#![tactic(auto)]
+
 ghost use Rattle.std.specs.Prelude.{◌≡◌, true, ℕ, ◌≤◌, ◌<◌, ◌^◌, length};
 ghost use Rattle.std.specs.Int.Count.{ones};
 ghost use Rattle.slices.specs.Places.{at, tab, over};

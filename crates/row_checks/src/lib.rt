@@ -1,5 +1,7 @@
 // The checks of the operations on lists of rows, in the order of 01's numbers: how many rows there are, what every operation asks of the
 // rows, and the verdicts made of these. Each step is told the answer so far and hands a refusal on. Every function here is inner.
+#![tactic(auto)]
+
 ghost use Rattle.std.specs.Prelude.{◌≡◌, [], ◌∷◌};
 ghost use Rattle.block.specs.Limits.{list_inputs, smaller_rows};
 ghost use Rattle.block.specs.Words.{rows_of};

@@ -1,5 +1,7 @@
 // What a step does to one row (01, How rows are transformed): whether it falls into two halves, its halves, and its flips. Every function
 // here is inner.
+#![tactic(auto)]
+
 ghost use Rattle.std.specs.Prelude.{◌≡◌, ◌<◌};
 ghost use Rattle.block.specs.Limits.{list_inputs};
 ghost use Rattle.block.specs.Rows.{flip_row, half};

@@ -2,6 +2,8 @@
 // list, with the parts of the cubes laid out in three slices. `missing` is the word of a missing point: with no output (type fr) the pairs
 // with equal words count; with word 0 (type fd) every pair does whose words are others, twice where they are equal, all points count once,
 // and each such row takes its own twice (missing_points). What one pair adds is in pair_weights. Every function here is inner.
+#![tactic(auto)]
+
 ghost use Rattle.std.specs.Prelude.{◌≡◌, cond, ℕ, ◌+◌, ◌-◌, ◌*◌, ◌≤◌, ◌<◌, ◌^◌, eqb, length, set};
 ghost use Rattle.std.specs.Int.Bits.{bit_and, bit_xor, bit_or};
 ghost use Rattle.std.specs.Int.Count.{ones};

@@ -1,5 +1,7 @@
 // One step of a list of rows that lies at the front of three flat slices, masks, values and words: positions exchanged, then every row flipped
 // or split. Every function here is inner.
+#![tactic(auto)]
+
 ghost use Rattle.std.specs.Prelude.{◌≡◌, ◌≤◌, ◌<◌, length};
 ghost use Rattle.slices.specs.Places.{at, tab, over};
 ghost use Rattle.block.specs.Limits.{list_inputs, smaller_rows};

@@ -1,5 +1,7 @@
 // The n steps of a list of rows, one after the other: the rows lie in three flat slices, masks, values and words, the list at their front.
 // Every function here is inner.
+#![tactic(auto)]
+
 ghost use Rattle.std.specs.Prelude.{◌≤◌, length};
 ghost use Rattle.slices.specs.Places.{at};
 ghost use Rattle.block.specs.Limits.{list_inputs, smaller_rows};

@@ -1,4 +1,6 @@
 // The row method for any arguments: its checks but 9, and then its work, which says 9 or 0. The function here is inner.
+#![tactic(auto)]
+
 ghost use Rattle.std.specs.Prelude.{◌≡◌, false, ◌≤◌, length};
 ghost use Rattle.block.specs.Limits.{list_inputs, smaller_rows};
 ghost use Rattle.block.specs.Words.{rows_of};

@@ -1,5 +1,7 @@
 // The bulk import with models, run: the arguments, the first of which asks for models, are imported, and the files are read back. Of each name
 // that follows it is said whether its file has the bytes that are due, which lie in data/ beside it, or whether it is gone.
+#![tactic(auto)]
+
 use due_files::{say_as_due, say_gone};
 
 // A model where there was none, one in the place of an older one, one that stays, and one beside a sheet that was there; nothing waits any

@@ -1,5 +1,7 @@
 // The bulk import, run: the arguments are imported, and the files are read back. Of each name that follows it is said whether its file
 // has the bytes that are due, which lie in data/ beside it, or whether it is gone.
+#![tactic(auto)]
+
 use due_files::{say_as_due, say_gone};
 
 // A sheet where there was none, one in the place of an older one, and one that stays; nothing waits any more.

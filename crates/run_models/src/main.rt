@@ -1,6 +1,8 @@
 // Models in BLIF, run (02, Ticket 4): what is printed with --blif for every list of data/ beside the model that is due, or the line of the
 // refusal; and the refusal of each text that is no model, or one whose matrix fails. The arguments are the lists and the texts, each followed
 // by what is due. Each that is answered otherwise is named, and the last line has the number of those that are not.
+#![tactic(auto)]
+
 ghost use Rattle.std.specs.Prelude.{◌≡◌, ◌≤◌, length};
 ghost use Rattle.block.specs.Limits.{model_room};
 

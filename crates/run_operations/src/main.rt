@@ -4,6 +4,8 @@
 // spectrum.txt, symmetric.txt, why.txt, undriven.txt, join.txt, join_more.txt and disjoin.txt come from a program of another hand, ranges.txt,
 // why_ranges.txt, undriven_ranges.txt, join_ranges.txt and disjoin_ranges.txt have 01's and 02's blocks to try by hand and the ends of each range.
 // (type_texts.txt and undriven_texts.txt have cases of reading, writing and the sheet, which the tests from outside run.)
+#![tactic(auto)]
+
 ghost use Rattle.std.specs.Prelude.{◌≤◌, ◌<◌, length};
 ghost use Rattle.case_lines.specs.Room.{numbers_most};
 

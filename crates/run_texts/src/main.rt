@@ -1,6 +1,8 @@
 // The program's text, run: 01's example cut at each byte, and every text of data/ with its sheet. Each line of the first part has the
 // number of bytes left and what is printed for them: 10 at the line of the cut. The second part names each text whose printed bytes are
 // not those of its sheet, and ends with the number of those that are. The arguments are the texts, each followed by its sheet.
+#![tactic(auto)]
+
 ghost use Rattle.std.specs.Prelude.{◌≤◌};
 
 use block::{READ_BYTES, SHEET_ROOM};

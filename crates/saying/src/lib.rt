@@ -1,4 +1,6 @@
 // What the programs share: lines on standard output, the files that arguments name, texts compared, and parts of slices. Every function here is inner.
+#![tactic(auto)]
+
 ghost use Rattle.std.specs.Prelude.{◌≡◌, true};
 ghost use Rattle.io.specs.Counts.{IsPrefixLen};
 

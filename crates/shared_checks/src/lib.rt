@@ -1,5 +1,7 @@
 // An answer made of one check, a check after an earlier answer, and the checks that several operations share: ranges, lent room, and the
 // three that every operation but reading begins with; and what a type makes of a missing point. Every function here is inner.
+#![tactic(auto)]
+
 ghost use Rattle.std.specs.Prelude.{◌≡◌, ◌||◌, [], ◌∷◌, ◌≤◌, ◌^◌, ltb};
 ghost use Rattle.block.specs.Limits.{list_inputs};
 ghost use Rattle.block.specs.Words.{missing};

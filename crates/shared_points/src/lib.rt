@@ -1,5 +1,7 @@
 // The search for two rows that share a point (01, Numbers that come back, 7), by the masks and values of the rows. Every function here is
 // inner.
+#![tactic(auto)]
+
 ghost use Rattle.std.specs.Prelude.{◌≡◌, eqb, length};
 ghost use Rattle.std.specs.Int.Bits.{bit_and, bit_xor};
 ghost use Rattle.shared_points.specs.Pairs.{FirstPair, pair_answer, ApartAfter};
@@ -7,7 +9,7 @@ ghost use Rattle.shared_points.specs.Pairs.{FirstPair, pair_answer, ApartAfter};
 use block::Answer;
 
 // Two rows that share a point, or none.
-#[derive(Drop)]
+#[derive(Clone, Copy)]
 pub enum Pair {
     At(usize, usize),
     Apart,

@@ -1,5 +1,7 @@
 // The work of the sheet: the row method in working storage, and the sheet's text from what it leaves there. The answer has the measures
 // and the number of smaller rows too, for the line of a bulk import. The function here is inner.
+#![tactic(auto)]
+
 ghost use Rattle.std.specs.Prelude.{◌≡◌, length};
 ghost use Rattle.block.specs.Words.{missing, rows_of};
 ghost use Rattle.block.specs.Refusals.{stored};

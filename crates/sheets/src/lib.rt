@@ -1,6 +1,8 @@
 // The sheet (01, the section of that name). One operation: `sheet` makes the sheet of a list of rows, which lies in three flat slices,
 // and a weight limit, writes it to the front of a lent slice, and answers the number of bytes; or it refuses, and then the slice holds
 // what it held. This crate holds nothing else: what the operation is made of stands in the crates below it.
+#![tactic(auto)]
+
 ghost use Rattle.block.specs.Words.{rows_of};
 ghost use Rattle.promises.specs.Sheets.{SheetPromise};
 

@@ -1,6 +1,8 @@
 // What the program says with --shifts: R at every t of the block of a list of up to 12 inputs, by the spectrum of its table (02, Ticket
 // 5). The reader, the filling and the spectrum each may refuse; what they answer is promised by `read_text`, `fill_table` and
 // `table_spectrum`. Every function here is inner.
+#![tactic(auto)]
+
 use block::TABLE_POINTS;
 use saying::{part16, part32, say, say_bits, say_number, say_refused};
 

@@ -1,5 +1,7 @@
 // The work of the row method on a list that passed its checks: T, sigma and both measures are found, the rows moved in working storage,
 // and the results written out at the end, where the list never passed 512 rows. The function here is inner.
+#![tactic(auto)]
+
 ghost use Rattle.std.specs.Prelude.{◌≤◌, length};
 ghost use Rattle.block.specs.Limits.{list_inputs, given_rows, smaller_rows};
 ghost use Rattle.block.specs.Words.{rows_of};

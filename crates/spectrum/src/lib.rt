@@ -2,6 +2,8 @@
 // `table_spectrum` puts R at 0, 1, .. 2^n - 1 to the front of a lent slice, works in another, of signed numbers, whose first 2^n end at
 // 0, and answers; or it refuses, and then both hold what they held. This crate holds nothing else: what the operation is made of stands
 // in the crates below it.
+#![tactic(auto)]
+
 ghost use Rattle.promises.specs.Tables.{SpectrumPromise};
 
 use block::Answer;

@@ -1,5 +1,7 @@
 // The work on one output word before and after its transforms (02, Ticket 5): which word comes next, its points, and the exact division
 // by 2^n. Every function here is inner: the transforms stand in walsh, the sum over the words in spectrum_work.
+#![tactic(auto)]
+
 ghost use Rattle.std.specs.Prelude.{◌≡◌, ℕ, ◌+◌, ◌*◌, ◌/◌, ◌%◌, ◌^◌, ◌<◌, ◌≤◌, length, pos, ◌==◌, unsigned_abs};
 ghost use Rattle.slices.specs.Places.{at, tab};
 ghost use Rattle.sums.specs.Sums.{one};

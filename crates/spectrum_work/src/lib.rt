@@ -1,5 +1,7 @@
 // R of a full table by the Wiener-Khinchin theorem (02, Ticket 5; document 004, section 2.2): for each output word a signed Walsh
 // transform, squares, transform again, divide by 2^n; R is the sum over the words. Every function here is inner.
+#![tactic(auto)]
+
 ghost use Rattle.std.specs.Prelude.{◌≡◌, ℕ, ◌+◌, ◌≤◌, ◌<◌, ◌^◌, length, pos};
 ghost use Rattle.slices.specs.Places.{at, tab, over};
 ghost use Rattle.block.specs.Limits.{table_inputs};

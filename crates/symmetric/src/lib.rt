@@ -2,6 +2,8 @@
 // operations: `symmetric_block` takes a word for each count of one-bits and puts the block's table, and the smaller table by the Gray columns, to
 // the front of two lent slices, and answers with both measures; `table_symmetric` answers whether a table is symmetric. With a refusal lent
 // slices hold what they held. This crate holds nothing else: what the operations are made of stands in the crates below it.
+#![tactic(auto)]
+
 ghost use Rattle.promises.specs.Symmetric.{SymmetricBlockPromise, TableSymmetricPromise};
 
 use block::{TableMethodAnswer, ValueAnswer};

@@ -1,6 +1,8 @@
 // What the program says with --symmetric (02, Ticket 6): of the words of a symmetric block the block's measures, the Gray columns and the rows
 // of sigma, its table and the smaller one; of a list of up to 12 inputs whether its block is symmetric, and by which words. What is said is promised
 // by `symmetric_block`, and by `read_text`, `fill_table` and `table_symmetric`, each of which may refuse. Every function here is inner.
+#![tactic(auto)]
+
 ghost use Rattle.std.specs.Prelude.{◌≤◌};
 ghost use Rattle.block.specs.Limits.{table_inputs};
 

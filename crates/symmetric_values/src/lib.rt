@@ -1,6 +1,8 @@
 // R of a symmetric block from its words alone, at the numbers of one one-bit and at those of two, and both measures from these. An input that is
 // left as it is adds the values of neighbouring counts: so each is folded from what the counts have, and no point is looked at. Every
 // function here is inner.
+#![tactic(auto)]
+
 ghost use Rattle.std.specs.Prelude.{◌≡◌, ℕ, ◌+◌, ◌≤◌, ◌<◌, length};
 ghost use Rattle.slices.specs.Places.{at, tab, over};
 ghost use Rattle.block.specs.Limits.{table_inputs};

@@ -1,5 +1,7 @@
 // The work on symmetric blocks (02, Ticket 6): the table of a list of words, the smaller table by the Gray columns, and whether a table is
 // symmetric. Every function here is inner.
+#![tactic(auto)]
+
 ghost use Rattle.std.specs.Prelude.{◌≡◌, ◌+◌, ◌≤◌, ◌<◌, ◌^◌, length};
 ghost use Rattle.sums.specs.Sums.{one};
 ghost use Rattle.slices.specs.Places.{tab, over};

@@ -1,5 +1,7 @@
 // The checks of the operations on tables, in the order of 01's numbers: the least malformed place, and the verdicts, step by step: each
 // step is told the answer so far and hands a refusal on. Every function here is inner.
+#![tactic(auto)]
+
 ghost use Rattle.std.specs.Prelude.{◌≡◌, not, ◌||◌, [], ◌∷◌, ◌+◌, ◌≤◌, eqb, ltb, length};
 ghost use Rattle.slices.specs.Places.{at, first};
 ghost use Rattle.block.specs.Limits.{list_inputs, outputs};

@@ -1,4 +1,6 @@
 // R of a full table at every t of few one-bits, by blocks of 64 points. Every function here is inner.
+#![tactic(auto)]
+
 ghost use Rattle.std.specs.Prelude.{◌≡◌, ℕ, ◌+◌, ◌*◌, ◌-◌, ◌≤◌, ◌<◌, ◌^◌, length};
 ghost use Rattle.std.specs.Int.Bits.{bit_xor};
 ghost use Rattle.slices.specs.Places.{at, tab, over};

@@ -1,6 +1,8 @@
 // What R of a table is counted from, by blocks of 64 points: an entry as the moved copy holds it, how many points of two blocks match, what
 // two blocks add together, and whether a number has few one-bits. Every function here is inner: the loops over blocks and numbers stand
 // in table_shifts.
+#![tactic(auto)]
+
 ghost use Rattle.std.specs.Prelude.{◌≡◌, ◌+◌, ◌*◌, ◌-◌, ◌≤◌, ◌<◌, ◌^◌, leb, length};
 ghost use Rattle.std.specs.Int.Count.{ones};
 ghost use Rattle.block.specs.Limits.{table_inputs};

@@ -2,6 +2,8 @@
 // Each takes any numbers and any slices, and answers or refuses as 01 says. Entry x of a table is the word at x; under type fr 65,535
 // stands for no output, and under fd it is malformed. T comes by columns, sigma by rows. This crate holds the public operations and
 // nothing else.
+#![tactic(auto)]
+
 ghost use Rattle.promises.specs.Tables.{TableValuePromise, TableMethodPromise, RestorePromise};
 
 use block::{Answer, TABLE_INPUTS, TableMethodAnswer, ValueAnswer};

@@ -1,5 +1,7 @@
 // The table of a text's list, for what the program says of one (02, Tickets 5 and 6). What is answered is promised by `read_text` and
 // `fill_table`, each of which may refuse. Every function here is inner.
+#![tactic(auto)]
+
 use block::{GIVEN_ROWS, ReadAnswer};
 use saying::part32;
 

@@ -1,6 +1,8 @@
 // The work of a text (01, the first section, and The sheet): the weight limit, and the sheet of the rows that the text says, with its
 // measures and the number of smaller rows; and the rows at the front of storage as row text, for the work that prints a list. What the programs
 // print rests on it. All functions here are inner.
+#![tactic(auto)]
+
 ghost use Rattle.std.specs.Prelude.{◌≡◌, ◌≤◌, min, length};
 ghost use Rattle.block.specs.Limits.{sheet_room};
 ghost use Rattle.block.specs.Words.{missing, rows_of};

@@ -1,5 +1,7 @@
 // The walk, which lists the numbers that can be candidates, and the values of its numbers, which lie by its places. With a weight limit up to
 // that of the printed list the walk is taken from this list (02, Ticket 3), and else it is made. Every function here is inner.
+#![tactic(auto)]
+
 ghost use Rattle.std.specs.Prelude.{◌≡◌, ◌≤◌, ◌<◌, leb, length};
 ghost use Rattle.slices.specs.Places.{at, first, over};
 ghost use Rattle.sums.specs.Sums.{sum};

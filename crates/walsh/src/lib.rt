@@ -1,5 +1,7 @@
 // The signed Walsh transform in place (02, Ticket 5): stages of butterflies over a lent slice of signed numbers, two at a time; and their
 // squares. Every function here is inner.
+#![tactic(auto)]
+
 ghost use Rattle.std.specs.Prelude.{◌≡◌, ℕ, ◌+◌, ◌*◌, ◌≤◌, ◌<◌, ◌^◌, length, pos, nat_abs};
 ghost use Rattle.slices.specs.Places.{tab};
 ghost use Rattle.walsh_laws.specs.Walsh.{walsh, most_points};

@@ -1,5 +1,7 @@
 // Cases of why a number was not taken (02, Ticket 7), run as `why n k TYPE w t ROWS => N A B REASON STEP SET NUMBERS` says: crate case_lines has the
 // form of such a line. Every function here is inner: the program run_operations calls them.
+#![tactic(auto)]
+
 ghost use Rattle.std.specs.Prelude.{◌≤◌, length};
 ghost use Rattle.case_lines.specs.Room.{numbers_most};
 

@@ -1,6 +1,8 @@
 // What the program says with --why (02, Ticket 7): of a list and a number t the first reason that holds, in words, with R at t and, where t is the
 // XOR of taken numbers, each of these with its step and its R. What is said is promised by `read_text`, `why_not` and `row_value`, each of which
 // may refuse. Every function here is inner.
+#![tactic(auto)]
+
 use arguments::WhyCall;
 use block::{GIVEN_ROWS, LIST_INPUTS, ReadAnswer, Reason, Why};
 use saying::{part32, say, say_bits, say_number, say_refused};

@@ -1,6 +1,8 @@
 // Row text, written (01, Row text). One operation: `write_text` writes a list of rows, which lies in three flat slices, as row text to
 // the front of a lent slice, and answers the number of bytes; or it refuses, and then the slice holds what it held.
 // This crate holds nothing else.
+#![tactic(auto)]
+
 ghost use Rattle.block.specs.Words.{rows_of};
 ghost use Rattle.promises.specs.Texts.{WritePromise};
 

@@ -1,0 +1,16 @@
+-- `filling::clear` meets its contract. The loop's invariant: the first x entries have the word of a missing point. The measure is
+-- what is left. Assumes nothing.
+use mathlib.Core.Path.{◌≡◌, refl}
+use Prim.Native.Nat.{ℕ, ◌≤◌, ◌-◌}
+use native.Mathlib.Omega.{arith}
+use lib.ListN.{length}
+use Rattle.slices.specs.Places.{tab, over}
+use Rattle.slices.specs.Filled.{over_none, over-more}
+use borrow.Author.Rules.{rules}
+use Rattle.filling.proofs.clear.Given as goal
+
+abbrev pub invariant-loop-x : goal.invariant-loop-x
+invariant-loop-x l = (l.x ≤ l.size) × (length l.out ≡ length l.initial.out) × (l.out ≡ over (tab l.x (λ _. l.missing)) l.initial.out)
+
+abbrev pub decreases-loop-x : goal.decreases-loop-x
+decreases-loop-x l = l.size - l.x

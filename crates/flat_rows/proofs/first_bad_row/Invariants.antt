@@ -1,0 +1,20 @@
+-- `flat_rows::first_bad_row` meets its contract. The loop's invariant: no row passed is malformed. The measure is the number of rows
+-- left. Assumes nothing.
+use Prim.Native.Nat.{ℕ, ◌<◌, ◌≤◌, ◌-◌}
+use mathlib.Core.Path.{◌≡◌, sym, ◌∙◌}
+use mathlib.Core.Bool.{false}
+use native.Mathlib.Omega.{arith}
+use borrow.Author.Rules.{rules}
+use borrow.Author.Count.{below_more}
+use lib.ListN.{length}
+use Rattle.slices.specs.Places.{at}
+use Rattle.flat_rows.specs.Listing.{first-bad}
+use Rattle.block.specs.Refusals.{bad_row}
+use Rattle.block.specs.Words.{row}
+use Rattle.flat_rows.proofs.first_bad_row.Given as goal
+
+abbrev pub invariant-loop-i : goal.invariant-loop-i
+invariant-loop-i l = (l.i ≤ length l.masks) × ((j : ℕ) → j < l.i → bad_row l.n l.k (row (at l.masks j) (at l.values j) (at l.words j)) ≡ false)
+
+abbrev pub decreases-loop-i : goal.decreases-loop-i
+decreases-loop-i l = length l.masks - l.i

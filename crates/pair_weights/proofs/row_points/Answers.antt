@@ -1,0 +1,14 @@
+-- `pair_weights::row_points` meets its contract: the row fixes at most n inputs, so the power is one of 0 to n. Assumes nothing.
+use native.Mathlib.Omega.{arith}
+use lib.Count.{ones-le}
+use borrow.Author.Rules.{rules}
+use Rattle.pair_weights.proofs.row_points.Goals as goal
+
+pub overflow_cast-mask : goal.overflow_cast-mask
+overflow_cast-mask c = omega (arith, ones-le c.args.n c.args.mask c.requires.1)
+
+pub overflow_sub-n : goal.overflow_sub-n
+overflow_sub-n c = omega (arith, ones-le c.args.n c.args.mask c.requires.1)
+
+pub returns : goal.returns
+returns c = c.power.ensures

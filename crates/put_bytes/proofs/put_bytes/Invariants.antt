@@ -1,0 +1,16 @@
+-- `put_bytes::put_bytes` meets its contract. The loop's invariant: the first i bytes of s are stored. The measure is what is left of s.
+-- Assumes nothing.
+use Prim.Native.Nat.{◌≤◌, ◌-◌}
+use mathlib.Core.Path.{◌≡◌, refl, ◌∙◌}
+use native.Mathlib.Omega.{arith}
+use borrow.Author.Rules.{rules}
+use lib.ListN.{length, length-set, take}
+use lib.Seq.{sets, take-length}
+use Rattle.put_bytes.specs.Puts.{copy_more}
+use Rattle.put_bytes.proofs.put_bytes.Given as goal
+
+abbrev pub invariant-loop-i : goal.invariant-loop-i
+invariant-loop-i l = (l.i ≤ length l.s) × (length l.out ≡ length l.initial.out) × (l.out ≡ sets l.initial.out l.at (take l.i l.s))
+
+abbrev pub decreases-loop-i : goal.decreases-loop-i
+decreases-loop-i l = length l.s - l.i

@@ -1,0 +1,11 @@
+-- `shared_checks::refuse_where` meets its contract: a list of one check. Assumes nothing.
+use mathlib.Core.Path.{sym, ◌∙◌}
+use Rattle.refusal_laws.specs.Verdicts.{verdict-hit, verdict-miss, verdict-none}
+use borrow.Author.Rules.{rules}
+use Rattle.shared_checks.proofs.refuse_where.Goals as goal
+
+pub returns-then-holds : goal.returns-then-holds
+returns-then-holds c = c.refuse.ensures ∙ sym (verdict-hit _ _ c.if-holds.true)
+
+pub returns : goal.returns
+returns c = c.refuse-2.ensures ∙ sym (verdict-miss _ _ c.if-holds.false ∙ verdict-none)

@@ -1,0 +1,22 @@
+use mathlib.Core.Path.{sym, ◌∙◌}
+use Prim.Native.Nat.{◌-◌}
+use lib.ListN.{length}
+use native.Mathlib.Omega.{arith}
+use Rattle.slices.specs.Places.{at}
+use Rattle.block.specs.Refusals.{bad_number}
+use Rattle.table_checks.specs.Search.{Searched, search-starts, search-goes-on, search-finds, search-ends}
+use borrow.Author.Rules.{rules}
+use Rattle.table_checks.proofs.first_bad_number.Goals as goal
+
+pub loop-i-init : goal.loop-i-init
+loop-i-init c = search-starts _ _
+
+pub returns-then-is_bad_number : goal.returns-then-is_bad_number
+returns-then-is_bad_number c = search-finds _ _ _ c.loop-i.invariant (sym c.is_bad_number.ensures ∙ c.if-is_bad_number.true)
+
+pub loop-i-preserved : goal.loop-i-preserved
+loop-i-preserved c =
+    search-goes-on _ _ _ c.loop-i.invariant (omega arith) (sym c.is_bad_number.ensures ∙ c.if-is_bad_number.false)
+
+pub returns : goal.returns
+returns c = search-ends _ _ _ c.loop-i.invariant (omega arith)

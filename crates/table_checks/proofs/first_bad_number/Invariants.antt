@@ -1,0 +1,17 @@
+-- `table_checks::first_bad_number` meets its contract. The loop's invariant: no matrix row before i is malformed. The measure is what is left.
+-- Assumes nothing.
+use mathlib.Core.Path.{sym, ◌∙◌}
+use Prim.Native.Nat.{◌-◌}
+use lib.ListN.{length}
+use native.Mathlib.Omega.{arith}
+use Rattle.slices.specs.Places.{at}
+use Rattle.block.specs.Refusals.{bad_number}
+use Rattle.table_checks.specs.Search.{Searched, search-starts, search-goes-on, search-finds, search-ends}
+use borrow.Author.Rules.{rules}
+use Rattle.table_checks.proofs.first_bad_number.Given as goal
+
+abbrev pub invariant-loop-i : goal.invariant-loop-i
+invariant-loop-i l = Searched (λ j. bad_number l.n (at l.rows j)) (length l.rows) l.i
+
+abbrev pub decreases-loop-i : goal.decreases-loop-i
+decreases-loop-i l = length l.rows - l.i

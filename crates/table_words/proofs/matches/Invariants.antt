@@ -1,0 +1,21 @@
+-- `table_words::matches` meets its contract. The loop's invariant: m counts the points before i that match. The measure is what is left of 64.
+-- Assumes nothing.
+use mathlib.Core.Path.{◌≡◌, sym, ap, ◌∙◌}
+use mathlib.Core.Logic.{⊎_elim}
+use Prim.Native.Nat.{ℕ, ◌≤◌, ◌-◌, ◌+◌, ◌*◌}
+use native.Mathlib.Nat.{add-zero}
+use native.Mathlib.Omega.{arith}
+use borrow.Author.Tests.{eq-eqb, ne_eqb}
+use lib.Dec.{eqb}
+use Rattle.slices.specs.Places.{at}
+use Rattle.sums.specs.Sums.{one, count}
+use Rattle.sums.specs.Laws.{count-zero, count-more, count-le}
+use Rattle.table_words.specs.Matching.{matching}
+use borrow.Author.Rules.{rules}
+use Rattle.table_words.proofs.matches.Given as goal
+
+abbrev pub invariant-loop-i : goal.invariant-loop-i
+invariant-loop-i l = let table = l.table in let copy = l.copy in let b = l.b in let c = l.c in let m = l.m in let i = l.i in (i ≤ 64) × (m ≡ count (λ i. eqb (at table (b * 64 + i)) (at copy (c * 64 + i))) i)
+
+abbrev pub decreases-loop-i : goal.decreases-loop-i
+decreases-loop-i l = 64 - l.i

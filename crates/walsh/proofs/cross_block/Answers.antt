@@ -1,0 +1,75 @@
+use mathlib.Core.Path.{◌≡◌}
+use Prim.Native.Nat.{◌+◌, ◌*◌, ◌-◌, ◌≤◌}
+use native.Mathlib.Omega.{arith}
+use lib.IntN.{ℤ, nat_abs}
+use lib.ListN.{length-set}
+use mir.Syntax.{w32}
+use mir.Val.{to_z, of_z}
+use Rattle.walsh_laws.specs.Walsh.{most_number}
+use Rattle.walsh_laws.specs.Passes.{val, Crossed, crossed-none, crossed-more, crossed-small}
+use Rattle.walsh_laws.specs.Machine.{back, sum_fits, sum_back, difference-fits, difference-back}
+use borrow.Author.Rules.{rules}
+use Rattle.walsh.proofs.cross_block.Goals as goal
+use Rattle.walsh.proofs.cross_block.Goals.{In-loop-j}
+
+-- the two numbers of a butterfly
+abbrev upper : goal.In-loop-j → ℤ
+upper c =
+    val c.loop-j.s (c.args.at + c.loop-j.j)
+
+abbrev lower : goal.In-loop-j → ℤ
+lower c =
+    val c.loop-j.s (c.args.at + c.args.h + c.loop-j.j)
+
+-- the machine has both as they are, and their sum and difference fit
+module _ (c : tie.In-loop invariant-loop decreases-loop) where
+  small : (nat_abs (upper c) ≤ most_number) × (nat_abs (lower c) ≤ most_number)
+  small =
+      crossed-small c.before.before.args.s.now _ _ _ _ c.before.before.requires.0 c.loop-test.true c.before.loop.invariant.1 c.before.before.requires.1
+
+  read_upper : to_z w32 (of_z w32 (upper c)) ≡ upper c
+  read_upper = back (upper c) (omega (arith, small.0))
+
+  read_lower : to_z w32 (of_z w32 (lower c)) ≡ lower c
+  read_lower = back (lower c) (omega (arith, small.1))
+
+  both : nat_abs (upper c) + nat_abs (lower c) ≤ 4 * most_number
+  both = omega (arith, small.0, small.1)
+
+pub loop-j-init : goal.loop-j-init
+loop-j-init c = (search rules, crossed-none _ _ _)
+
+pub slice_copy_out-a : goal.slice_copy_out-a
+slice_copy_out-a c = omega (arith, c.loop-j.invariant.1.long)
+
+pub slice_copy_out-b : goal.slice_copy_out-b
+slice_copy_out-b c = omega (arith, c.loop-j.invariant.1.long)
+
+pub overflow_add-s : goal.overflow_add-s
+overflow_add-s c = sum_fits (read_upper c) (read_lower c) (both c)
+
+pub bounds-s-at : goal.bounds-s-at
+bounds-s-at c = omega (arith, c.loop-j.invariant.1.long)
+
+pub overflow_sub-s : goal.overflow_sub-s
+overflow_sub-s c = difference-fits (read_upper c) (read_lower c) (both c)
+
+pub bounds-s-at-in-loop-j : goal.bounds-s-at-in-loop-j
+bounds-s-at-in-loop-j c = simp length-set (omega (arith, c.loop-j.invariant.1.long))
+
+pub loop-j-preserved : goal.loop-j-preserved
+loop-j-preserved c =
+    let a = c.args in (
+      search rules,
+      crossed-more a.s.now _ _ _ _ _ _ c.requires.0 c.loop-j-test.true c.loop-j.invariant.1
+          (sum_back (read_upper c) (read_lower c) (both c))
+          (difference-back (read_upper c) (read_lower c) (both c)),
+    )
+
+pub shape_of-s : goal.shape_of-s
+shape_of-s c = c.loop-j.invariant.1.long
+
+pub returns : goal.returns
+returns c =
+    let end : c.loop-j.j ≡ c.args.h = omega arith in
+    rw end at c.loop-j.invariant.1
