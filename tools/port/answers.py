@@ -17,7 +17,7 @@ NAME = r"[^\s(){}.;,@\"«»\[\]]+"
 
 
 def norm(name):
-    name = re.sub(r"_lem$", "", name).replace("_", "-").replace("type-size", "size-of")
+    name = re.sub(r"_lem$", "", name).replace("_", "-").replace("type-size", "size-of").lower()
     return re.sub(r"^overflow-", "", name)
 
 
@@ -104,6 +104,9 @@ class Function:
         self.said = []
         self.helpers = []
         self.named = set()
+        self.bodies = {}
+        self.arms = {p[0]: a for p, a in zip(entry["places"], entry["arms"])}
+        self.used = set()
         self.place_of = {norm(p[0]): p[0] for p in entry['places']}
 
     def look(self, text):
@@ -126,10 +129,7 @@ class Function:
     def resolve(self, place, fields):
         fields = list(fields)
         while fields and fields[0] == "before":
-            up = self.places[place][1]
-            if up is None:
-                return None
-            place = up
+            place = self.places[place][1] or place
             fields.pop(0)
         if not fields:
             return ("place", place)
@@ -155,6 +155,12 @@ class Function:
                 while p is not None and norm(self.places[p][2][0]) != norm(first):
                     p = self.places[p][1]
                 if p is None:
+                    p = self.asked_place
+                    while p is not None and norm(self.places[p][2][0]) != norm(first):
+                        p = self.places[p][1]
+                if p is None:
+                    p = next((q[0] for q in self.entry["places"] if q[2][1] == first), None)
+                if p is None:
                     self.look(f"no step `{first}` at {place}")
                     return ("term", f"{self.root}." + ".".join([first] + fields))
                 place = p
@@ -170,10 +176,22 @@ class Function:
                     return ("clauses", f"{self.root}." + new + "." + fields[0], names)
             elif fields and fields[0] == "inv":
                 fields[0] = "invariant"
-            if len(fields) > 1 and fields[0] == "given" and fields[1] == "1" and "slice_known" not in new and re.search(r"-in-[A-Z]", self.goal_name):
+            elif len(fields) > 1 and fields[0] == "new" and callee in self.entry["params"]:
+                # the old pairs of what was lent
+                params, k, rest = self.entry["params"][callee], 0, fields[1:]
+                while rest and rest[0] == "1" and k < len(params) - 1:
+                    k, rest = k + 1, rest[1:]
+                if rest and rest[0] == "0":
+                    fields = ["new", params[k]] + rest[1:]
+            if fields and fields[0] == "given":
                 # what a match found
-                arm = re.search(r"in-[A-Z][\w-]*", self.goal_name)[0]
-                return ("term", ".".join([f"{self.root}.{arm}", "is"] + fields[2:]))
+                p = self.asked_place
+                while p is not None:
+                    arm = self.arms.get(p)
+                    for field, step, at in arm[2] if arm else []:
+                        if norm(step) == norm(old) and fields[:len(at)] == at and at:
+                            return ("term", ".".join([f"{self.root}.{arm[0]}", field] + fields[len(at):]))
+                    p = self.places[p][1]
             if not fields:
                 return ("step", f"{self.root}.{new}", place)
         if fields and (first in ("args", "ranges") or self.places[place][2][1].startswith("loop")):
@@ -192,7 +210,7 @@ class Function:
         """Turns the paths of a body whose c stands at a place."""
         alias = {root: ("place", place)}
         self.root = root
-        self.goal_name = goal or ""
+        self.asked_place = place
 
         def called(m):
             got = None
@@ -215,10 +233,11 @@ class Function:
                 return f"{m[1]} {root}" if goal is None else f"{m[1]} (goal.at.{goal} {root}).{self.new_place(got)}"
             if goal is None:
                 self.look(f"a helper calls {m[1]} at {got}")
-                n, p = 0, place
-                while p != got and p is not None:
-                    n, p = n + 1, self.places[p][1]
-                return f"{m[1]} (goal.up {root}{'.before' * n})"
+                known = self.bodies.get(m[1])
+                if known:
+                    self.used.update(known[3])
+                    return f"(let it : {known[0]} = {known[1]} in it)".replace("ROOT_C", root)
+                return f"{m[1]} {root}"
             return f"{m[1]} (goal.at.{goal} {root}).{self.new_place(got)}"
 
         # the places that lets name
@@ -234,10 +253,10 @@ class Function:
         for h in self.helpers:
             text = re.sub(r"(?<![\w.'-])(" + re.escape(h) + r") ([^\W\d][\w'₀-₉-]*(?:\.before)*)(?![\w.'-])", called, text)
             text = re.sub(r"(?<![\w.'-])(" + re.escape(h) + r") \(([^\W\d][\w'₀-₉-]*(?:\.before)*)\)", called, text)
-        for r in roots:
-            text = re.sub(r"\(" + re.escape(r) + r" ([^\s()]+)\)", "ROOT_", text)
-            text = re.sub(r"(?<![\w.'-])" + re.escape(r) + r" [^\s()]+", "ROOT_", text)
-        alias["ROOT_"] = ("place", "Start")
+        for _ in range(6):
+            for r, tail in roots.items():
+                text = re.sub(r"\(" + re.escape(r) + r" ([^\s()]+)\)", lambda m: m[1] + tail, text)
+                text = re.sub(r"(?<![\w.'-])" + re.escape(r) + r" ([^\s()]+)", lambda m: m[1] + tail, text)
         out, i = [], 0
         path = re.compile(r"(?<![\w.'₀-₉-])([^\W\d][\w'₀-₉-]*)((?:\.[\w'₀-₉+-]+)*)")
         let = re.compile(r"let ([^\s:=]+) = ([^\W\d][\w'₀-₉-]*)((?:\.[\w'₀-₉+-]+)*) in\s*")
@@ -285,7 +304,8 @@ class Function:
                     continue
             m = path.match(text, i)
             if m and (i == 0 or not re.match(r"[\w.'-]", text[i - 1])):
-                if m[1] in alias and alias[m[1]]:
+                field = not m[2] and text.startswith(" = ", m.end()) and re.search(r"[{;]\s*$", text[:i])
+                if m[1] in alias and alias[m[1]] and not field:
                     got = turned(m[1], m[2])
                     if got is None:
                         out.append(m[0])
@@ -390,13 +410,13 @@ def turn(crate, name, entry, clauses):
     head, uses, blocks = declarations(text)
     uses = [u for u in uses if ".Statement.{" not in u and not re.search(r"\.Tie(?: as |\.|$)", u)]
     module = f"Rattle.{crate}.proofs.{name}"
-    invariants, answers, roots = [], [], []
+    invariants, answers, roots = [], [], {}
     own = f"{crate}::{name.split('.')[-1]}"
     for comment, label, mods, block in blocks:
         whole = "\n".join(block)
-        m = re.match(r"(?:(?:pub|abbrev|unfoldable) )*(\S+) : tie\.At\S* .*→ tie\.Start", whole)
+        m = re.match(r"(?s)(?:(?:pub|abbrev|unfoldable) )*(\S+) : tie\.[^→]*→ tie\.[^\n]*\n\1 (\S+) = \2((?:\.before)+)\s*$", whole)
         if m:
-            roots.append(m[1])
+            roots[m[1]] = m[3]
     for comment, label, mods, block in blocks:
         whole = "\n".join(block)
         if label and label not in roots and re.match(r"((?:(?:pub|abbrev|unfoldable) )*)" + re.escape(label) + r" : (?:\(\w+ : )?tie\.([\w-]+)", whole) and not re.search(r" : tie\.(Need|invariant|decreases)", block[0]):
@@ -513,20 +533,39 @@ def turn(crate, name, entry, clauses):
             mm = re.match(re.escape(label) + r" (\S+)((?: \S+)*?) =(?!=)\s*(.*)$", rest, re.S)
             if mm:
                 sig = fn.walk(sig.lstrip("\n "), spot, roots, None, param or "c")
+                fn.used = set()
                 body = fn.walk(mm[3].rstrip(), spot, roots, None, mm[1])
+                unfold = unfold + [u for u in sorted(fn.used) if u not in unfold]
+                own_param = param or mm[1]
+                seen = re.compile(r"(?<![\w.'-])" + re.escape(mm[1]) + r"(?=\.|\b(?![\w'-]))")
+                seen_sig = re.compile(r"(?<![\w.'-])" + re.escape(own_param) + r"(?=\.|\b(?![\w'-]))")
+                type_text = re.sub(r"^\s*→\s*", "", sig)
+                more_args = mm[2].strip()
+                fn.bodies[label] = (seen_sig.sub("ROOT_C", type_text), ("λ " + more_args + ". " if more_args else "") + seen.sub("ROOT_C", body), False, unfold)
                 binder = f"({param} : goal.{fn.new_place(spot)})" if param else f"goal.{fn.new_place(spot)}"
                 answers.append("\n".join(comment + [f"{m[1]}{label} : {binder} {sig}"] + unfold + [f"{label} {mm[1]}{mm[2]} =\n    {body}"]))
                 continue
         if "tie." in whole:
             fn.look(f"{label}: speaks of the old places")
         answers.append("\n".join(comment + block))
+    shared = []
+    for a in list(answers):
+        m = re.match(r"(?:--[^\n]*\n)*(?:(?:pub|abbrev|unfoldable) )*([^\s(){}:]+) : ", a)
+        if m and not m[1] in [n for _, n in fn.needs] and any(re.search(r"(?<![\w.'-])" + re.escape(m[1]) + r"(?![\w'-])", i) for i in invariants):
+            answers.remove(a)
+            shared.append(m[1])
+            invariants.insert(len(shared) - 1, re.sub(r"(?m)^((?:unfoldable |abbrev )?)(" + re.escape(m[1]) + r" : )", r"\1pub \2", a))
+    if shared:
+        uses_answers = uses + [f"use {module}.Invariants.{{{', '.join(shared)}}}"]
+    else:
+        uses_answers = uses
     os.rename(path, folder + "/Proof.old")
     for file, module_of, decls in (("Invariants", "Given", invariants), ("Answers", "Goals", answers)):
         if decls:
             with open(f"{folder}/{file}.antt", "w", encoding="utf-8") as f:
                 above = head if file == "Invariants" or not invariants else []
                 named = [f"use {module}.Goals.{{{', '.join(sorted(fn.named))}}}"] if fn.named and file == "Answers" else []
-                f.write("\n".join(above + uses + [f"use {module}.{module_of} as goal"] + named + [""]) + "\n" + "\n\n".join(decls) + "\n")
+                f.write("\n".join(above + (uses if file == "Invariants" else uses_answers) + [f"use {module}.{module_of} as goal"] + named + [""]) + "\n" + "\n\n".join(decls) + "\n")
     return fn.said
 
 

@@ -25,7 +25,7 @@ room c =
 -- the number with one flipped is a place of the array
 place : (c : goal.In-loop-k) → bit_xor c.args.b (at c.args.ps.now c.loop-k.k) < length c.loop-k.acc
 place c =
-    omega (arith, (raised (goal.up c)).long, c.requires.inside.0 c.args.b c.loop-k.k c.requires.b_in_bounds.0 (omega arith))
+    omega (arith, ((let it : Raised c.args.weight (ways 1 c.args.ps.now c.loop-k.k c.args.b) c.args.acc.now c.loop-k.acc = c.loop-k.invariant.2 _ c.add_here.ensures in it)).long, c.requires.inside.0 c.args.b c.loop-k.k c.requires.b_in_bounds.0 (omega arith))
 
 pub add_here-requires : goal.add_here-requires
 add_here-requires c =

@@ -8,7 +8,7 @@ use Rattle.light_laws.specs.Ways.{frees}
 use Rattle.light_adding.specs.Front.{put-none, put-free, put-fixed, put-room}
 use borrow.Author.Rules.{rules}
 use Rattle.light_adding.proofs.put_free.Goals as goal
-use Rattle.light_adding.proofs.put_free.Goals.{After-power}
+use Rattle.light_adding.proofs.put_free.Goals.{After-power, then-bit_of-eq0, else-bit_of-eq0}
 
 -- there is room for one more
 below : (c : goal.After-power) → c.loop-i.count < length c.loop-i.out
@@ -32,10 +32,10 @@ loop-i-preserved c =
     let o = c.loop-i in
     let bit = c.bit_of.ensures in (
       search rules,
-      ⊎_elim
-          (λ w. put-free _ o.i o.count _ _ _ _ _ (omega arith) (sym bit ∙ w.0.taken) w.1.ensures w.2 w.3 o.invariant.1)
-          (λ w. put-fixed _ o.i o.count _ _ _ _ (λ e. w.0.left (bit ∙ e)) w.1 w.2 o.invariant.1)
-          c.if-bit_of-eq0.branch,
+      elim c.if-bit_of-eq0.branch [
+        | then-bit_of-eq0 w ↦ put-free _ o.i o.count _ _ _ _ _ (omega arith) (sym bit ∙ w.if-bit_of-eq0.true) w.power.ensures w.out-is w.count-is o.invariant.1
+        | else-bit_of-eq0 w ↦ put-fixed _ o.i o.count _ _ _ _ (λ e. w.if-bit_of-eq0.false (bit ∙ e)) w.out-is w.count-is o.invariant.1
+      ],
     )
 
 pub returns : goal.returns

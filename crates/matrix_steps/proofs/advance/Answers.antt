@@ -15,25 +15,21 @@ rest-is n k h y x v a b e = a ∙ ap (λ (h : ℕ). bit_xor (exchange k h y) (2 
 
 pub rest_of-rest-requires : goal.rest_of-rest-requires
 rest_of-rest-requires c =
-    let s = c.before.before.before.before in
-    let near : c.partner_of-partner.result < s.args.n = rw c.partner_of-partner.ensures (partner-lt _ _ _ s.requires.2) in
+    let near : c.partner_of-partner.result < c.args.n = rw c.partner_of-partner.ensures (partner-lt _ _ _ c.requires.2) in
     omega arith
 
 pub exchange_rows-requires : goal.exchange_rows-requires
-exchange_rows-requires c =
-    let s = c.before.before.before.before.before.before in
-    (s.requires.0, s.requires.2, rw c.partner_of-partner.ensures (partner-lt _ _ _ s.requires.2))
+exchange_rows-requires c = (c.requires.0, c.requires.2, rw c.partner_of-partner.ensures (partner-lt _ _ _ c.requires.2))
 
 pub returns : goal.returns
 returns c =
-    let s = applied.before.before.before in
-    let a = s.args in
+    let a = c.args in
     let y = c.apply_rows-y.ensures in
     let e = c.partner_of-partner.ensures ∙ ap (partner a.n a.k) y in
     let d = rest-is a.n a.k _ _ _ _ c.rest_of-rest.ensures c.partner_of-partner.ensures y in
     record {
       rows =
-          step-made _ _ a.t _ _ a.s.now _ _ s.requires.0 s.requires.2 e d c.exchange_rows.ensures c.shear_rows.ensures;
-      c = e;
+          step-made _ _ a.t _ _ a.s.now _ _ c.requires.0 c.requires.2 e d c.exchange_rows.ensures c.shear_rows.ensures;
+      exchanged = e;
       flipped = d;
     }

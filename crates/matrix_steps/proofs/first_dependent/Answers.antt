@@ -16,19 +16,13 @@ use borrow.Author.Rules.{rules}
 use Rattle.matrix_steps.proofs.first_dependent.Goals as goal
 use Rattle.matrix_steps.proofs.first_dependent.Goals.{After-power}
 
--- the turn of the loop that a test belongs to
-abbrev turn : goal.After-power → tie.At-loop invariant-loop decreases-loop
-turn c =
-    c
-
 -- the test of the code is the rule's
-test : (c : goal.After-power) → span (at (start (turn c)).args.rows.now) (turn c).loop.j (at (start (turn c)).args.rows.now (turn c).loop.j)
+test : (c : goal.After-power) → span (at c.args.rows.now) c.loop-j.j (at c.args.rows.now c.loop-j.j)
     ≡ ltb c.apply_rows.result c.power.result
 test c =
-    let s = start (turn c) in
-    let l = (turn c).loop in
-    span-held s.args.n (at s.args.rows.now) l.j _ _ (omega arith)
-    (record { below = λ i h. s.pre.3 i (omega arith); fresh = l.inv.2 }) (s.pre.3 l.j (omega arith)) l.inv.3
+    let l = c.loop-j in
+    span-held c.args.n (at c.args.rows.now) l.j _ _ (omega arith)
+    (record { below = λ i h. c.requires.3 i (omega arith); fresh = l.invariant.2 }) (c.requires.3 l.j (omega arith)) l.invariant.3
     ∙ sym (ap₂ ltb c.apply_rows.ensures c.power.ensures)
 
 pub loop-j-init : goal.loop-j-init
@@ -37,16 +31,16 @@ loop-j-init c = (search rules, search rules, (λ i h. absurd (omega arith)), rea
 pub returns-then-apply_rows-power : goal.returns-then-apply_rows-power
 unfolding dependent
 returns-then-apply_rows-power c =
-    sym (first-is _ _ _ (omega arith) (turn (goal.at.returns-then-apply_rows-power c).After-power).loop.inv.2 (λ h. test (goal.at.returns-then-apply_rows-power c).After-power ∙ lt-ltb _ _ c.if-apply_rows-power.true))
+    sym (first-is _ _ _ (omega arith) c.loop-j.invariant.2 (λ h. test (goal.at.returns-then-apply_rows-power c).After-power ∙ lt-ltb _ _ c.if-apply_rows-power.true))
 
 pub loop-j-preserved : goal.loop-j-preserved
 loop-j-preserved c =
-    let l = (turn (goal.at.loop-j-preserved c).After-power).loop in
-    let a = (start (turn (goal.at.loop-j-preserved c).After-power)).args in (
+    let l = c.loop-j in
+    let a = c.args in (
       search rules,
       search rules,
-      below_more _ _ l.inv.2 (test (goal.at.loop-j-preserved c).After-power ∙ le-ltb _ _ c.if-apply_rows-power.false),
-      reach-turn a.n (at a.rows.now) l.j _ _ l.m _ (omega arith) l.inv.3 refl c.advance.ensures.rows,
+      below_more _ _ l.invariant.2 (test (goal.at.loop-j-preserved c).After-power ∙ le-ltb _ _ c.if-apply_rows-power.false),
+      reach-turn a.n (at a.rows.now) l.j _ _ l.m _ (omega arith) l.invariant.3 refl c.advance.ensures.rows,
     )
 
 pub returns : goal.returns

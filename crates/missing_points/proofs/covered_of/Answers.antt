@@ -12,11 +12,8 @@ use Rattle.block.specs.declared.Row.{Row}
 use Rattle.pair_laws.specs.Theorem.{covered_le}
 use Rattle.missing_points.specs.Rows.{mask-fixed, summed-more, summed-whole, summed-small}
 use borrow.Author.Rules.{rules}
+use Rattle.missing_points.proofs.covered_of.Invariants.{points_under}
 use Rattle.missing_points.proofs.covered_of.Goals as goal
-
--- how many points lie under a row
-abbrev points_under : ℕ → Row → ℕ
-points_under n r = 2 ^ (n - ones r.mask)
 
 pub loop-i-init : goal.loop-i-init
 loop-i-init c = (search rules, sym (sum-zero _))

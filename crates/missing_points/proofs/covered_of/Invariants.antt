@@ -16,6 +16,10 @@ use Rattle.missing_points.specs.Rows.{mask-fixed, summed-more, summed-whole, sum
 use borrow.Author.Rules.{rules}
 use Rattle.missing_points.proofs.covered_of.Given as goal
 
+-- how many points lie under a row
+abbrev pub points_under : ℕ → Row → ℕ
+points_under n r = 2 ^ (n - ones r.mask)
+
 abbrev pub invariant-loop-i : goal.invariant-loop-i
 invariant-loop-i l = (l.i ≤ l.p) × (l.sum ≡ sum_of (λ k. points_under l.n (row_at (rows_of l.masks l.values l.words) k)) l.i)
 

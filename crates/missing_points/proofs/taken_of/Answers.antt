@@ -24,7 +24,7 @@ overflow_add-sum c =
     let o = c.loop-i in
     omega (
       arith,
-      summed-more c.args.n c.requires.n_le_list_inputs.1 (takes c.args.missing c.args.n) o.i _ _ (omega arith) o.invariant.1 c.Takes-of.ensures,
+      summed-more c.args.n c.requires.n_le_list_inputs.1 (takes c.args.missing c.args.n) o.i _ _ (omega arith) o.invariant.1 c.takes_of-sum.ensures,
       summed-small c.args.n c.requires.n_le_list_inputs.1 (takes c.args.missing c.args.n) o.i (omega arith),
       taken-le c.args.missing c.args.n _ c.requires.disjoint,
       pow_mono {j = list_inputs} c.requires.n_le_list_inputs.0,
@@ -33,7 +33,7 @@ overflow_add-sum c =
 pub loop-i-preserved : goal.loop-i-preserved
 loop-i-preserved c =
     let o = c.loop-i in
-    (search rules, summed-more c.args.n c.requires.n_le_list_inputs.1 (takes c.args.missing c.args.n) o.i _ _ (omega arith) o.invariant.1 c.Takes-of.ensures)
+    (search rules, summed-more c.args.n c.requires.n_le_list_inputs.1 (takes c.args.missing c.args.n) o.i _ _ (omega arith) o.invariant.1 c.takes_of-sum.ensures)
 
 pub returns : goal.returns
 returns c =

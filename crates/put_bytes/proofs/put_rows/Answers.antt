@@ -41,7 +41,7 @@ loop-i-preserved c =
     let a = c.args in
     let l = c.loop-i in (
       omega arith,
-      omega (arith, c.put_row-to.auto.0),
+      omega (arith, c.put_row-to.auto.out),
       rw (lines_more a.n a.k l.i a.masks.now a.values.now a.words.now) (then l.invariant.2 c.put_row-to.ensures),
     )
 

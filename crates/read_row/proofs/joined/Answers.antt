@@ -16,12 +16,12 @@ returns-then-end-ne10 c = search tests
 
 pub returns-in-Bad : goal.returns-in-Bad
 unfolding joined_of
-returns-in-Bad c = search (tests, c.enum_told-1.given.1)
+returns-in-Bad c = search (tests, c.in-Bad.is)
 
 pub returns-in-Bad-outputs : goal.returns-in-Bad-outputs
 unfolding joined_of
-returns-in-Bad-outputs c = search (tests, c.inputs-1.given.1, c.enum_told-in-Bad-outputs-1.given.1)
+returns-in-Bad-outputs c = search (tests, c.in-Good.is, c.in-Bad-outputs.is)
 
 pub returns-in-Good-outputs : goal.returns-in-Good-outputs
 unfolding joined_of
-returns-in-Good-outputs c = search (tests, c.inputs-1.given.1, c.outputs-1.given.1)
+returns-in-Good-outputs c = search (tests, c.in-Good.is, c.in-Good-outputs.is)

@@ -40,8 +40,10 @@ small c =
 given : (c : goal.After-exact_quotient) → c.exact_quotient.result
     ≡ nat_abs (val c.args.s.now c.loop-t.t) / length c.args.s.now
 given c =
-    quotient-gives (here (goal.up c)) _ (length c.args.s.now) (small (goal.up c)) (divisor (goal.up c)) (omega arith) _ c.exact_quotient.ensures
-    ∙ ap (λ (z : ℤ). nat_abs z / length c.args.s.now) (kept (goal.up c))
+    quotient-gives ((let it : ℤ = val c.loop-t.s c.loop-t.t in it)) _ (length c.args.s.now) ((let it : nat_abs (here c) ≤ most_number = subst (λ z. nat_abs z ≤ most_number) (sym (kept c)) (c.requires.3.small _ (within c)) in it)) ((let it : to_z w32 (of_z w32 c.args.d) ≡ pos (length c.args.s.now) = let p = c.requires in
+    ap (λ z. to_z w32 (of_z w32 z)) p.0 ∙ back (pos (length c.args.s.now)) (omega (arith, p.2)) in it)) (omega arith) _ c.exact_quotient.ensures
+    ∙ ap (λ (z : ℤ). nat_abs z / length c.args.s.now) ((let it : here c ≡ val c.args.s.now c.loop-t.t = ap (λ l. val l c.loop-t.t) c.loop-t.invariant.3
+    ∙ over-beyond c.loop-t.t _ c.args.s.now (pos 0) c.loop-t.t (omega arith) in it))
 
 pub loop-t-init : goal.loop-t-init
 loop-t-init c = (search rules, search rules, search rules, over_none _ _, over_none _ _)
@@ -64,14 +66,13 @@ overflow_add-out c =
     )
 
 pub loop-t-preserved : goal.loop-t-preserved
-loop-t-preserved c =
-    (
-      search rules,
-      simp length-set (omega arith),
-      simp length-set (omega arith),
-      over-more _ _ _ _ _ c.loop-t.invariant.3 refl (omega arith),
-      over-more _ _ _ _ _ c.loop-t.invariant.4 (ap₂ ◌+◌ (stood (goal.at.loop-t-preserved c).In-loop-t) (given (goal.at.loop-t-preserved c).After-exact_quotient)) (omega arith),
-    )
+loop-t-preserved c = (
+  search rules,
+  simp length-set (omega arith),
+  simp length-set (omega arith),
+  over-more _ _ _ _ _ c.loop-t.invariant.3 refl (omega arith),
+  over-more _ _ _ _ _ c.loop-t.invariant.4 (ap₂ ◌+◌ (stood (goal.at.loop-t-preserved c).In-loop-t) (given (goal.at.loop-t-preserved c).After-exact_quotient)) (omega arith),
+)
 
 pub returns : goal.returns
 returns c =

@@ -35,13 +35,12 @@ overflow_add-m c =
     )
 
 pub loop-i-preserved : goal.loop-i-preserved
-loop-i-preserved c =
-    (
-      search rules,
-      ⊎_elim (λ w. turn (goal.at.loop-i-preserved c).In-loop-i _ 1 (ap one (eq-eqb _ _ w.0.taken)) w.1)
-          (λ w. turn (goal.at.loop-i-preserved c).In-loop-i _ 0 (ap one (ne_eqb _ _ w.0.left)) (w.1 ∙ sym (add-zero _)))
-          c.if-table-x.branch,
-    )
+loop-i-preserved c = (
+  search rules,
+  ⊎_elim (λ w. turn (goal.at.loop-i-preserved c).In-loop-i _ 1 (ap one (eq-eqb _ _ w.0.taken)) w.1)
+      (λ w. turn (goal.at.loop-i-preserved c).In-loop-i _ 0 (ap one (ne_eqb _ _ w.0.left)) (w.1 ∙ sym (add-zero _)))
+      c.if-table-x.branch,
+)
 
 pub returns : goal.returns
 unfolding matching

@@ -9,7 +9,7 @@ use Rattle.candidates.specs.Light.{light}
 use Rattle.walks.specs.Printed.{kept, cut, kept-none, kept-room, laid_kept, laid-left, cut-more, cut-here}
 use borrow.Author.Rules.{rules}
 use Rattle.walks.proofs.put_listed.Goals as goal
-use Rattle.walks.proofs.put_listed.Goals.{After-is_light, Else-size-t}
+use Rattle.walks.proofs.put_listed.Goals.{After-is_light, Else-size-t, then-is_light, else-is_light}
 
 -- a number that is looked at is below the cut
 inside : (c : goal.Else-size-t) → c.loop-place.place
@@ -29,7 +29,10 @@ room c h =
       arith,
       p.invariant.2.counted,
       c.requires.0,
-      kept-room a.w a.list.now p.place (cut a.n a.list.now) (sym c.is_light.ensures ∙ h) (inside (goal.up c)),
+      kept-room a.w a.list.now p.place (cut a.n a.list.now) (sym c.is_light.ensures ∙ h) ((let it : c.loop-place.place
+          < cut c.args.n c.args.list.now = let p = c.loop-place in
+          let a = c.args in
+          cut-more a.n a.list.now p.place p.invariant.1 (search rules) (omega arith) in it)),
     )
 
 pub loop-place-init : goal.loop-place-init
@@ -61,10 +64,10 @@ loop-place-preserved c =
     let light = c.is_light.ensures in (
       search rules,
       omega (arith, inside (goal.at.loop-place-preserved c).Else-size-t),
-      ⊎_elim
-          (λ v. laid_kept _ _ p.place _ _ _ p.count _ p.invariant.2 (sym light ∙ v.0.taken) (room (goal.at.loop-place-preserved c).After-is_light v.0.taken) v.1 v.2)
-          (λ v. laid-left _ _ p.place _ _ _ p.count _ p.invariant.2 (sym light ∙ v.0.left) v.1 v.2)
-          c.if-is_light.branch,
+      elim c.if-is_light.branch [
+        | then-is_light v ↦ laid_kept _ _ p.place _ _ _ p.count _ p.invariant.2 (sym light ∙ v.if-is_light.true) (room (goal.at.loop-place-preserved c).After-is_light v.if-is_light.true) v.out-is v.count-is
+        | else-is_light v ↦ laid-left _ _ p.place _ _ _ p.count _ p.invariant.2 (sym light ∙ v.if-is_light.false) v.out-is v.count-is
+      ],
     )
 
 pub returns : goal.returns

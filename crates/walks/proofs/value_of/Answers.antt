@@ -4,6 +4,7 @@ use native.Mathlib.Omega.{arith}
 use Rattle.walks.specs.Ascending.{value_found, value-missing}
 use borrow.Author.Rules.{rules}
 use Rattle.walks.proofs.value_of.Goals as goal
+use Rattle.walks.proofs.value_of.Goals.{then-place-count+else-walk-place, else-place-count}
 
 pub returns-then-walk-place : goal.returns-then-walk-place
 returns-then-walk-place c =
@@ -14,4 +15,4 @@ pub returns : goal.returns
 returns c =
     let a = c.args in
     value-missing a.walk.now a.count c.requires.2 a.values.now a.t _ c.place_of-place.ensures
-    (⊎_elim (λ v h e. v.2.left e) (λ v h e. omega arith) c.if-place-count.branch)
+    (elim c.if-place-count.branch [ then-place-count+else-walk-place v ↦ λ h e. v.if-walk-place.false e | else-place-count v ↦ λ h e. omega arith ])

@@ -1,0 +1,17 @@
+-- `read_chains::meet_last` meets its contract: the line's pieces are met one after the other. Assumes nothing.
+use mathlib.Core.List.{[], ◌∷◌, ◌++◌}
+use Prim.Native.Nat.{◌+◌}
+use native.Mathlib.Omega.{arith}
+use Rattle.slices.specs.Places.{at}
+use Rattle.block.specs.Model.{x_name, z_name}
+use Rattle.read_names.specs.Met.{met-and}
+use borrow.Author.Rules.{rules}
+use Rattle.read_chains.proofs.meet_last.Goals as goal
+
+pub returns : goal.returns
+returns c =
+    let a = c.args in
+    let t = a.text.now in
+    met-and t (omega arith) a.at (32 ∷ x_name a.b) (32 ∷ z_name a.i ++ (10 ∷ [])) c.meet_input-input.ensures
+    (met-and t (omega arith) c.meet_input-input.result (32 ∷ []) (z_name a.i ++ (10 ∷ [])) c.meet_byte-gap.ensures
+    (met-and t (omega arith) c.meet_byte-gap.result (z_name a.i) (10 ∷ []) c.meet_name-name.ensures c.meet_byte.ensures))

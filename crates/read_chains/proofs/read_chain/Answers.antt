@@ -1,0 +1,76 @@
+use mathlib.Core.Path.{sym, ◌∙◌}
+use mathlib.Core.List.{List}
+use Prim.Native.Nat.{ℕ, ◌+◌, ◌-◌, ◌^◌, ◌≤◌, ◌<◌}
+use native.Mathlib.Omega.{arith}
+use Rattle.slices.specs.Places.{at}
+use Rattle.read_chains.specs.Chains.{Chaining, Going, power_small}
+use Rattle.block.specs.ModelRead.{State}
+use Rattle.read_chains.specs.Chains.{Grown, going-first, going-none, going-last, going-broken, going-part, few-parts, parts_more}
+use borrow.Author.Rules.{rules}
+use Rattle.read_chains.proofs.read_chain.Goals as goal
+
+pub loop-all-init : goal.loop-all-init
+loop-all-init c = (search rules, omega arith, omega arith, λ st h. going-first h)
+
+pub read_link-requires : goal.read_link-requires
+read_link-requires c = omega arith
+
+pub returns-in-None : goal.returns-in-None
+returns-in-None c =
+    let a = c.args in
+    let l = c.loop-all in
+    λ st h.
+    going-none a.text.now (omega arith) a.n a.i st a.at l.m l.part l.from l.begun (l.invariant.3 st h)
+    (sym c.in-None.is ∙ c.read_link.ensures.value)
+
+pub returns-in-Last : goal.returns-in-Last
+unfolding Grown
+returns-in-Last c =
+    let a = c.args in
+    let l = c.loop-all in
+    let e = c.all-1.given in
+    λ st h.
+    going-last a.text.now (omega arith) a.n a.i st a.at l.m l.part l.from l.begun (l.invariant.3 st h) e.0.0 e.0.1.0
+    (sym e.1 ∙ c.read_link.ensures.value) (rw e.1 at c.read_link.ensures.grown)
+    c.end_row.result c.end_row.ensures
+
+pub returns-in-Stop : goal.returns-in-Stop
+returns-in-Stop c =
+    let a = c.args in
+    let l = c.loop-all in
+    let e = c.more-1.given in
+    λ st h.
+    going-broken a.text.now (omega arith) a.n a.i st a.at l.m l.part l.from l.begun (l.invariant.3 st h) e.0.0 e.0.1.0
+    (sym e.1 ∙ c.read_link.ensures.value) c.in-Stop.bad
+    (rw c.in-Stop.is at c.read_xor.ensures)
+
+pub meet_so_far-begun-requires : goal.meet_so_far-begun-requires
+meet_so_far-begun-requires c = omega arith
+
+pub overflow_add-part : goal.overflow_add-part
+overflow_add-part c = omega arith
+
+pub loop-all-smaller : goal.loop-all-smaller
+unfolding Grown
+loop-all-smaller c =
+    let e = c.more-1.given in
+    let g = rw e.1 at c.read_link.ensures.grown in
+    omega (arith, g.0, g.1)
+
+pub loop-all-preserved : goal.loop-all-preserved
+unfolding Grown
+loop-all-preserved c =
+    let a = c.args in
+    let l = c.loop-all in
+    let e = c.more-1.given in
+    let k = c.read_link.ensures in
+    let g = rw e.1 at k.grown in
+    let d = parts_more l.m e.0.0 l.part l.invariant.1 g.1 in (
+      g.0,
+      d,
+      few-parts e.0.0 (l.part + 1) (omega (arith, g.0, power_small a.n (omega arith))) d,
+      λ st h.
+          going-part a.text.now (omega arith) a.n a.i st a.at l.m l.part l.from l.begun (l.invariant.3 st h) e.0.0 e.0.1.0
+          (sym e.1 ∙ k.value) c.in-After.next
+          (rw c.in-After.is at c.read_xor.ensures) c.meet_so_far-begun.result c.meet_so_far-begun.ensures,
+    )

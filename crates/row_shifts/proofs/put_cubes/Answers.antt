@@ -1,0 +1,109 @@
+use mathlib.Core.Path.{◌≡◌, refl, ◌∙◌}
+use mathlib.Core.Logic.{⊎_elim}
+use Prim.Native.Nat.{◌≤◌, ◌<◌, ◌+◌, ◌-◌, ◌*◌}
+use native.Mathlib.Omega.{arith}
+use lib.ListN.{length}
+use Rattle.block.specs.Words.{rows_of}
+use Rattle.pair_laws.specs.Theorem.{often}
+use Rattle.pair_laws.specs.Symmetric.{cubes_to, cubes-none}
+use Rattle.pair_weights.specs.Places.{cube_of}
+use Rattle.missing_points.specs.Rows.{mask-fixed}
+use Rattle.missing_points.specs.Looped.{cubes-put, cubes-pass, cubes-fit, cubes-number, row_done, rows-done}
+use Rattle.row_shifts.specs.Stored.{CubesAt, Grown, cubes-at-none, grown-more, grown-same}
+use borrow.Author.Rules.{rules}
+use Rattle.row_shifts.proofs.put_cubes.Goals as goal
+use Rattle.row_shifts.proofs.put_cubes.Goals.{At-loop-j, In-loop-j}
+
+abbrev outer : goal.At-loop-j → tie.At-loop invariant-loop2 decreases-loop2 invariant-loop decreases-loop
+outer c =
+    c
+
+-- one cube more has room
+fits : (c : goal.In-loop-j) → c.loop-j.count * 2 < length (start ((let it : tie.At-loop invariant-loop2 decreases-loop2 invariant-loop decreases-loop = c in it))).args.masks.now * (length (start ((let it : tie.At-loop invariant-loop2 decreases-loop2 invariant-loop decreases-loop = c in it))).args.masks.now + 1)
+fits c =
+    let row = (let it : tie.At-loop invariant-loop2 decreases-loop2 invariant-loop decreases-loop = c in it) in
+    omega (arith, cubes-fit c.args.missing c.args.more c.args.n c.requires.n_le_list_inputs.2 row.loop.i c.loop-j.j (omega arith) (omega arith))
+
+pub loop-i-init : goal.loop-i-init
+loop-i-init c =
+    let a = c.args in (
+      search rules,
+      search rules,
+      search rules,
+      search rules,
+      rw (cubes-none (often a.missing a.more) a.n (rows_of a.masks.now a.values.now a.words.now))
+          (cubes-at-none a.cube_masks.now a.cube_values.now a.cube_weights.now),
+    )
+
+pub loop-j-init : goal.loop-j-init
+loop-j-init c = (
+  search rules,
+  search rules,
+  search rules,
+  record { masks = refl; values = refl; weights = refl; count = c.loop-i.invariant.4.count; lie = λ m₀ v₀ w₀ a b d s. s },
+)
+
+shared-slice-read-times-of :
+    tie.Need-shared-slice-read-times-of invariant-loop2 decreases-loop2 invariant-loop decreases-loop
+shared-slice-read-times-of c = search rules
+
+shared-slice-read-times-of-2 :
+    tie.Need-shared-slice-read-times-of-2 invariant-loop2 decreases-loop2 invariant-loop decreases-loop
+shared-slice-read-times-of-2 c = search rules
+
+pub put_cube-requires : goal.put_cube-requires
+put_cube-requires c =
+    let s = start (outer (goal.at.put_cube-requires c).At-loop-j) in
+    let small = fits (goal.at.put_cube-requires c).In-loop-j in
+    let below = mask-fixed s.args.n s.pre.0.2 s.pre.1.0 in record {
+      n_le_list_inputs = (search rules, search rules, search rules, search rules);
+      i_bound = (below _ (omega arith), below _ (omega arith), search rules);
+      place_in_bounds = (omega arith, omega arith, omega arith);
+    }
+
+pub overflow_add-count : goal.overflow_add-count
+overflow_add-count c =
+    let s = start (outer (goal.at.overflow_add-count c).At-loop-j) in
+    omega (arith, fits (goal.at.overflow_add-count c).In-loop-j, cubes-number s.pre.0.2)
+
+pub loop-j-preserved : goal.loop-j-preserved
+loop-j-preserved c =
+    let o = c.loop-j in
+    let row = outer (goal.at.loop-j-preserved c).At-loop-j in
+    let i = row.loop.i in
+    let a = c.args in
+    let l = c.requires.n_le_list_inputs.2 in
+    let small = fits (goal.at.loop-j-preserved c).In-loop-j in
+    let times = c.times_of-times in (
+      search rules,
+      search rules,
+      search rules,
+      ⊎_elim
+          (λ w.
+          grown-more _ _ _ _ _ _ _ _ _ _ _ _ _ _ _ o.invariant.3
+          (cube_of a.n times.result a.masks.now a.values.now i o.j)
+          (omega arith) (omega arith) (omega arith)
+          (cubes-put a.missing a.more a.n l i o.j (omega arith) (omega arith) (omega arith) _ times.ensures.value w.0.taken)
+          (w.11 ∙ w.4.ensures.0) (w.12 ∙ w.4.ensures.1.0) (w.13 ∙ w.4.ensures.1.1) w.14)
+          (λ w.
+          grown-same _ _ _ _ _ _ _ _ _ _ _ _ _ _ _ o.invariant.3
+          (cubes-pass a.missing a.more a.n l i o.j (omega arith) (omega arith) _ times.ensures.value w.0.left)
+          w.1 w.2 w.3 w.4)
+          c.if-times-gt0.branch,
+    )
+
+pub loop-i-preserved : goal.loop-i-preserved
+loop-i-preserved c =
+    let o = (outer (goal.at.loop-i-preserved c).At-loop-j).loop in
+    let s = start (outer (goal.at.loop-i-preserved c).At-loop-j) in (
+      search rules,
+      omega arith,
+      omega arith,
+      omega arith,
+      rw (row_done s.args.missing s.args.more s.args.n s.pre.0.2 o.i c.loop-j.j (omega arith))
+          (c.loop-j.invariant.3.lie _ _ _ o.inv.1 o.inv.2 o.inv.3 o.inv.4),
+    )
+
+pub returns : goal.returns
+returns c =
+    rw (rows-done c.args.missing c.args.more c.args.n c.requires.n_le_list_inputs.2 c.loop-i.i (omega arith)) c.loop-i.invariant.4

@@ -1,0 +1,57 @@
+-- `row_shifts::shift_of_rows` meets its contract: what the points and the pairs add is R with what the rows take. Assumes nothing.
+use mathlib.Core.Path.{◌≡◌}
+use Prim.Native.Nat.{◌+◌}
+use native.Mathlib.Omega.{arith}
+use lib.Pow.{pow_mono}
+use Rattle.block.specs.Limits.{list_inputs}
+use Rattle.block.specs.Words.{of_rows, rows_of}
+use Rattle.block.specs.Measure.{shift}
+use Rattle.pair_laws.specs.Theorem.{counts-le, taken-le, shift_le}
+use Rattle.missing_points.specs.Looped.{shift-parts}
+use borrow.Author.Rules.{rules}
+use Rattle.row_shifts.proofs.shift_of_rows.Goals as goal
+use Rattle.row_shifts.proofs.shift_of_rows.Goals.{After-pairs_add}
+
+-- where the function begins, from the pairs
+abbrev begin : goal.After-pairs_add → tie.Start
+begin c =
+    c
+
+pub pairs_add-requires : goal.pairs_add-requires
+pairs_add-requires c =
+    record {
+      n_le_list_inputs = (c.requires.n_le_list_inputs.0, c.requires.n_le_list_inputs.1, omega (arith, c.missing_counts-more.ensures, counts-le c.args.missing), c.requires.n_le_list_inputs.2);
+      disjoint = c.requires.disjoint;
+    }
+
+-- what the points and the pairs add
+sums : (c : goal.After-pairs_add) → c.points_of-points.result + c.pairs_add.result
+    ≡ shift
+    (of_rows (begin c).args.missing (rows_of (begin c).args.masks.now (begin c).args.values.now (begin c).args.words.now))
+    (begin c).args.n (begin c).args.t
+    + c.taken_of-less.result
+sums c =
+    let s = begin c in
+    let a = s.args in
+    shift-parts a.missing a.n (rows_of a.masks.now a.values.now a.words.now) s.pre.1 a.t s.pre.0.1 _ _ _ _
+    c.missing_counts-more.ensures c.points_of-points.ensures c.taken_of-less.ensures c.pairs_add.ensures
+
+pub overflow_add-result : goal.overflow_add-result
+overflow_add-result c =
+    let s = begin (goal.at.overflow_add-result c).After-pairs_add in
+    let a = s.args in
+    let rs = rows_of a.masks.now a.values.now a.words.now in
+    omega (
+      arith,
+      sums (goal.at.overflow_add-result c).After-pairs_add,
+      c.taken_of-less.ensures,
+      shift_le (of_rows a.missing rs) a.n a.t,
+      taken-le a.missing a.n rs s.pre.1,
+      pow_mono {j = list_inputs} s.pre.0.0,
+    )
+
+pub overflow_sub-result : goal.overflow_sub-result
+overflow_sub-result c = omega (arith, sums (goal.at.overflow_sub-result c).After-pairs_add)
+
+pub returns : goal.returns
+returns c = omega (arith, sums (goal.at.returns c).After-pairs_add)
