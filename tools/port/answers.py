@@ -103,6 +103,7 @@ class Function:
         self.asked = entry["asked_at"]
         self.said = []
         self.helpers = []
+        self.helper_places = {}
         self.named = set()
         self.bodies = {}
         self.arms = {p[0]: a for p, a in zip(entry["places"], entry["arms"])}
@@ -176,15 +177,17 @@ class Function:
                     return ("clauses", f"{self.root}." + new + "." + fields[0], names)
             elif fields and fields[0] == "inv":
                 fields[0] = "invariant"
-            elif len(fields) > 1 and fields[0] == "new" and callee in self.entry["params"]:
+            elif len(fields) > 1 and fields[0] in ("new", "auto") and callee in self.entry["params"]:
                 # the old pairs of what was lent
                 params, k, rest = self.entry["params"][callee], 0, fields[1:]
                 while rest and rest[0] == "1" and k < len(params) - 1:
                     k, rest = k + 1, rest[1:]
                 if rest and rest[0] == "0":
-                    fields = ["new", params[k]] + rest[1:]
+                    fields = [fields[0], params[k]] + rest[1:]
             if fields and fields[0] == "given":
                 # what a match found
+                if len(fields) == 1:
+                    return ("partial", place, [old, "given"])
                 p = self.asked_place
                 while p is not None:
                     arm = self.arms.get(p)
@@ -229,6 +232,7 @@ class Function:
                         got = p
             if got is None:
                 return m[0]
+            got = self.helper_places.get(m[1], got)
             if got == place:
                 return f"{m[1]} {root}" if goal is None else f"{m[1]} (goal.at.{goal} {root}).{self.new_place(got)}"
             if goal is None:
@@ -240,6 +244,10 @@ class Function:
                 return f"{m[1]} {root}"
             return f"{m[1]} (goal.at.{goal} {root}).{self.new_place(got)}"
 
+        for _ in range(6):
+            for r, tail in roots.items():
+                text = re.sub(r"\(" + re.escape(r) + r" ([^\s()]+)\)", lambda m: m[1] + tail, text)
+                text = re.sub(r"(?<![\w.'-])" + re.escape(r) + r" ([^\s()]+)", lambda m: m[1] + tail, text)
         # the places that lets name
         self.lets = {}
         for m in re.finditer(r"let ([^\s:=]+) = ([^\W\d][\w'₀-₉-]*)((?:\.before)*) in", text):
@@ -253,10 +261,6 @@ class Function:
         for h in self.helpers:
             text = re.sub(r"(?<![\w.'-])(" + re.escape(h) + r") ([^\W\d][\w'₀-₉-]*(?:\.before)*)(?![\w.'-])", called, text)
             text = re.sub(r"(?<![\w.'-])(" + re.escape(h) + r") \(([^\W\d][\w'₀-₉-]*(?:\.before)*)\)", called, text)
-        for _ in range(6):
-            for r, tail in roots.items():
-                text = re.sub(r"\(" + re.escape(r) + r" ([^\s()]+)\)", lambda m: m[1] + tail, text)
-                text = re.sub(r"(?<![\w.'-])" + re.escape(r) + r" ([^\s()]+)", lambda m: m[1] + tail, text)
         out, i = [], 0
         path = re.compile(r"(?<![\w.'₀-₉-])([^\W\d][\w'₀-₉-]*)((?:\.[\w'₀-₉+-]+)*)")
         let = re.compile(r"let ([^\s:=]+) = ([^\W\d][\w'₀-₉-]*)((?:\.[\w'₀-₉+-]+)*) in\s*")
@@ -266,6 +270,8 @@ class Function:
             fields = [f for f in rest.split(".") if f]
             if kind[0] == "place":
                 return self.resolve(kind[1], fields)
+            if kind[0] == "partial":
+                return self.resolve(kind[1], kind[2] + fields)
             if kind[0] == "step":
                 # a step's own fields
                 p = self.places[kind[2]]
@@ -290,7 +296,7 @@ class Function:
             m = let.match(text, i) if text.startswith("let ", i) and (i == 0 or not re.match(r"[\w.'-]", text[i - 1])) else None
             if m and m[2] in alias:
                 got = turned(m[2], m[3])
-                if got and got[0] == "place":
+                if got and got[0] in ("place", "partial"):
                     alias[m[1]] = got
                     i = m.end()
                     continue
@@ -322,12 +328,21 @@ class Function:
         text = "".join(out)
         text = re.sub(r"(?<![\w.'-])not-(?:true|false) _ (\S*if-not-[\w+-]*\.(?:true|false))", r"\1", text)
         text = re.sub(r"(?<![\w.'-])not-(?:true|false) [^\s()]+ (\S*if-not-[\w+-]*\.(?:true|false))", r"\1", text)
+        text = re.sub(r"(\.in-[\w+-]+)\.keys\d+(?![\w'-])", r"\1.is", text)
         return text
 
     def resolve_step(self, kind, name, fields):
+        if fields[0] == "given":
+            return self.resolve(kind[2], [self.places[kind[2]][2][0]] + fields)
         if kind[1].endswith(".args") or self.places[kind[2]][2][1].startswith("loop"):
             fields[0] = fields[0].replace("-", "_")
         callee = self.places[kind[2]][3]
+        if len(fields) > 1 and fields[0] == "new" and callee in self.entry["params"]:
+            params, k, rest = self.entry["params"][callee], 0, fields[1:]
+            while rest and rest[0] == "1" and k < len(params) - 1:
+                k, rest = k + 1, rest[1:]
+            if rest and rest[0] == "0":
+                fields = ["new", params[k]] + rest[1:]
         if fields[0] == "inv":
             fields[0] = "invariant"
         if fields[0] in ("ensures", "post"):
@@ -347,6 +362,8 @@ class Function:
 
 def declarations(text):
     """Header lines, use lines, and the top-level declarations as (comment, name, modifiers, type, rest)."""
+    # a type that begins on the next line
+    text = re.sub(r"(?m)^((?:(?:pub|abbrev|unfoldable) )*[^\s(){}]+ :)\n +(?=\S)", r"\1 ", text)
     lines = text.split("\n")
     head, uses, blocks = [], [], []
     i = 0
@@ -405,7 +422,7 @@ def turn(crate, name, entry, clauses):
     folder = f"crates/{crate}/proofs/" + name.replace(".", "/")
     path = folder + "/Proof.antt"
     with open(path, encoding="utf-8") as f:
-        text = f.read()
+        text = re.sub(r"(?m)^(\S.* :)\n +(tie\.)", r"\1 \2", f.read())
     fn = Function(crate, name, entry, clauses)
     head, uses, blocks = declarations(text)
     uses = [u for u in uses if ".Statement.{" not in u and not re.search(r"\.Tie(?: as |\.|$)", u)]
@@ -421,6 +438,9 @@ def turn(crate, name, entry, clauses):
         whole = "\n".join(block)
         if label and label not in roots and re.match(r"((?:(?:pub|abbrev|unfoldable) )*)" + re.escape(label) + r" : (?:\(\w+ : )?tie\.([\w-]+)", whole) and not re.search(r" : tie\.(Need|invariant|decreases)", block[0]):
             fn.helpers.append(label)
+            spot = re.match(r"((?:(?:pub|abbrev|unfoldable) )*)" + re.escape(label) + r" : (?:\(\w+ : )?tie\.([\w-]+)", whole)[2]
+            if norm(spot) in fn.place_of:
+                fn.helper_places[label] = fn.place_of[norm(spot)]
     for comment, label, mods, block in blocks:
         whole = "\n".join(block)
         sign = block[0]
@@ -513,7 +533,18 @@ def turn(crate, name, entry, clauses):
                     keep = [(n, p) for n, p in zip(names, parts)]
                     body = body[:at] + "record {\n" + "".join(f"      {n} = {p};\n" for n, p in keep) + "    }"
                 elif parts is None and not body.rstrip().endswith("}"):
-                    fn.look(f"{label}: {len(names)} clauses, and no tuple")
+                    # a lemma gives the pairs
+                    depth, cut, k = 0, 0, 0
+                    while k < len(body):
+                        if body[k] in "([{":
+                            depth += 1
+                        elif body[k] in ")]}":
+                            depth -= 1
+                        elif depth == 0 and re.match(r"in\s", body[k:]) and (k == 0 or body[k - 1].isspace()):
+                            cut = k + 3
+                        k += 1
+                    tails = ["." + "1." * i + "0" for i in range(len(names) - 1)] + ["." + ".".join(["1"] * (len(names) - 1))]
+                    body = body[:cut] + ("\n    " if cut else "") + "let whole =\n    " + body[cut:].strip() + " in\n    record { " + "; ".join(f"{n} = whole{x}" for n, x in zip(names, tails)) + " }"
                 elif parts and len(parts) != len(names):
                     fn.look(f"{label}: {len(names)} clauses, and {len(parts)} parts")
             body = fn.walk(body, place, roots, new)

@@ -28,20 +28,18 @@ unfolding Grown
 returns-in-Last c =
     let a = c.args in
     let l = c.loop-all in
-    let e = c.all-1.given in
     λ st h.
-    going-last a.text.now (omega arith) a.n a.i st a.at l.m l.part l.from l.begun (l.invariant.3 st h) e.0.0 e.0.1.0
-    (sym e.1 ∙ c.read_link.ensures.value) (rw e.1 at c.read_link.ensures.grown)
+    going-last a.text.now (omega arith) a.n a.i st a.at l.m l.part l.from l.begun (l.invariant.3 st h) c.in-Last.all c.in-Last.to
+    (sym c.in-Last.is ∙ c.read_link.ensures.value) (rw c.in-Last.is at c.read_link.ensures.grown)
     c.end_row.result c.end_row.ensures
 
 pub returns-in-Stop : goal.returns-in-Stop
 returns-in-Stop c =
     let a = c.args in
     let l = c.loop-all in
-    let e = c.more-1.given in
     λ st h.
-    going-broken a.text.now (omega arith) a.n a.i st a.at l.m l.part l.from l.begun (l.invariant.3 st h) e.0.0 e.0.1.0
-    (sym e.1 ∙ c.read_link.ensures.value) c.in-Stop.bad
+    going-broken a.text.now (omega arith) a.n a.i st a.at l.m l.part l.from l.begun (l.invariant.3 st h) c.in-Part.more c.in-Part.to
+    (sym c.in-Part.is ∙ c.read_link.ensures.value) c.in-Stop.bad
     (rw c.in-Stop.is at c.read_xor.ensures)
 
 pub meet_so_far-begun-requires : goal.meet_so_far-begun-requires
@@ -53,8 +51,7 @@ overflow_add-part c = omega arith
 pub loop-all-smaller : goal.loop-all-smaller
 unfolding Grown
 loop-all-smaller c =
-    let e = c.more-1.given in
-    let g = rw e.1 at c.read_link.ensures.grown in
+    let g = rw c.in-Part.is at c.read_link.ensures.grown in
     omega (arith, g.0, g.1)
 
 pub loop-all-preserved : goal.loop-all-preserved
@@ -62,15 +59,14 @@ unfolding Grown
 loop-all-preserved c =
     let a = c.args in
     let l = c.loop-all in
-    let e = c.more-1.given in
     let k = c.read_link.ensures in
-    let g = rw e.1 at k.grown in
-    let d = parts_more l.m e.0.0 l.part l.invariant.1 g.1 in (
+    let g = rw c.in-Part.is at k.grown in
+    let d = parts_more l.m c.in-Part.more l.part l.invariant.1 g.1 in (
       g.0,
       d,
-      few-parts e.0.0 (l.part + 1) (omega (arith, g.0, power_small a.n (omega arith))) d,
+      few-parts c.in-Part.more (l.part + 1) (omega (arith, g.0, power_small a.n (omega arith))) d,
       λ st h.
-          going-part a.text.now (omega arith) a.n a.i st a.at l.m l.part l.from l.begun (l.invariant.3 st h) e.0.0 e.0.1.0
-          (sym e.1 ∙ k.value) c.in-After.next
+          going-part a.text.now (omega arith) a.n a.i st a.at l.m l.part l.from l.begun (l.invariant.3 st h) c.in-Part.more c.in-Part.to
+          (sym c.in-Part.is ∙ k.value) c.in-After.next
           (rw c.in-After.is at c.read_xor.ensures) c.meet_so_far-begun.result c.meet_so_far-begun.ensures,
     )

@@ -13,8 +13,10 @@ use Rattle.read_chains.proofs.read_link.Goals as goal
 pub returns-then-n-b : goal.returns-then-n-b
 returns-then-n-b c =
     let a = c.args in
+    let whole =
     link-told a.text.now a.at a.n a.m a.i a.p
-    (link-none a.text.now (omega arith) a.at a.n a.m a.i a.p c.link_input-b.result c.link_input-b.ensures c.if-n-b.true)
+    (link-none a.text.now (omega arith) a.at a.n a.m a.i a.p c.link_input-b.result c.link_input-b.ensures c.if-n-b.true) in
+    record { value = whole.0; grown = whole.1 }
 
 pub overflow_add-inputs : goal.overflow_add-inputs
 overflow_add-inputs c =
@@ -26,16 +28,20 @@ pub returns-then-last : goal.returns-then-last
 returns-then-last c =
     let a = c.args in
     let f = c.link_input-b in
+    let whole =
     link-told a.text.now a.at a.n a.m a.i a.p
     (ap₂ Last (ap (λ (x : ℕ). a.m + x) c.power.ensures) c.meet_last-last.ensures
     ∙ link-last a.text.now (omega arith) a.at a.n a.m a.i a.p f.result f.ensures c.if-n-b.false
-    (λ d. c.if-last.true (c.meet_last-last.ensures ∙ d ∙ lost-is)))
+    (λ d. c.if-last.true (c.meet_last-last.ensures ∙ d ∙ lost-is))) in
+    record { value = whole.0; grown = whole.1 }
 
 pub returns : goal.returns
 returns c =
     let a = c.args in
     let f = c.link_input-b in
+    let whole =
     link-told a.text.now a.at a.n a.m a.i a.p
     (ap₂ Part (ap (λ (x : ℕ). a.m + x) c.power.ensures) c.meet_more.ensures
     ∙ link-part a.text.now (omega arith) a.at a.n a.m a.i a.p f.result f.ensures c.if-n-b.false
-    (sym c.meet_last-last.ensures ∙ c.if-last.false ∙ sym lost-is))
+    (sym c.meet_last-last.ensures ∙ c.if-last.false ∙ sym lost-is)) in
+    record { value = whole.0; grown = whole.1 }

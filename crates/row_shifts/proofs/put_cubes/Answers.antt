@@ -1,5 +1,4 @@
 use mathlib.Core.Path.{◌≡◌, refl, ◌∙◌}
-use mathlib.Core.Logic.{⊎_elim}
 use Prim.Native.Nat.{◌≤◌, ◌<◌, ◌+◌, ◌-◌, ◌*◌}
 use native.Mathlib.Omega.{arith}
 use lib.ListN.{length}
@@ -12,17 +11,13 @@ use Rattle.missing_points.specs.Looped.{cubes-put, cubes-pass, cubes-fit, cubes-
 use Rattle.row_shifts.specs.Stored.{CubesAt, Grown, cubes-at-none, grown-more, grown-same}
 use borrow.Author.Rules.{rules}
 use Rattle.row_shifts.proofs.put_cubes.Goals as goal
-use Rattle.row_shifts.proofs.put_cubes.Goals.{At-loop-j, In-loop-j}
-
-abbrev outer : goal.At-loop-j → tie.At-loop invariant-loop2 decreases-loop2 invariant-loop decreases-loop
-outer c =
-    c
+use Rattle.row_shifts.proofs.put_cubes.Goals.{then-times-gt0, else-times-gt0}
+use Rattle.row_shifts.proofs.put_cubes.Goals.{In-loop-j}
 
 -- one cube more has room
-fits : (c : goal.In-loop-j) → c.loop-j.count * 2 < length (start ((let it : tie.At-loop invariant-loop2 decreases-loop2 invariant-loop decreases-loop = c in it))).args.masks.now * (length (start ((let it : tie.At-loop invariant-loop2 decreases-loop2 invariant-loop decreases-loop = c in it))).args.masks.now + 1)
+fits : (c : goal.In-loop-j) → c.loop-j.count * 2 < length c.args.masks.now * (length c.args.masks.now + 1)
 fits c =
-    let row = (let it : tie.At-loop invariant-loop2 decreases-loop2 invariant-loop decreases-loop = c in it) in
-    omega (arith, cubes-fit c.args.missing c.args.more c.args.n c.requires.n_le_list_inputs.2 row.loop.i c.loop-j.j (omega arith) (omega arith))
+    omega (arith, cubes-fit c.args.missing c.args.more c.args.n c.requires.n_le_list_inputs.2 c.loop-i.i c.loop-j.j (omega arith) (omega arith))
 
 pub loop-i-init : goal.loop-i-init
 loop-i-init c =
@@ -43,19 +38,10 @@ loop-j-init c = (
   record { masks = refl; values = refl; weights = refl; count = c.loop-i.invariant.4.count; lie = λ m₀ v₀ w₀ a b d s. s },
 )
 
-shared-slice-read-times-of :
-    tie.Need-shared-slice-read-times-of invariant-loop2 decreases-loop2 invariant-loop decreases-loop
-shared-slice-read-times-of c = search rules
-
-shared-slice-read-times-of-2 :
-    tie.Need-shared-slice-read-times-of-2 invariant-loop2 decreases-loop2 invariant-loop decreases-loop
-shared-slice-read-times-of-2 c = search rules
-
 pub put_cube-requires : goal.put_cube-requires
 put_cube-requires c =
-    let s = start (outer (goal.at.put_cube-requires c).At-loop-j) in
     let small = fits (goal.at.put_cube-requires c).In-loop-j in
-    let below = mask-fixed s.args.n s.pre.0.2 s.pre.1.0 in record {
+    let below = mask-fixed c.args.n c.requires.n_le_list_inputs.2 c.requires.every in record {
       n_le_list_inputs = (search rules, search rules, search rules, search rules);
       i_bound = (below _ (omega arith), below _ (omega arith), search rules);
       place_in_bounds = (omega arith, omega arith, omega arith);
@@ -63,14 +49,12 @@ put_cube-requires c =
 
 pub overflow_add-count : goal.overflow_add-count
 overflow_add-count c =
-    let s = start (outer (goal.at.overflow_add-count c).At-loop-j) in
-    omega (arith, fits (goal.at.overflow_add-count c).In-loop-j, cubes-number s.pre.0.2)
+    omega (arith, fits (goal.at.overflow_add-count c).In-loop-j, cubes-number c.requires.n_le_list_inputs.2)
 
 pub loop-j-preserved : goal.loop-j-preserved
 loop-j-preserved c =
     let o = c.loop-j in
-    let row = outer (goal.at.loop-j-preserved c).At-loop-j in
-    let i = row.loop.i in
+    let i = c.loop-i.i in
     let a = c.args in
     let l = c.requires.n_le_list_inputs.2 in
     let small = fits (goal.at.loop-j-preserved c).In-loop-j in
@@ -78,30 +62,29 @@ loop-j-preserved c =
       search rules,
       search rules,
       search rules,
-      ⊎_elim
-          (λ w.
-          grown-more _ _ _ _ _ _ _ _ _ _ _ _ _ _ _ o.invariant.3
-          (cube_of a.n times.result a.masks.now a.values.now i o.j)
-          (omega arith) (omega arith) (omega arith)
-          (cubes-put a.missing a.more a.n l i o.j (omega arith) (omega arith) (omega arith) _ times.ensures.value w.0.taken)
-          (w.11 ∙ w.4.ensures.0) (w.12 ∙ w.4.ensures.1.0) (w.13 ∙ w.4.ensures.1.1) w.14)
-          (λ w.
-          grown-same _ _ _ _ _ _ _ _ _ _ _ _ _ _ _ o.invariant.3
-          (cubes-pass a.missing a.more a.n l i o.j (omega arith) (omega arith) _ times.ensures.value w.0.left)
-          w.1 w.2 w.3 w.4)
-          c.if-times-gt0.branch,
+      elim c.if-times-gt0.branch [
+        | then-times-gt0 w ↦
+            grown-more _ _ _ _ _ _ _ _ _ _ _ _ _ _ _ o.invariant.3
+            (cube_of a.n times.result a.masks.now a.values.now i o.j)
+            (omega arith) (omega arith) (omega arith)
+            (cubes-put a.missing a.more a.n l i o.j (omega arith) (omega arith) (omega arith) _ times.ensures.value w.if-times-gt0.true)
+            (w.cube_masks-is ∙ w.put_cube.ensures.cube_masks_after) (w.cube_values-is ∙ w.put_cube.ensures.cube_values_after) (w.cube_weights-is ∙ w.put_cube.ensures.cube_weights_after) w.count-is
+        | else-times-gt0 w ↦
+            grown-same _ _ _ _ _ _ _ _ _ _ _ _ _ _ _ o.invariant.3
+            (cubes-pass a.missing a.more a.n l i o.j (omega arith) (omega arith) _ times.ensures.value w.if-times-gt0.false)
+            w.cube_masks-is w.cube_values-is w.cube_weights-is w.count-is
+      ],
     )
 
 pub loop-i-preserved : goal.loop-i-preserved
 loop-i-preserved c =
-    let o = (outer (goal.at.loop-i-preserved c).At-loop-j).loop in
-    let s = start (outer (goal.at.loop-i-preserved c).At-loop-j) in (
+    let o = c.loop-i in (
       search rules,
       omega arith,
       omega arith,
       omega arith,
-      rw (row_done s.args.missing s.args.more s.args.n s.pre.0.2 o.i c.loop-j.j (omega arith))
-          (c.loop-j.invariant.3.lie _ _ _ o.inv.1 o.inv.2 o.inv.3 o.inv.4),
+      rw (row_done c.args.missing c.args.more c.args.n c.requires.n_le_list_inputs.2 o.i c.loop-j.j (omega arith))
+          (c.loop-j.invariant.3.lie _ _ _ o.invariant.1 o.invariant.2 o.invariant.3 o.invariant.4),
     )
 
 pub returns : goal.returns

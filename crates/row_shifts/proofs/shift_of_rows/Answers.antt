@@ -12,11 +12,6 @@ use borrow.Author.Rules.{rules}
 use Rattle.row_shifts.proofs.shift_of_rows.Goals as goal
 use Rattle.row_shifts.proofs.shift_of_rows.Goals.{After-pairs_add}
 
--- where the function begins, from the pairs
-abbrev begin : goal.After-pairs_add → tie.Start
-begin c =
-    c
-
 pub pairs_add-requires : goal.pairs_add-requires
 pairs_add-requires c =
     record {
@@ -27,27 +22,25 @@ pairs_add-requires c =
 -- what the points and the pairs add
 sums : (c : goal.After-pairs_add) → c.points_of-points.result + c.pairs_add.result
     ≡ shift
-    (of_rows (begin c).args.missing (rows_of (begin c).args.masks.now (begin c).args.values.now (begin c).args.words.now))
-    (begin c).args.n (begin c).args.t
+    (of_rows c.args.missing (rows_of c.args.masks.now c.args.values.now c.args.words.now))
+    c.args.n c.args.t
     + c.taken_of-less.result
 sums c =
-    let s = begin c in
-    let a = s.args in
-    shift-parts a.missing a.n (rows_of a.masks.now a.values.now a.words.now) s.pre.1 a.t s.pre.0.1 _ _ _ _
+    let a = c.args in
+    shift-parts a.missing a.n (rows_of a.masks.now a.values.now a.words.now) c.requires.disjoint a.t c.requires.n_le_list_inputs.1 _ _ _ _
     c.missing_counts-more.ensures c.points_of-points.ensures c.taken_of-less.ensures c.pairs_add.ensures
 
 pub overflow_add-result : goal.overflow_add-result
 overflow_add-result c =
-    let s = begin (goal.at.overflow_add-result c).After-pairs_add in
-    let a = s.args in
+    let a = c.args in
     let rs = rows_of a.masks.now a.values.now a.words.now in
     omega (
       arith,
       sums (goal.at.overflow_add-result c).After-pairs_add,
       c.taken_of-less.ensures,
       shift_le (of_rows a.missing rs) a.n a.t,
-      taken-le a.missing a.n rs s.pre.1,
-      pow_mono {j = list_inputs} s.pre.0.0,
+      taken-le a.missing a.n rs c.requires.disjoint,
+      pow_mono {j = list_inputs} c.requires.n_le_list_inputs.0,
     )
 
 pub overflow_sub-result : goal.overflow_sub-result

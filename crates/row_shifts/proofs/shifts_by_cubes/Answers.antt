@@ -8,11 +8,7 @@ use Rattle.slices.specs.Filled.{over_none, over-more, over-beyond}
 use Rattle.row_shifts.specs.Stored.{added_by}
 use borrow.Author.Rules.{rules}
 use Rattle.row_shifts.proofs.shifts_by_cubes.Goals as goal
-use Rattle.row_shifts.proofs.shifts_by_cubes.Goals.{After-shift_by_cubes-more, At-loop-i}
-
-abbrev round : goal.After-shift_by_cubes-more → tie.At-loop invariant-loop decreases-loop
-round c =
-    c
+use Rattle.row_shifts.proofs.shifts_by_cubes.Goals.{At-loop-i}
 
 -- the entry at i still holds what it held
 held : (c : goal.At-loop-i) → at c.loop-i.out c.loop-i.i ≡ at c.args.out.now c.loop-i.i
@@ -32,23 +28,19 @@ shift_by_cubes-more-requires c =
 
 pub overflow_add-out : goal.overflow_add-out
 overflow_add-out c =
-    let o = round (goal.at.overflow_add-out c).After-shift_by_cubes-more in
-    let p = c.requires.1.1 in
-    omega (arith, c.shift_by_cubes-more.ensures, held o, p.0 o.loop.i (omega arith), p.1.0 o.loop.i (omega arith))
+    omega (arith, c.shift_by_cubes-more.ensures, held (goal.at.overflow_add-out c).At-loop-i, c.requires.by_index c.loop-i.i (omega arith), c.requires.by_index_2 c.loop-i.i (omega arith))
 
 pub overflow_sub-out : goal.overflow_sub-out
 overflow_sub-out c =
-    let o = round (goal.at.overflow_sub-out c).After-shift_by_cubes-more in
-    omega (arith, c.shift_by_cubes-more.ensures, held o, c.requires.by_index_3 o.loop.i (omega arith))
+    omega (arith, c.shift_by_cubes-more.ensures, held (goal.at.overflow_sub-out c).At-loop-i, c.requires.by_index_3 c.loop-i.i (omega arith))
 
 pub loop-i-preserved : goal.loop-i-preserved
 loop-i-preserved c =
-    let o = round (goal.at.loop-i-preserved c).After-shift_by_cubes-more in
     let a = c.args in
     let f : ℕ → ℕ = λ j. at a.out.now j + added_by a.cube_masks.now a.cube_values.now a.cube_weights.now a.count (at a.ts.now j) - a.less in (
       search rules,
       search rules,
-      over-more _ f _ _ _ o.loop.inv.2 (ap₂ (λ (x y : ℕ). x + y - a.less) (held o) c.shift_by_cubes-more.ensures) (omega arith),
+      over-more _ f _ _ _ c.loop-i.invariant.2 (ap₂ (λ (x y : ℕ). x + y - a.less) (held (goal.at.loop-i-preserved c).At-loop-i) c.shift_by_cubes-more.ensures) (omega arith),
     )
 
 pub returns : goal.returns

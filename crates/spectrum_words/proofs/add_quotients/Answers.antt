@@ -33,23 +33,23 @@ overflow_cast-size c = record { sfits = omega (arith, pow_mono c.requires.2) }
 
 pub divide_by-requires : goal.divide_by-requires
 divide_by-requires c =
-    asked c.args.s.now c.args.out.now c.args.n c.requires (ap (λ (n : ℕ). pos (2 ^ n)) (sym c.in-12.keys1))
+    asked c.args.s.now c.args.out.now c.args.n c.requires (ap (λ (n : ℕ). pos (2 ^ n)) (sym c.in-12.is))
 
 pub divide_by-requires-in-11 : goal.divide_by-requires-in-11
 divide_by-requires-in-11 c =
-    asked c.args.s.now c.args.out.now c.args.n c.requires (ap (λ (n : ℕ). pos (2 ^ n)) (sym c.in-11.keys2))
+    asked c.args.s.now c.args.out.now c.args.n c.requires (ap (λ (n : ℕ). pos (2 ^ n)) (sym c.in-11.is))
 
 pub divide_by-requires-in-10 : goal.divide_by-requires-in-10
 divide_by-requires-in-10 c =
-    asked c.args.s.now c.args.out.now c.args.n c.requires (ap (λ (n : ℕ). pos (2 ^ n)) (sym c.in-10.keys3))
+    asked c.args.s.now c.args.out.now c.args.n c.requires (ap (λ (n : ℕ). pos (2 ^ n)) (sym c.in-10.is))
 
 pub divide_by-requires-in-9 : goal.divide_by-requires-in-9
 divide_by-requires-in-9 c =
-    asked c.args.s.now c.args.out.now c.args.n c.requires (ap (λ (n : ℕ). pos (2 ^ n)) (sym c.in-9.keys4))
+    asked c.args.s.now c.args.out.now c.args.n c.requires (ap (λ (n : ℕ). pos (2 ^ n)) (sym c.in-9.is))
 
 pub divide_by-requires-in-8 : goal.divide_by-requires-in-8
 divide_by-requires-in-8 c =
-    asked c.args.s.now c.args.out.now c.args.n c.requires (ap (λ (n : ℕ). pos (2 ^ n)) (sym c.in-8.keys5))
+    asked c.args.s.now c.args.out.now c.args.n c.requires (ap (λ (n : ℕ). pos (2 ^ n)) (sym c.in-8.is))
 
 pub divide_by-requires-in_default : goal.divide_by-requires-in_default
 divide_by-requires-in_default c =

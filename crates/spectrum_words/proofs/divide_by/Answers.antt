@@ -40,10 +40,14 @@ small c =
 given : (c : goal.After-exact_quotient) → c.exact_quotient.result
     ≡ nat_abs (val c.args.s.now c.loop-t.t) / length c.args.s.now
 given c =
-    quotient-gives ((let it : ℤ = val c.loop-t.s c.loop-t.t in it)) _ (length c.args.s.now) ((let it : nat_abs (here c) ≤ most_number = subst (λ z. nat_abs z ≤ most_number) (sym (kept c)) (c.requires.3.small _ (within c)) in it)) ((let it : to_z w32 (of_z w32 c.args.d) ≡ pos (length c.args.s.now) = let p = c.requires in
-    ap (λ z. to_z w32 (of_z w32 z)) p.0 ∙ back (pos (length c.args.s.now)) (omega (arith, p.2)) in it)) (omega arith) _ c.exact_quotient.ensures
-    ∙ ap (λ (z : ℤ). nat_abs z / length c.args.s.now) ((let it : here c ≡ val c.args.s.now c.loop-t.t = ap (λ l. val l c.loop-t.t) c.loop-t.invariant.3
-    ∙ over-beyond c.loop-t.t _ c.args.s.now (pos 0) c.loop-t.t (omega arith) in it))
+    let same : val c.loop-t.s c.loop-t.t ≡ val c.args.s.now c.loop-t.t
+    = ap (λ l. val l c.loop-t.t) c.loop-t.invariant.3 ∙ over-beyond c.loop-t.t _ c.args.s.now (pos 0) c.loop-t.t (omega arith) in
+    let low : nat_abs (val c.loop-t.s c.loop-t.t) ≤ most_number
+    = subst (λ z. nat_abs z ≤ most_number) (sym same) (c.requires.3.small _ (omega arith)) in
+    let by : to_z w32 (of_z w32 c.args.d) ≡ pos (length c.args.s.now)
+    = ap (λ z. to_z w32 (of_z w32 z)) c.requires.0 ∙ back (pos (length c.args.s.now)) (omega (arith, c.requires.2)) in
+    quotient-gives (val c.loop-t.s c.loop-t.t) _ (length c.args.s.now) low by (omega arith) _ c.exact_quotient.ensures
+    ∙ ap (λ (z : ℤ). nat_abs z / length c.args.s.now) same
 
 pub loop-t-init : goal.loop-t-init
 loop-t-init c = (search rules, search rules, search rules, over_none _ _, over_none _ _)

@@ -13,7 +13,7 @@ use Rattle.block.specs.Measure.{same, shift}
 use Rattle.table_values.specs.Points.{same-hole, same-miss, same-hit}
 use borrow.Author.Rules.{rules}
 use Rattle.table_values.proofs.shift_at.Goals as goal
-use Rattle.table_values.proofs.shift_at.Goals.{In-loop-x}
+use Rattle.table_values.proofs.shift_at.Goals.{In-loop-x, then-w+then-table-x, then-w+else-table-x, else-w}
 
 -- x XOR t is a point too
 within : (c : goal.In-loop-x) → bit_xor c.loop-x.x c.args.t < 2 ^ c.args.n
@@ -59,10 +59,13 @@ loop-x-preserved c =
     let t = c.args.t in
     let x = c.loop-x.x in (
       search rules,
-      ⊎_elim (λ w. turn (goal.at.loop-x-preserved c).In-loop-x _ 1 (same-hit l t x (here (goal.at.loop-x-preserved c).In-loop-x) (near (goal.at.loop-x-preserved c).In-loop-x) w.0.taken w.2.taken) w.3)
-          (⊎_elim (λ w. turn (goal.at.loop-x-preserved c).In-loop-x _ 0 (same-miss l t x (here (goal.at.loop-x-preserved c).In-loop-x) (near (goal.at.loop-x-preserved c).In-loop-x) w.2.left) (w.3 ∙ sym (add-zero _)))
-          (λ w. turn (goal.at.loop-x-preserved c).In-loop-x _ 0 (same-hole l t x (here (goal.at.loop-x-preserved c).In-loop-x) w.0.left) (w.1 ∙ sym (add-zero _))))
-          c.if-w.branch,
+      (let here : x < length l = omega arith in
+          let near : bit_xor x t < length l = near (goal.at.loop-x-preserved c).In-loop-x in
+          elim c.if-w.branch [
+            | then-w+then-table-x w ↦ turn (goal.at.loop-x-preserved c).In-loop-x _ 1 (same-hit l t x here near w.if-w.true w.if-table-x.true) w.r-is
+            | then-w+else-table-x w ↦ turn (goal.at.loop-x-preserved c).In-loop-x _ 0 (same-miss l t x here near w.if-table-x.false) (w.r-is ∙ sym (add-zero _))
+            | else-w w ↦ turn (goal.at.loop-x-preserved c).In-loop-x _ 0 (same-hole l t x here w.if-w.false) (w.r-is ∙ sym (add-zero _))
+          ]),
     )
 
 pub returns : goal.returns

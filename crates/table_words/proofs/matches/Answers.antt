@@ -11,7 +11,7 @@ use Rattle.sums.specs.Laws.{count-zero, count-more, count-le}
 use Rattle.table_words.specs.Matching.{matching}
 use borrow.Author.Rules.{rules}
 use Rattle.table_words.proofs.matches.Goals as goal
-use Rattle.table_words.proofs.matches.Goals.{In-loop-i}
+use Rattle.table_words.proofs.matches.Goals.{In-loop-i, then-table-x, else-table-x}
 
 -- a turn that adds v, the count's own step
 turn : (c : goal.In-loop-i) (r v : ℕ)
@@ -37,9 +37,10 @@ overflow_add-m c =
 pub loop-i-preserved : goal.loop-i-preserved
 loop-i-preserved c = (
   search rules,
-  ⊎_elim (λ w. turn (goal.at.loop-i-preserved c).In-loop-i _ 1 (ap one (eq-eqb _ _ w.0.taken)) w.1)
-      (λ w. turn (goal.at.loop-i-preserved c).In-loop-i _ 0 (ap one (ne_eqb _ _ w.0.left)) (w.1 ∙ sym (add-zero _)))
-      c.if-table-x.branch,
+  elim c.if-table-x.branch [
+    | then-table-x w ↦ turn (goal.at.loop-i-preserved c).In-loop-i _ 1 (ap one (eq-eqb _ _ w.if-table-x.true)) w.m-is
+    | else-table-x w ↦ turn (goal.at.loop-i-preserved c).In-loop-i _ 0 (ap one (ne_eqb _ _ w.if-table-x.false)) (w.m-is ∙ sym (add-zero _))
+  ],
 )
 
 pub returns : goal.returns

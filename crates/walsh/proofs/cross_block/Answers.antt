@@ -22,10 +22,10 @@ lower c =
     val c.loop-j.s (c.args.at + c.args.h + c.loop-j.j)
 
 -- the machine has both as they are, and their sum and difference fit
-module _ (c : tie.In-loop invariant-loop decreases-loop) where
+module _ (c : goal.In-loop-j) where
   small : (nat_abs (upper c) ≤ most_number) × (nat_abs (lower c) ≤ most_number)
   small =
-      crossed-small c.before.before.args.s.now _ _ _ _ c.before.before.requires.0 c.loop-test.true c.before.loop.invariant.1 c.before.before.requires.1
+      crossed-small c.args.s.now _ _ _ _ c.requires.0 c.loop-j-test.true c.loop-j.invariant.1 c.requires.1
 
   read_upper : to_z w32 (of_z w32 (upper c)) ≡ upper c
   read_upper = back (upper c) (omega (arith, small.0))
@@ -46,13 +46,13 @@ pub slice_copy_out-b : goal.slice_copy_out-b
 slice_copy_out-b c = omega (arith, c.loop-j.invariant.1.long)
 
 pub overflow_add-s : goal.overflow_add-s
-overflow_add-s c = sum_fits (read_upper c) (read_lower c) (both c)
+overflow_add-s c = sum_fits (read_upper (goal.at.overflow_add-s c).In-loop-j) (read_lower (goal.at.overflow_add-s c).In-loop-j) (both (goal.at.overflow_add-s c).In-loop-j)
 
 pub bounds-s-at : goal.bounds-s-at
 bounds-s-at c = omega (arith, c.loop-j.invariant.1.long)
 
 pub overflow_sub-s : goal.overflow_sub-s
-overflow_sub-s c = difference-fits (read_upper c) (read_lower c) (both c)
+overflow_sub-s c = difference-fits (read_upper (goal.at.overflow_sub-s c).In-loop-j) (read_lower (goal.at.overflow_sub-s c).In-loop-j) (both (goal.at.overflow_sub-s c).In-loop-j)
 
 pub bounds-s-at-in-loop-j : goal.bounds-s-at-in-loop-j
 bounds-s-at-in-loop-j c = simp length-set (omega (arith, c.loop-j.invariant.1.long))
@@ -62,8 +62,8 @@ loop-j-preserved c =
     let a = c.args in (
       search rules,
       crossed-more a.s.now _ _ _ _ _ _ c.requires.0 c.loop-j-test.true c.loop-j.invariant.1
-          (sum_back (read_upper c) (read_lower c) (both c))
-          (difference-back (read_upper c) (read_lower c) (both c)),
+          (sum_back (read_upper (goal.at.loop-j-preserved c).In-loop-j) (read_lower (goal.at.loop-j-preserved c).In-loop-j) (both (goal.at.loop-j-preserved c).In-loop-j))
+          (difference-back (read_upper (goal.at.loop-j-preserved c).In-loop-j) (read_lower (goal.at.loop-j-preserved c).In-loop-j) (both (goal.at.loop-j-preserved c).In-loop-j)),
     )
 
 pub shape_of-s : goal.shape_of-s

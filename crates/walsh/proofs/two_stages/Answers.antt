@@ -16,31 +16,31 @@ passed : (l k : List ℤ) (m : ℕ) {h x : ℕ} → h ≡ x → PassedTwice l k 
 passed l k m e p = subst (λ (x : ℕ). PassedTwice l k x m) (sym e) p
 
 pub cross_quads-requires : goal.cross_quads-requires
-cross_quads-requires c = (filled c.args.s.now c.args.m c.in-1.keys1 c.requires.0, c.requires.1)
+cross_quads-requires c = (filled c.args.s.now c.args.m c.in-1.is c.requires.0, c.requires.1)
 
 pub cross_quads-requires-in-4 : goal.cross_quads-requires-in-4
-cross_quads-requires-in-4 c = (filled c.args.s.now c.args.m c.in-4.keys2 c.requires.0, c.requires.1)
+cross_quads-requires-in-4 c = (filled c.args.s.now c.args.m c.in-4.is c.requires.0, c.requires.1)
 
 pub cross_quads-requires-in-16 : goal.cross_quads-requires-in-16
-cross_quads-requires-in-16 c = (filled c.args.s.now c.args.m c.in-16.keys3 c.requires.0, c.requires.1)
+cross_quads-requires-in-16 c = (filled c.args.s.now c.args.m c.in-16.is c.requires.0, c.requires.1)
 
 pub cross_quads-requires-in-64 : goal.cross_quads-requires-in-64
-cross_quads-requires-in-64 c = (filled c.args.s.now c.args.m c.in-64.keys4 c.requires.0, c.requires.1)
+cross_quads-requires-in-64 c = (filled c.args.s.now c.args.m c.in-64.is c.requires.0, c.requires.1)
 
 pub cross_quads-requires-in-256 : goal.cross_quads-requires-in-256
-cross_quads-requires-in-256 c = (filled c.args.s.now c.args.m c.in-256.keys5 c.requires.0, c.requires.1)
+cross_quads-requires-in-256 c = (filled c.args.s.now c.args.m c.in-256.is c.requires.0, c.requires.1)
 
 pub returns-in-1 : goal.returns-in-1
-returns-in-1 c = passed c.args.s.now c.cross_quads.new.s c.args.m c.in-1.keys1 c.cross_quads.ensures
+returns-in-1 c = passed c.args.s.now c.cross_quads.new.s c.args.m c.in-1.is c.cross_quads.ensures
 
 pub returns-in-4 : goal.returns-in-4
-returns-in-4 c = passed c.args.s.now c.cross_quads-in-4.new.s c.args.m c.in-4.keys2 c.cross_quads-in-4.ensures
+returns-in-4 c = passed c.args.s.now c.cross_quads-in-4.new.s c.args.m c.in-4.is c.cross_quads-in-4.ensures
 
 pub returns-in-16 : goal.returns-in-16
-returns-in-16 c = passed c.args.s.now c.cross_quads-in-16.new.s c.args.m c.in-16.keys3 c.cross_quads-in-16.ensures
+returns-in-16 c = passed c.args.s.now c.cross_quads-in-16.new.s c.args.m c.in-16.is c.cross_quads-in-16.ensures
 
 pub returns-in-64 : goal.returns-in-64
-returns-in-64 c = passed c.args.s.now c.cross_quads-in-64.new.s c.args.m c.in-64.keys4 c.cross_quads-in-64.ensures
+returns-in-64 c = passed c.args.s.now c.cross_quads-in-64.new.s c.args.m c.in-64.is c.cross_quads-in-64.ensures
 
 pub returns-in-256 : goal.returns-in-256
-returns-in-256 c = passed c.args.s.now c.cross_quads-in-256.new.s c.args.m c.in-256.keys5 c.cross_quads-in-256.ensures
+returns-in-256 c = passed c.args.s.now c.cross_quads-in-256.new.s c.args.m c.in-256.is c.cross_quads-in-256.ensures

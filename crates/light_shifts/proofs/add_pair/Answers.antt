@@ -1,0 +1,40 @@
+-- `light_shifts::add_pair` meets its contract: the parts that it hands on are those of the pair's cube. Assumes nothing.
+use mathlib.Core.Path.{ap, ◌∙◌}
+use Prim.Native.Nat.{ℕ, ◌+◌, ◌^◌}
+use native.Mathlib.Omega.{arith}
+use lib.Bits.{bit_and, bit_xor, bit_or, and_le_l}
+use lib.Count.{ones}
+use lib.Dec.{eqb}
+use Rattle.slices.specs.Places.{at, tab}
+use Rattle.pair_laws.specs.Symmetric.{cube, hit}
+use Rattle.light_laws.specs.Ways.{lit}
+use Rattle.light_shifts.specs.Adding.{part-again, weight-most}
+use borrow.Author.Rules.{rules}
+use Rattle.light_shifts.proofs.add_pair.Goals as goal
+
+pub add_light-requires : goal.add_light-requires
+add_light-requires c =
+    let p = c.requires in
+    let mask = at c.args.masks.now c.args.i in
+    let mask2 = at c.args.masks.now c.args.j in
+    let small = weight-most c.args.n (ones (bit_or mask mask2)) c.args.times (eqb c.args.i c.args.j) p.n_le_list_inputs.0 p.i_bound.2 in record {
+      n_le_list_inputs = (
+        p.n_le_list_inputs.0,
+        p.n_le_list_inputs.1,
+        omega (arith, p.i_bound.0, and_le_l mask mask2),
+        part-again (bit_and mask mask2) (bit_xor (at c.args.values.now c.args.i) (at c.args.values.now c.args.j)),
+        omega (arith, c.weight_of-weight.ensures, small),
+      );
+      acc_len = p.acc_len;
+    }
+
+pub returns : goal.returns
+returns c =
+    let a = c.args in
+    let mask = bit_and (at a.masks.now a.i) (at a.masks.now a.j) in
+    c.add_light.ensures
+    ∙ ap
+    (λ (x : ℕ).
+    tab (2 ^ a.n)
+    (λ t. at a.acc.now t + lit a.w t (hit t (cube mask (bit_and mask (bit_xor (at a.values.now a.i) (at a.values.now a.j))) x))))
+    c.weight_of-weight.ensures

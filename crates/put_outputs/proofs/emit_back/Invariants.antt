@@ -1,0 +1,22 @@
+-- `put_outputs::emit_back` meets its contract. The loop's invariant: the covers of the first j outputs are put, and power is 2^j. The
+-- measure is the number of outputs left. Assumes nothing.
+use Prim.Native.Nat.{ℕ, ◌+◌, ◌-◌, ◌*◌, ◌^◌, ◌≤◌}
+use mathlib.Core.Path.{◌≡◌, refl, ap, ◌∙◌}
+use native.Mathlib.Omega.{arith}
+use lib.ListN.{length}
+use Rattle.slices.specs.Places.{tab}
+use Rattle.block.specs.Model.{back_covers, patterns_of}
+use Rattle.flat_rows.specs.Listing.{rows_from}
+use Rattle.put_names.specs.Fitting.{Fitted, next, none-fitted}
+use Rattle.put_chains.specs.Texts.{cover_text}
+use Rattle.model_laws.specs.Powers.{power-more, power_le}
+use Rattle.put_outputs.specs.Outputs.{back_none, back_more}
+use borrow.Author.Rules.{rules}
+use Rattle.put_outputs.proofs.emit_back.Given as goal
+
+abbrev pub invariant-loop-j : goal.invariant-loop-j
+invariant-loop-j l = (l.j ≤ l.k) × (l.power ≡ 2 ^ l.j) × (l.to ≤ l.at + l.j * 60000) × (length l.out ≡ length l.initial.out)
+    × Fitted l.initial.out l.at (cover_text (back_covers l.n 0 (tab l.j (λ i. patterns_of i (rows_from l.p l.masks l.values l.words))))) l.out l.to
+
+abbrev pub decreases-loop-j : goal.decreases-loop-j
+decreases-loop-j l = l.k - l.j
