@@ -177,13 +177,13 @@ class Function:
                     return ("clauses", f"{self.root}." + new + "." + fields[0], names)
             elif fields and fields[0] == "inv":
                 fields[0] = "invariant"
-            elif len(fields) > 1 and fields[0] in ("new", "auto") and callee in self.entry["params"]:
+            elif len(fields) > 1 and fields[0] in ("new", "auto", "kept") and callee in self.entry["params"]:
                 # the old pairs of what was lent
                 params, k, rest = self.entry["params"][callee], 0, fields[1:]
                 while rest and rest[0] == "1" and k < len(params) - 1:
                     k, rest = k + 1, rest[1:]
                 if rest and rest[0] == "0":
-                    fields = [fields[0], params[k]] + rest[1:]
+                    fields = [fields[0].replace("kept", "auto"), params[k]] + rest[1:]
             if fields and fields[0] == "given":
                 # what a match found
                 if len(fields) == 1:
@@ -337,12 +337,12 @@ class Function:
         if kind[1].endswith(".args") or self.places[kind[2]][2][1].startswith("loop"):
             fields[0] = fields[0].replace("-", "_")
         callee = self.places[kind[2]][3]
-        if len(fields) > 1 and fields[0] == "new" and callee in self.entry["params"]:
+        if len(fields) > 1 and fields[0] in ("new", "auto", "kept") and callee in self.entry["params"]:
             params, k, rest = self.entry["params"][callee], 0, fields[1:]
             while rest and rest[0] == "1" and k < len(params) - 1:
                 k, rest = k + 1, rest[1:]
             if rest and rest[0] == "0":
-                fields = ["new", params[k]] + rest[1:]
+                fields = [fields[0].replace("kept", "auto"), params[k]] + rest[1:]
         if fields[0] == "inv":
             fields[0] = "invariant"
         if fields[0] in ("ensures", "post"):
@@ -466,6 +466,9 @@ def turn(crate, name, entry, clauses):
                 fn.look("invariant not read")
                 continue
             params, body = mm[1].split(), mm[2]
+            if len(params) > len(variables) + sum(changed):
+                # a temporary that is no variable today
+                params = [p for p in params if not re.fullmatch(r"t\d+", p)]
             table = {}
             k = 0
             for v, ch in zip(variables, changed):

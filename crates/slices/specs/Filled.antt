@@ -5,7 +5,7 @@ use Rattle.std.proofs.Math.Decide.{dec_lt}
 use Rattle.std.proofs.Math.ListN.{get_or-append, get_or-map}
 use Rattle.std.proofs.lemmas.List.{length-map, set_at}
 use Rattle.std.proofs.Math.Seq.{drop-length}
-use Rattle.slices.specs.Places.{tab, at, over}
+use Rattle.slices.specs.Places.{tab, over}
 
 pub length-tab {ℓ} : {A : Type ℓ} (m : ℕ) (f : ℕ → A) → length (tab m f) ≡ m
 unfolding tab

@@ -2,7 +2,6 @@
 use mathlib.Core.Path.{sym, ◌∙◌}
 use mathlib.Core.Bool.{and-true, and-false, or-true}
 use borrow.Author.Tests.{eq-eqb, ne_eqb}
-use borrow.Author.Rules.{rules}
 use Rattle.candidates.proofs.is_better.Goals as goal
 
 pub returns-then-b-eq0 : goal.returns-then-b-eq0

@@ -1,12 +1,10 @@
-use Prim.Native.Nat.{◌^◌, ◌-◌, ◌≤◌, ◌<◌}
+use Prim.Native.Nat.{◌-◌}
 use mathlib.Core.Path.{◌≡◌, sym, ◌∙◌}
 use native.Mathlib.Omega.{arith}
 use lib.Bits.{bit_and}
 use Rattle.bits.specs.Parity.{parity-lt}
 use Rattle.slices.specs.Places.{at}
-use Rattle.block.specs.Basis.{apply}
 use Rattle.candidates.specs.Fresh.{fresh_start, fresh-next, fresh-found, fresh-none}
-use borrow.Author.Rules.{rules}
 use Rattle.candidates.proofs.is_fresh.Goals as goal
 
 pub loop-j-init : goal.loop-j-init

@@ -1,14 +1,8 @@
 -- `candidates::is_fresh` meets its contract. The loop's invariant: the rows before j send t below 2^k. The measure is the number of rows left.
 -- Assumes nothing.
 use Prim.Native.Nat.{◌^◌, ◌-◌, ◌≤◌, ◌<◌}
-use mathlib.Core.Path.{◌≡◌, sym, ◌∙◌}
-use native.Mathlib.Omega.{arith}
-use lib.Bits.{bit_and}
-use Rattle.bits.specs.Parity.{parity-lt}
 use Rattle.slices.specs.Places.{at}
 use Rattle.block.specs.Basis.{apply}
-use Rattle.candidates.specs.Fresh.{fresh_start, fresh-next, fresh-found, fresh-none}
-use borrow.Author.Rules.{rules}
 use Rattle.candidates.proofs.is_fresh.Given as goal
 
 abbrev pub invariant-loop-j : goal.invariant-loop-j

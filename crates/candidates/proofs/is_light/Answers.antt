@@ -1,7 +1,6 @@
 -- `candidates::is_light` meets its contract: the two tests in their order. Assumes nothing.
 use borrow.Author.Tests.{le-leb, lt-leb}
 use Rattle.candidates.specs.Light.{light}
-use borrow.Author.Rules.{rules}
 use Rattle.candidates.proofs.is_light.Goals as goal
 
 pub returns-then-ones-lt1 : goal.returns-then-ones-lt1

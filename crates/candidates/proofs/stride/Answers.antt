@@ -1,6 +1,5 @@
 -- `candidates::stride` meets its contract: sixteen numbers where both tests hold, and else the one. Assumes nothing.
 use Rattle.candidates.specs.Stride.{skips-one, skips-sixteen}
-use borrow.Author.Rules.{rules}
 use Rattle.candidates.proofs.stride.Goals as goal
 
 pub returns-then-t-w : goal.returns-then-t-w

@@ -1,11 +1,10 @@
 use mathlib.Core.Path.{◌≡◌, sym}
-use mathlib.Core.Logic.{⊎_elim}
-use Prim.Native.Nat.{◌≤◌, ◌+◌, ◌-◌}
+use Prim.Native.Nat.{◌+◌, ◌-◌}
 use native.Mathlib.Omega.{arith}
 use Rattle.slices.specs.Places.{at}
 use Rattle.walks.specs.Walk.{value_at, walked-light, value-here}
 use Rattle.choosing.specs.Steps.{candidate_by}
-use Rattle.choosing.specs.Search.{Leads, leads-none, leads-taken, leads-left, leads-past, leads-all}
+use Rattle.choosing.specs.Search.{leads-none, leads-taken, leads-left, leads-past, leads-all}
 use borrow.Author.Rules.{rules}
 use Rattle.choosing.proofs.choose.Goals as goal
 use Rattle.choosing.proofs.choose.Goals.{then-is_better, else-is_better}

@@ -1,14 +1,10 @@
 -- `choosing::choose` meets its contract. The loop's invariant: b, of value top, is the best of the numbers before this place of the
 -- walk, and those passed over have smaller values than it. The measure is what is left. Assumes nothing.
-use mathlib.Core.Path.{◌≡◌, sym}
-use mathlib.Core.Logic.{⊎_elim}
-use Prim.Native.Nat.{◌≤◌, ◌+◌, ◌-◌}
-use native.Mathlib.Omega.{arith}
+use Prim.Native.Nat.{◌≤◌, ◌-◌}
 use Rattle.slices.specs.Places.{at}
-use Rattle.walks.specs.Walk.{value_at, walked-light, value-here}
+use Rattle.walks.specs.Walk.{value_at}
 use Rattle.choosing.specs.Steps.{candidate_by}
-use Rattle.choosing.specs.Search.{Leads, leads-none, leads-taken, leads-left, leads-past, leads-all}
-use borrow.Author.Rules.{rules}
+use Rattle.choosing.specs.Search.{Leads}
 use Rattle.choosing.proofs.choose.Given as goal
 
 abbrev pub invariant-loop-place : goal.invariant-loop-place

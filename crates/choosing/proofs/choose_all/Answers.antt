@@ -1,7 +1,6 @@
 use mathlib.Core.Path.{◌≡◌, ap, ◌∙◌}
-use Prim.Native.Nat.{◌≤◌, ◌-◌}
+use Prim.Native.Nat.{◌-◌}
 use native.Mathlib.Omega.{arith}
-use lib.ListN.{length}
 use Rattle.slices.specs.Places.{tab, over}
 use Rattle.slices.specs.Filled.{over_none, over-more, over-over}
 use Rattle.choice_laws.specs.Chosen.{pick}

@@ -1,17 +1,12 @@
 -- `choosing::choose_all` meets its contract. The loop's invariant: the first k numbers are those that the rule takes, and the matrix is the
 -- one reached by them. The measure is what is left. Assumes nothing.
-use mathlib.Core.Path.{◌≡◌, ap, ◌∙◌}
+use mathlib.Core.Path.{◌≡◌}
 use Prim.Native.Nat.{◌≤◌, ◌-◌}
-use native.Mathlib.Omega.{arith}
 use lib.ListN.{length}
 use Rattle.slices.specs.Places.{tab, over}
-use Rattle.slices.specs.Filled.{over_none, over-more, over-over}
 use Rattle.choice_laws.specs.Chosen.{pick}
 use Rattle.matrix_laws.specs.Reach.{reach_rows}
-use Rattle.matrix_steps.specs.Steps.{reach-start, reach-turn}
 use Rattle.walks.specs.Walk.{value_at}
-use Rattle.choosing.specs.Steps.{choose-turn}
-use borrow.Author.Rules.{rules}
 use Rattle.choosing.proofs.choose_all.Given as goal
 
 abbrev pub invariant-loop-k : goal.invariant-loop-k

@@ -1,12 +1,9 @@
 -- `copying::copy_first` meets its contract. The loop's invariant: the first i numbers are copied. The measure is what is left.
 -- Assumes nothing.
-use mathlib.Core.Path.{◌≡◌, refl}
+use mathlib.Core.Path.{◌≡◌}
 use Prim.Native.Nat.{◌≤◌, ◌-◌}
-use native.Mathlib.Omega.{arith}
 use lib.ListN.{length}
 use Rattle.slices.specs.Places.{at, tab, over}
-use Rattle.slices.specs.Filled.{over_none, over-more}
-use borrow.Author.Rules.{rules}
 use Rattle.copying.proofs.copy_first.Given as goal
 
 abbrev pub invariant-loop-i : goal.invariant-loop-i

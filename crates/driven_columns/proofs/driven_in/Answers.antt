@@ -1,9 +1,8 @@
-use Prim.Native.Nat.{◌≤◌, ◌-◌}
-use mathlib.Core.Path.{◌≡◌}
+use Prim.Native.Nat.{◌-◌}
 use native.Mathlib.Omega.{arith}
 use borrow.Author.Rules.{rules}
 use lib.ListN.{length}
-use Rattle.driven_columns.specs.Columns.{first_words, Gathered, gathered_none, gathered-more, gathered-all}
+use Rattle.driven_columns.specs.Columns.{gathered_none, gathered-more, gathered-all}
 use Rattle.driven_columns.proofs.driven_in.Goals as goal
 
 pub loop-rows-init : goal.loop-rows-init

@@ -2,10 +2,8 @@
 -- measure is the number of words left. Assumes nothing.
 use Prim.Native.Nat.{◌≤◌, ◌-◌}
 use mathlib.Core.Path.{◌≡◌}
-use native.Mathlib.Omega.{arith}
-use borrow.Author.Rules.{rules}
 use lib.ListN.{length}
-use Rattle.driven_columns.specs.Columns.{first_words, Gathered, gathered_none, gathered-more, gathered-all}
+use Rattle.driven_columns.specs.Columns.{first_words, Gathered}
 use Rattle.driven_columns.proofs.driven_in.Given as goal
 
 abbrev pub invariant-loop-rows : goal.invariant-loop-rows

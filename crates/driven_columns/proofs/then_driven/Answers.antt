@@ -1,7 +1,6 @@
 -- `driven_columns::then_driven` meets its contract: the earlier refusal, or the answer of 11. Assumes nothing.
 use mathlib.Core.Path.{◌∙◌}
 use native.Mathlib.Omega.{arith}
-use borrow.Author.Rules.{rules}
 use Rattle.refusal_laws.specs.Verdicts.{then-refused, then-answered}
 use Rattle.driven_columns.proofs.then_driven.Goals as goal
 

@@ -1,12 +1,8 @@
 -- `driven_columns::undriven_in` meets its contract. The loop's invariant: every column passed is driven. The measure is the number of columns
 -- left. Assumes nothing.
-use Prim.Native.Nat.{ℕ, ◌+◌, ◌-◌, ◌<◌, ◌≤◌}
-use mathlib.Core.Path.{◌≡◌, sym, ◌∙◌}
-use native.Mathlib.Omega.{arith}
-use borrow.Author.Rules.{rules}
-use borrow.Author.Count.{below_more}
+use Prim.Native.Nat.{ℕ, ◌-◌, ◌<◌, ◌≤◌}
+use mathlib.Core.Path.{◌≡◌}
 use Rattle.bits.specs.Digits.{bit}
-use Rattle.driven_columns.specs.Columns.{lowest-undriven}
 use Rattle.driven_columns.proofs.undriven_in.Given as goal
 
 abbrev pub invariant-loop-left : goal.invariant-loop-left

@@ -5,7 +5,6 @@ use native.Mathlib.Omega.{arith}
 use lib.Bits.{bit_xor}
 use Rattle.bits.specs.Bit.{bit-lt}
 use Rattle.block.specs.Rows.{exchange}
-use borrow.Author.Rules.{rules}
 use Rattle.exchanges.proofs.exchange_bits.Goals as goal
 
 pub overflow_add-d : goal.overflow_add-d

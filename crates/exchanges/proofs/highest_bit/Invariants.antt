@@ -1,12 +1,8 @@
 -- `exchanges::highest_bit` meets its contract. The loop's invariant: no position from m on has a one, so the highest below n is the highest
 -- below m. The measure is m. Assumes nothing.
-use mathlib.Core.Path.{◌≡◌, refl, sym, ap, ◌∙◌}
-use Prim.Native.Nat.{ℕ, suc, ◌≤◌, ◌<◌, ◌-◌}
-use native.Mathlib.Omega.{arith}
-use borrow.Author.Tests.{eq-eqb, ne_eqb}
-use Rattle.bits.specs.Digits.{bit}
+use mathlib.Core.Path.{◌≡◌}
+use Prim.Native.Nat.{◌≤◌, ◌-◌}
 use Rattle.block.specs.Rows.{highest}
-use borrow.Author.Rules.{rules}
 use Rattle.exchanges.proofs.highest_bit.Given as goal
 
 abbrev pub invariant-loop-m : goal.invariant-loop-m

@@ -2,7 +2,6 @@
 use mathlib.Core.Path.{sym, ◌∙◌}
 use borrow.Author.Tests.{eq-eqb, ne_eqb}
 use Rattle.block.specs.Rows.{partner}
-use borrow.Author.Rules.{rules}
 use Rattle.exchanges.proofs.partner_of.Goals as goal
 
 pub returns-then-bit_of-eq1 : goal.returns-then-bit_of-eq1

@@ -1,7 +1,6 @@
 -- `exchanges::rest_of` meets its contract. Assumes nothing.
 use mathlib.Core.Path.{ap₂}
 use lib.Bits.{bit_xor}
-use borrow.Author.Rules.{rules}
 use Rattle.exchanges.proofs.rest_of.Goals as goal
 
 pub returns : goal.returns

@@ -1,12 +1,9 @@
 -- `filling::clear` meets its contract. The loop's invariant: the first x entries have the word of a missing point. The measure is
 -- what is left. Assumes nothing.
-use mathlib.Core.Path.{◌≡◌, refl}
-use Prim.Native.Nat.{ℕ, ◌≤◌, ◌-◌}
-use native.Mathlib.Omega.{arith}
+use mathlib.Core.Path.{◌≡◌}
+use Prim.Native.Nat.{◌≤◌, ◌-◌}
 use lib.ListN.{length}
 use Rattle.slices.specs.Places.{tab, over}
-use Rattle.slices.specs.Filled.{over_none, over-more}
-use borrow.Author.Rules.{rules}
 use Rattle.filling.proofs.clear.Given as goal
 
 abbrev pub invariant-loop-x : goal.invariant-loop-x

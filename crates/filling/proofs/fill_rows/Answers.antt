@@ -1,10 +1,9 @@
-use mathlib.Core.Path.{◌≡◌, sym}
-use Prim.Native.Nat.{◌≤◌, ◌-◌, ◌^◌}
+use mathlib.Core.Path.{sym}
+use Prim.Native.Nat.{◌-◌}
 use native.Mathlib.Omega.{arith}
 use lib.ListN.{length}
 use Rattle.block.specs.Limits.{smaller_rows}
-use Rattle.block.specs.Words.{rows_of}
-use Rattle.filling.specs.Points.{TableFrom, table_none, table-all, sound-row, table-row}
+use Rattle.filling.specs.Points.{table_none, table-all, sound-row, table-row}
 use Rattle.flat_rows.specs.Listing.{rows-count}
 use borrow.Author.Rules.{rules}
 use Rattle.filling.proofs.fill_rows.Goals as goal

@@ -1,14 +1,10 @@
 -- `filling::fill_rows` meets its contract. The loop's invariant: the rows from i on are put, on a table that was cleared. The measure is
 -- the number of rows left. Assumes nothing.
-use mathlib.Core.Path.{◌≡◌, sym}
+use mathlib.Core.Path.{◌≡◌}
 use Prim.Native.Nat.{◌≤◌, ◌-◌, ◌^◌}
-use native.Mathlib.Omega.{arith}
 use lib.ListN.{length}
-use Rattle.block.specs.Limits.{smaller_rows}
 use Rattle.block.specs.Words.{rows_of}
-use Rattle.filling.specs.Points.{TableFrom, table_none, table-all, sound-row, table-row}
-use Rattle.flat_rows.specs.Listing.{rows-count}
-use borrow.Author.Rules.{rules}
+use Rattle.filling.specs.Points.{TableFrom}
 use Rattle.filling.proofs.fill_rows.Given as goal
 
 abbrev pub invariant-loop-i : goal.invariant-loop-i

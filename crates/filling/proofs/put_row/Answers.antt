@@ -1,12 +1,10 @@
-use mathlib.Core.Path.{◌≡◌, ap}
-use Prim.Native.Nat.{ℕ, ◌+◌, ◌-◌, ◌^◌, ◌<◌}
+use mathlib.Core.Path.{ap}
+use Prim.Native.Nat.{ℕ, ◌-◌, ◌^◌, ◌<◌}
 use native.Mathlib.Omega.{arith}
-use lib.Bits.{bit_and, bit_xor, and_self, and_le_r}
+use lib.Bits.{bit_xor, and_self, and_le_r}
 use lib.ListN.{length-set}
 use lib.Pow.{pow_pos, pow_mono}
-use Rattle.block.specs.Words.{row}
-use Rattle.filling.specs.Points.{free_of, PartsPut, point-lt, parts_none, parts-step, part-again, parts_all}
-use borrow.Author.Rules.{rules}
+use Rattle.filling.specs.Points.{point-lt, parts_none, parts-step, part-again, parts_all}
 use Rattle.filling.proofs.put_row.Goals as goal
 use Rattle.filling.proofs.put_row.Goals.{At-loop-part}
 

@@ -1,14 +1,10 @@
 -- `filling::put_row` meets its contract. The loop's invariant: the word stands at the points of the parts above `part`, which is itself a
 -- part of the free inputs. The measure is the part. Assumes nothing.
-use mathlib.Core.Path.{◌≡◌, ap}
-use Prim.Native.Nat.{ℕ, ◌+◌, ◌-◌, ◌^◌, ◌<◌}
-use native.Mathlib.Omega.{arith}
-use lib.Bits.{bit_and, bit_xor, and_self, and_le_r}
-use lib.ListN.{length-set}
-use lib.Pow.{pow_pos, pow_mono}
+use mathlib.Core.Path.{◌≡◌}
+use Prim.Native.Nat.{◌+◌, ◌-◌}
+use lib.Bits.{bit_and}
 use Rattle.block.specs.Words.{row}
-use Rattle.filling.specs.Points.{free_of, PartsPut, point-lt, parts_none, parts-step, part-again, parts_all}
-use borrow.Author.Rules.{rules}
+use Rattle.filling.specs.Points.{free_of, PartsPut}
 use Rattle.filling.proofs.put_row.Given as goal
 
 abbrev pub invariant-loop-part : goal.invariant-loop-part

@@ -1,14 +1,9 @@
-use Prim.Native.Nat.{ℕ, ◌<◌, ◌≤◌, ◌-◌}
-use mathlib.Core.Path.{◌≡◌, sym, ◌∙◌}
+use Prim.Native.Nat.{◌-◌}
+use mathlib.Core.Path.{sym, ◌∙◌}
 use mathlib.Core.Bool.{false}
 use native.Mathlib.Omega.{arith}
-use borrow.Author.Rules.{rules}
 use borrow.Author.Count.{below_more}
-use lib.ListN.{length}
-use Rattle.slices.specs.Places.{at}
 use Rattle.flat_rows.specs.Listing.{first-bad}
-use Rattle.block.specs.Refusals.{bad_row}
-use Rattle.block.specs.Words.{row}
 use Rattle.flat_rows.proofs.first_bad_row.Goals as goal
 
 pub loop-i-init : goal.loop-i-init

@@ -1,14 +1,10 @@
 -- `flat_rows::first_bad_row` meets its contract. The loop's invariant: no row passed is malformed. The measure is the number of rows
 -- left. Assumes nothing.
 use Prim.Native.Nat.{ℕ, ◌<◌, ◌≤◌, ◌-◌}
-use mathlib.Core.Path.{◌≡◌, sym, ◌∙◌}
+use mathlib.Core.Path.{◌≡◌}
 use mathlib.Core.Bool.{false}
-use native.Mathlib.Omega.{arith}
-use borrow.Author.Rules.{rules}
-use borrow.Author.Count.{below_more}
 use lib.ListN.{length}
 use Rattle.slices.specs.Places.{at}
-use Rattle.flat_rows.specs.Listing.{first-bad}
 use Rattle.block.specs.Refusals.{bad_row}
 use Rattle.block.specs.Words.{row}
 use Rattle.flat_rows.proofs.first_bad_row.Given as goal

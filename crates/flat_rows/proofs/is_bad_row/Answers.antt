@@ -1,7 +1,5 @@
 -- `flat_rows::is_bad_row` meets its contract: each return is the case of `bad_row` that its test leads to. Assumes nothing.
 use mathlib.Core.Path.{sym, ◌∙◌}
-use borrow.Author.Tests.{not-true, not-false}
-use borrow.Author.Rules.{rules}
 use Rattle.block.specs.Refusals.{bad_row}
 use Rattle.flat_rows.proofs.is_bad_row.Goals as goal
 

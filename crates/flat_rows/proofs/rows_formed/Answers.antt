@@ -1,11 +1,11 @@
 -- `flat_rows::rows_formed` meets its contract: one check, by the least malformed row. Assumes nothing.
+use mathlib.Core.List.{[]}
 use mathlib.Core.Path.{sym, ap₂, ◌∙◌}
-use mathlib.Core.List.{[], ◌∷◌}
+use mathlib.Core.List.{◌∷◌}
 use Prim.Native.Nat.{ℕ}
 use lib.Dec.{ltb}
 use Rattle.block.specs.Refusals.{check, verdict}
 use Rattle.flat_rows.specs.Listing.{rows-count}
-use borrow.Author.Rules.{rules}
 use Rattle.flat_rows.proofs.rows_formed.Goals as goal
 
 pub returns : goal.returns

@@ -1,8 +1,6 @@
-use mathlib.Core.Path.{◌≡◌}
-use Prim.Native.Nat.{◌≤◌, ◌<◌, ◌-◌}
+use Prim.Native.Nat.{◌-◌}
 use native.Mathlib.Omega.{arith}
-use lib.ListN.{length}
-use Rattle.join_work.specs.Closing.{Shifted, shifted_none, shifted-more, closed}
+use Rattle.join_work.specs.Closing.{shifted_none, shifted-more, closed}
 use borrow.Author.Rules.{rules}
 use Rattle.join_work.proofs.close_up.Goals as goal
 

@@ -2,10 +2,8 @@
 -- the number of entries left. Assumes nothing.
 use mathlib.Core.Path.{◌≡◌}
 use Prim.Native.Nat.{◌≤◌, ◌<◌, ◌-◌}
-use native.Mathlib.Omega.{arith}
 use lib.ListN.{length}
-use Rattle.join_work.specs.Closing.{Shifted, shifted_none, shifted-more, closed}
-use borrow.Author.Rules.{rules}
+use Rattle.join_work.specs.Closing.{Shifted}
 use Rattle.join_work.proofs.close_up.Given as goal
 
 abbrev pub invariant-loop-k : goal.invariant-loop-k

@@ -1,10 +1,9 @@
-use Prim.Native.Nat.{ℕ, ◌<◌, ◌≤◌, ◌-◌}
-use mathlib.Core.Path.{◌≡◌, sym, ◌∙◌}
+use Prim.Native.Nat.{◌-◌}
+use mathlib.Core.Path.{sym, ◌∙◌}
 use mathlib.Core.Bool.{false}
 use native.Mathlib.Omega.{arith}
-use borrow.Author.Rules.{rules}
 use borrow.Author.Count.{below_more}
-use Rattle.join_work.specs.Found.{joins_at, nearest-is}
+use Rattle.join_work.specs.Found.{nearest-is}
 use Rattle.join_work.proofs.find_nearest.Goals as goal
 
 pub loop-q-init : goal.loop-q-init

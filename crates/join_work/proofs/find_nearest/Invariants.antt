@@ -1,12 +1,9 @@
 -- `join_work::find_nearest` meets its contract. The loop's invariant: no row passed is written as one with row c. The measure is the number
 -- of rows left. Assumes nothing.
 use Prim.Native.Nat.{ℕ, ◌<◌, ◌≤◌, ◌-◌}
-use mathlib.Core.Path.{◌≡◌, sym, ◌∙◌}
+use mathlib.Core.Path.{◌≡◌}
 use mathlib.Core.Bool.{false}
-use native.Mathlib.Omega.{arith}
-use borrow.Author.Rules.{rules}
-use borrow.Author.Count.{below_more}
-use Rattle.join_work.specs.Found.{joins_at, nearest-is}
+use Rattle.join_work.specs.Found.{joins_at}
 use Rattle.join_work.proofs.find_nearest.Given as goal
 
 abbrev pub invariant-loop-q : goal.invariant-loop-q

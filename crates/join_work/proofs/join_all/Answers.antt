@@ -1,9 +1,8 @@
-use mathlib.Core.Path.{◌≡◌, refl}
-use Prim.Native.Nat.{◌+◌, ◌-◌}
+use mathlib.Core.Path.{refl}
+use Prim.Native.Nat.{◌-◌}
 use native.Mathlib.Omega.{arith}
-use lib.ListN.{length}
 use borrow.Author.Rules.{rules}
-use Rattle.join_work.specs.All.{SoFar, so-far-none, in_place, pair-in-place, less-left, so_far_more, so-far-next, all-joined}
+use Rattle.join_work.specs.All.{so-far-none, in_place, pair-in-place, less-left, so_far_more, so-far-next, all-joined}
 use Rattle.join_work.proofs.join_all.Goals as goal
 
 pub loop-count-init : goal.loop-count-init

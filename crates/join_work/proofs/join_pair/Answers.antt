@@ -4,7 +4,6 @@ use lib.Bits.{bit_and, bit_xor}
 use lib.ListN.{length-set}
 use Rattle.slices.specs.Places.{at}
 use Rattle.join_work.specs.All.{one-join}
-use borrow.Author.Rules.{rules}
 use Rattle.join_work.proofs.join_pair.Goals as goal
 
 pub shape_of-masks : goal.shape_of-masks

@@ -10,7 +10,6 @@ use Rattle.refusal_laws.specs.Verdicts.{kept, given}
 use Rattle.flat_rows.specs.Listing.{listed-rows}
 use Rattle.row_checks.specs.Checked.{join-checked}
 use Rattle.join_work.specs.Stored.{joined-count, stored-all, count-refused, count-answered}
-use borrow.Author.Rules.{rules}
 use Rattle.joining.proofs.join_rows.Goals as goal
 
 pub returns-then-v-ne0 : goal.returns-then-v-ne0

@@ -1,7 +1,6 @@
 -- `light_adding::add_few` meets its contract: each branch is the one of so many flipped, and asks for less room. Assumes nothing.
 use native.Mathlib.Omega.{arith}
 use Rattle.light_adding.specs.Raised.{raised-flat, raised-few}
-use borrow.Author.Rules.{rules}
 use Rattle.light_adding.proofs.add_few.Goals as goal
 
 pub add_here-requires : goal.add_here-requires

@@ -2,7 +2,6 @@
 use mathlib.Core.Path.{refl}
 use native.Mathlib.Omega.{arith}
 use Rattle.light_adding.specs.Raised.{raised-here}
-use borrow.Author.Rules.{rules}
 use Rattle.light_adding.proofs.add_here.Goals as goal
 
 pub overflow_add-acc : goal.overflow_add-acc

@@ -7,7 +7,6 @@ use lib.Count.{ones-le}
 use Rattle.block.specs.Limits.{list_inputs}
 use Rattle.light_laws.specs.Free.{frees-length}
 use Rattle.light_adding.specs.Cubes.{raised-light, raised-none, frees-inside}
-use borrow.Author.Rules.{rules}
 use Rattle.light_adding.proofs.add_light.Goals as goal
 use Rattle.light_adding.proofs.add_light.Goals.{Start}
 

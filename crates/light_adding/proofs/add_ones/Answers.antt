@@ -1,12 +1,12 @@
-use mathlib.Core.Path.{◌≡◌, refl}
-use Prim.Native.Nat.{◌+◌, ◌*◌, ◌^◌, ◌-◌, ◌≤◌, ◌<◌}
+use mathlib.Core.Path.{refl}
+use Prim.Native.Nat.{◌+◌, ◌*◌, ◌^◌, ◌-◌, ◌<◌}
 use native.Mathlib.Omega.{arith}
 use lib.Bits.{bit_xor}
 use lib.ListN.{length}
 use Rattle.slices.specs.Places.{at}
 use Rattle.light_laws.specs.Ways.{ways}
 use Rattle.light_laws.specs.Counted.{ways-one-le}
-use Rattle.light_adding.specs.Raised.{Raised, Since, Below, here, most_weight, raised-here, raised-flat, raised-room, raised-whole, since_none, since-more}
+use Rattle.light_adding.specs.Raised.{Raised, Below, here, most_weight, raised-here, raised-flat, raised-room, raised-whole, since_none, since-more}
 use borrow.Author.Rules.{rules}
 use Rattle.light_adding.proofs.add_ones.Goals as goal
 use Rattle.light_adding.proofs.add_ones.Goals.{At-loop-k, In-loop-k}

@@ -1,15 +1,10 @@
 -- `light_adding::add_ones` meets its contract. The loop's invariant: the array is raised as often as a number comes out with one of the first
 -- k flipped. The measure is what is left. Assumes nothing.
-use mathlib.Core.Path.{◌≡◌, refl}
-use Prim.Native.Nat.{◌+◌, ◌*◌, ◌^◌, ◌-◌, ◌≤◌, ◌<◌}
-use native.Mathlib.Omega.{arith}
-use lib.Bits.{bit_xor}
+use mathlib.Core.Path.{◌≡◌}
+use Prim.Native.Nat.{◌-◌, ◌≤◌}
 use lib.ListN.{length}
-use Rattle.slices.specs.Places.{at}
 use Rattle.light_laws.specs.Ways.{ways}
-use Rattle.light_laws.specs.Counted.{ways-one-le}
-use Rattle.light_adding.specs.Raised.{Raised, Since, Below, here, most_weight, raised-here, raised-flat, raised-room, raised-whole, since_none, since-more}
-use borrow.Author.Rules.{rules}
+use Rattle.light_adding.specs.Raised.{Since, here}
 use Rattle.light_adding.proofs.add_ones.Given as goal
 
 abbrev pub invariant-loop-k : goal.invariant-loop-k

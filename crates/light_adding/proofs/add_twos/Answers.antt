@@ -1,10 +1,8 @@
-use mathlib.Core.Path.{◌≡◌}
-use Prim.Native.Nat.{◌+◌, ◌*◌, ◌^◌, ◌-◌, ◌≤◌}
+use Prim.Native.Nat.{◌+◌, ◌*◌, ◌^◌, ◌-◌}
 use native.Mathlib.Omega.{arith}
-use lib.ListN.{length}
 use Rattle.light_laws.specs.Ways.{ways}
 use Rattle.light_laws.specs.Counted.{ways-two-le}
-use Rattle.light_adding.specs.Raised.{Raised, Since, Below, here, most_weight, raised-room, raised-whole, since_none, since-more}
+use Rattle.light_adding.specs.Raised.{Raised, Below, most_weight, raised-room, raised-whole, since_none, since-more}
 use borrow.Author.Rules.{rules}
 use Rattle.light_adding.proofs.add_twos.Goals as goal
 use Rattle.light_adding.proofs.add_twos.Goals.{At-loop-k}

@@ -1,13 +1,10 @@
 -- `light_adding::add_twos` meets its contract. The loop's invariant: the array is raised as often as a number comes out with at most two of the
 -- first k flipped. The measure is what is left. Assumes nothing.
 use mathlib.Core.Path.{◌≡◌}
-use Prim.Native.Nat.{◌+◌, ◌*◌, ◌^◌, ◌-◌, ◌≤◌}
-use native.Mathlib.Omega.{arith}
+use Prim.Native.Nat.{◌-◌, ◌≤◌}
 use lib.ListN.{length}
 use Rattle.light_laws.specs.Ways.{ways}
-use Rattle.light_laws.specs.Counted.{ways-two-le}
-use Rattle.light_adding.specs.Raised.{Raised, Since, Below, here, most_weight, raised-room, raised-whole, since_none, since-more}
-use borrow.Author.Rules.{rules}
+use Rattle.light_adding.specs.Raised.{Since, here}
 use Rattle.light_adding.proofs.add_twos.Given as goal
 
 abbrev pub invariant-loop-k : goal.invariant-loop-k

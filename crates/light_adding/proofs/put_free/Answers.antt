@@ -1,10 +1,7 @@
-use Prim.Native.Nat.{◌-◌, ◌≤◌, ◌<◌}
+use Prim.Native.Nat.{◌-◌, ◌<◌}
 use mathlib.Core.Path.{◌≡◌, sym, ◌∙◌}
-use mathlib.Core.Logic.{⊎_elim}
 use native.Mathlib.Omega.{arith}
 use lib.ListN.{length}
-use Rattle.slices.specs.Laid.{Laid}
-use Rattle.light_laws.specs.Ways.{frees}
 use Rattle.light_adding.specs.Front.{put-none, put-free, put-fixed, put-room}
 use borrow.Author.Rules.{rules}
 use Rattle.light_adding.proofs.put_free.Goals as goal

@@ -1,14 +1,8 @@
 -- `light_adding::put_free` meets its contract. The loop's invariant: the free inputs below i stand at the front. The measure is what is left.
 -- Assumes nothing.
-use Prim.Native.Nat.{◌-◌, ◌≤◌, ◌<◌}
-use mathlib.Core.Path.{◌≡◌, sym, ◌∙◌}
-use mathlib.Core.Logic.{⊎_elim}
-use native.Mathlib.Omega.{arith}
-use lib.ListN.{length}
+use Prim.Native.Nat.{◌-◌, ◌≤◌}
 use Rattle.slices.specs.Laid.{Laid}
 use Rattle.light_laws.specs.Ways.{frees}
-use Rattle.light_adding.specs.Front.{put-none, put-free, put-fixed, put-room}
-use borrow.Author.Rules.{rules}
 use Rattle.light_adding.proofs.put_free.Given as goal
 
 abbrev pub invariant-loop-i : goal.invariant-loop-i

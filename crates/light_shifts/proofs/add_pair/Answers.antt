@@ -9,7 +9,6 @@ use Rattle.slices.specs.Places.{at, tab}
 use Rattle.pair_laws.specs.Symmetric.{cube, hit}
 use Rattle.light_laws.specs.Ways.{lit}
 use Rattle.light_shifts.specs.Adding.{part-again, weight-most}
-use borrow.Author.Rules.{rules}
 use Rattle.light_shifts.proofs.add_pair.Goals as goal
 
 pub add_light-requires : goal.add_light-requires

@@ -1,19 +1,11 @@
 -- `light_shifts::add_pairs` meets its contract. The invariant of both loops: the array holds what the cubes of the pairs before i, j add at
 -- the light numbers. The measures are the numbers of rows left. Assumes nothing.
-use mathlib.Core.Path.{◌≡◌, sym, ap, ◌∙◌}
-use mathlib.Core.List.{List}
-use mathlib.Core.Logic.{⊎_elim}
-use Prim.Native.Nat.{ℕ, ◌≤◌, ◌<◌, ◌+◌, ◌-◌}
-use native.Mathlib.Omega.{arith}
-use Rattle.block.specs.Limits.{list_inputs}
+use mathlib.Core.Path.{◌≡◌}
+use Prim.Native.Nat.{◌≤◌, ◌<◌, ◌-◌}
 use Rattle.block.specs.Words.{rows_of}
 use Rattle.pair_laws.specs.Theorem.{often}
-use Rattle.pair_laws.specs.Symmetric.{Cube, cubes_to, cubes-none}
-use Rattle.pair_weights.specs.Places.{cube_of}
-use Rattle.missing_points.specs.Rows.{counted, mask-fixed}
-use Rattle.missing_points.specs.Looped.{cubes-put, cubes-pass, row_done, rows-done}
-use Rattle.light_shifts.specs.Adding.{light_sums, light-length, light-none, light-more, light-small}
-use borrow.Author.Rules.{rules}
+use Rattle.pair_laws.specs.Symmetric.{cubes_to}
+use Rattle.light_shifts.specs.Adding.{light_sums}
 use Rattle.light_shifts.proofs.add_pairs.Given as goal
 
 abbrev pub invariant-loop-j : goal.invariant-loop-j

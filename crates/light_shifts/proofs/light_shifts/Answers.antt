@@ -9,7 +9,6 @@ use Rattle.slices.specs.Places.{at, over}
 use Rattle.slices.specs.Filled.{tab-cong}
 use Rattle.block.specs.Limits.{list_inputs}
 use Rattle.light_shifts.specs.Adding.{zeros-at, zeros-length}
-use borrow.Author.Rules.{rules}
 use Rattle.light_shifts.proofs.light_shifts.Goals as goal
 use Rattle.light_shifts.proofs.light_shifts.Goals.{After-size-size}
 

@@ -1,8 +1,8 @@
 use mathlib.Core.Path.{◌≡◌, refl}
-use Prim.Native.Nat.{ℕ, ◌+◌, ◌-◌, ◌≤◌, ◌<◌}
+use Prim.Native.Nat.{ℕ, ◌+◌, ◌-◌, ◌<◌}
 use native.Mathlib.Omega.{arith}
 use lib.ListN.{length}
-use Rattle.slices.specs.Places.{at, tab, over}
+use Rattle.slices.specs.Places.{at, over}
 use Rattle.slices.specs.Filled.{over_none, over-more}
 use borrow.Author.Rules.{rules}
 use Rattle.light_shifts.proofs.put_at.Goals as goal

@@ -1,12 +1,9 @@
 -- `light_shifts::put_at` meets its contract. The loop's invariant: the first i entries hold what is due, and the rest what they held. The
 -- measure is what is left. Assumes nothing.
-use mathlib.Core.Path.{◌≡◌, refl}
-use Prim.Native.Nat.{ℕ, ◌+◌, ◌-◌, ◌≤◌, ◌<◌}
-use native.Mathlib.Omega.{arith}
+use mathlib.Core.Path.{◌≡◌}
+use Prim.Native.Nat.{◌+◌, ◌-◌, ◌≤◌}
 use lib.ListN.{length}
 use Rattle.slices.specs.Places.{at, tab, over}
-use Rattle.slices.specs.Filled.{over_none, over-more}
-use borrow.Author.Rules.{rules}
 use Rattle.light_shifts.proofs.put_at.Given as goal
 
 abbrev pub invariant-loop-i : goal.invariant-loop-i

@@ -13,7 +13,6 @@ use Rattle.block.specs.Words.{of_rows, rows_of}
 use Rattle.block.specs.Measure.{shift}
 use Rattle.pair_laws.specs.Theorem.{counts, counts-le}
 use Rattle.light_shifts.specs.Adding.{light-whole, light-parts}
-use borrow.Author.Rules.{rules}
 use Rattle.light_shifts.proofs.shifts_in.Goals as goal
 use Rattle.light_shifts.proofs.shifts_in.Goals.{After-add_pairs, After-taken_of-less}
 

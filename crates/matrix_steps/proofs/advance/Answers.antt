@@ -5,7 +5,6 @@ use native.Mathlib.Omega.{arith}
 use lib.Bits.{bit_xor}
 use Rattle.block.specs.Rows.{partner, exchange, rest}
 use Rattle.matrix_steps.specs.Steps.{partner-lt, step-made}
-use borrow.Author.Rules.{rules}
 use Rattle.matrix_steps.proofs.advance.Goals as goal
 
 -- what is left of the chosen number, by the numbers in hand

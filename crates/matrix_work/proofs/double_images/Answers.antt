@@ -1,10 +1,8 @@
 use mathlib.Core.Path.{◌≡◌, refl}
 use Prim.Native.Nat.{suc, ◌+◌, ◌≤◌, ◌-◌, ◌^◌}
 use native.Mathlib.Omega.{arith}
-use lib.ListN.{length}
 use lib.Pow.{pow_mono}
-use Rattle.slices.specs.Places.{at}
-use Rattle.matrix_laws.specs.Images.{Images, images-more, images-doubled}
+use Rattle.matrix_laws.specs.Images.{images-more, images-doubled}
 use borrow.Author.Rules.{rules}
 use Rattle.matrix_work.proofs.double_images.Goals as goal
 

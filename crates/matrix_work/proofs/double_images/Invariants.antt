@@ -1,13 +1,10 @@
 -- `matrix_work::double_images` meets its contract. The loop's invariant: the values at each z below size + z are there. The measure is
 -- what is left. Assumes nothing.
-use mathlib.Core.Path.{◌≡◌, refl}
-use Prim.Native.Nat.{suc, ◌+◌, ◌≤◌, ◌-◌, ◌^◌}
-use native.Mathlib.Omega.{arith}
+use mathlib.Core.Path.{◌≡◌}
+use Prim.Native.Nat.{◌+◌, ◌≤◌, ◌-◌, ◌^◌}
 use lib.ListN.{length}
-use lib.Pow.{pow_mono}
 use Rattle.slices.specs.Places.{at}
-use Rattle.matrix_laws.specs.Images.{Images, images-more, images-doubled}
-use borrow.Author.Rules.{rules}
+use Rattle.matrix_laws.specs.Images.{Images}
 use Rattle.matrix_work.proofs.double_images.Given as goal
 
 abbrev pub invariant-loop-z : goal.invariant-loop-z

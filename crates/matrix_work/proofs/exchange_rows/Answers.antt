@@ -9,7 +9,6 @@ use lib.Seq.{get_or-set_same, get_or-set_other}
 use Rattle.slices.specs.Places.{at, tab, over}
 use Rattle.slices.specs.Filled.{over-is}
 use Rattle.matrix_laws.specs.Reach.{exchange_rows, exchange-row-left, exchange-row-right, exchange-row-other}
-use borrow.Author.Rules.{rules}
 use Rattle.matrix_work.proofs.exchange_rows.Goals as goal
 
 exchanged : (l : List ℕ) (n k h : ℕ) → n ≤ length l → k < n → h < n

@@ -1,13 +1,10 @@
 -- `matrix_work::put_columns` meets its contract. The loop's invariant: the first j columns are stored. The measure is what is left.
 -- Assumes nothing.
-use mathlib.Core.Path.{◌≡◌, ap, ◌∙◌}
-use Prim.Native.Nat.{ℕ, ◌≤◌, ◌-◌, ◌^◌}
-use native.Mathlib.Omega.{arith}
+use mathlib.Core.Path.{◌≡◌}
+use Prim.Native.Nat.{◌≤◌, ◌-◌, ◌^◌}
 use lib.ListN.{length}
 use Rattle.slices.specs.Places.{at, tab, over}
-use Rattle.slices.specs.Filled.{over_none, over-more}
 use Rattle.block.specs.Basis.{apply}
-use borrow.Author.Rules.{rules}
 use Rattle.matrix_work.proofs.put_columns.Given as goal
 
 abbrev pub invariant-loop-j : goal.invariant-loop-j

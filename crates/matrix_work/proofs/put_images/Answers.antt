@@ -1,10 +1,10 @@
 use mathlib.Core.Path.{◌≡◌, refl}
-use Prim.Native.Nat.{◌≤◌, ◌-◌, ◌^◌}
+use Prim.Native.Nat.{◌-◌}
 use native.Mathlib.Omega.{arith}
 use lib.ListN.{length, length-set}
 use lib.Pow.{pow_pos}
 use Rattle.slices.specs.Places.{at}
-use Rattle.matrix_laws.specs.Images.{Images, images-first}
+use Rattle.matrix_laws.specs.Images.{images-first}
 use borrow.Author.Rules.{rules}
 use Rattle.matrix_work.proofs.put_images.Goals as goal
 

@@ -1,13 +1,10 @@
 -- `matrix_work::put_images` meets its contract. The loop's invariant: the values at each z below 2^i are there. The measure is what is
 -- left. Assumes nothing.
-use mathlib.Core.Path.{◌≡◌, refl}
+use mathlib.Core.Path.{◌≡◌}
 use Prim.Native.Nat.{◌≤◌, ◌-◌, ◌^◌}
-use native.Mathlib.Omega.{arith}
-use lib.ListN.{length, length-set}
-use lib.Pow.{pow_pos}
+use lib.ListN.{length}
 use Rattle.slices.specs.Places.{at}
-use Rattle.matrix_laws.specs.Images.{Images, images-first}
-use borrow.Author.Rules.{rules}
+use Rattle.matrix_laws.specs.Images.{Images}
 use Rattle.matrix_work.proofs.put_images.Given as goal
 
 abbrev pub invariant-loop-i : goal.invariant-loop-i

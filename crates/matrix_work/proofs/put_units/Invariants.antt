@@ -1,12 +1,9 @@
 -- `matrix_work::put_units` meets its contract. The loop's invariant: the first j entries are the units. The measure is what is left.
 -- Assumes nothing.
 use mathlib.Core.Path.{◌≡◌}
-use Prim.Native.Nat.{ℕ, ◌≤◌, ◌-◌, ◌^◌}
-use native.Mathlib.Omega.{arith}
+use Prim.Native.Nat.{◌≤◌, ◌-◌, ◌^◌}
 use lib.ListN.{length}
 use Rattle.slices.specs.Places.{tab, over}
-use Rattle.slices.specs.Filled.{over_none, over-more}
-use borrow.Author.Rules.{rules}
 use Rattle.matrix_work.proofs.put_units.Given as goal
 
 abbrev pub invariant-loop-j : goal.invariant-loop-j

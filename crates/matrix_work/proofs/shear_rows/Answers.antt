@@ -1,9 +1,8 @@
 use mathlib.Core.Path.{◌≡◌, ap, ap₂, ◌∙◌}
 use mathlib.Core.List.{List}
-use Prim.Native.Nat.{ℕ, ◌≤◌, ◌-◌, ◌*◌}
+use Prim.Native.Nat.{ℕ, ◌-◌, ◌*◌}
 use native.Mathlib.Omega.{arith}
 use lib.Bits.{bit_xor}
-use lib.ListN.{length}
 use Rattle.bits.specs.Digits.{bit}
 use Rattle.bits.specs.Bit.{bit-lt}
 use Rattle.slices.specs.Places.{at, tab, over}

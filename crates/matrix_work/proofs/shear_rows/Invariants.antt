@@ -1,17 +1,10 @@
 -- `matrix_work::shear_rows` meets its contract. The loop's invariant: the first j rows are done, the rest is as it was. The measure is
 -- what is left. Assumes nothing.
-use mathlib.Core.Path.{◌≡◌, ap, ap₂, ◌∙◌}
-use mathlib.Core.List.{List}
-use Prim.Native.Nat.{ℕ, ◌≤◌, ◌-◌, ◌*◌}
-use native.Mathlib.Omega.{arith}
-use lib.Bits.{bit_xor}
+use mathlib.Core.Path.{◌≡◌}
+use Prim.Native.Nat.{◌≤◌, ◌-◌}
 use lib.ListN.{length}
-use Rattle.bits.specs.Digits.{bit}
-use Rattle.bits.specs.Bit.{bit-lt}
 use Rattle.slices.specs.Places.{at, tab, over}
-use Rattle.slices.specs.Filled.{over_none, over-more, over-beyond}
 use Rattle.matrix_laws.specs.Reach.{shear_rows}
-use borrow.Author.Rules.{rules}
 use Rattle.matrix_work.proofs.shear_rows.Given as goal
 
 abbrev pub invariant-loop-j : goal.invariant-loop-j

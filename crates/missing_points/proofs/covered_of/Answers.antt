@@ -1,14 +1,9 @@
-use mathlib.Core.Path.{◌≡◌, sym}
-use Prim.Native.Nat.{ℕ, ◌≤◌, ◌-◌, ◌^◌}
+use mathlib.Core.Path.{sym}
+use Prim.Native.Nat.{◌-◌}
 use native.Mathlib.Omega.{arith}
-use lib.Count.{ones}
 use lib.Pow.{pow_mono}
-use Rattle.sums.specs.Sums.{sum as sum_of}
 use Rattle.sums.specs.Laws.{sum-zero}
 use Rattle.block.specs.Limits.{list_inputs}
-use Rattle.block.specs.Words.{rows_of}
-use Rattle.block.specs.Refusals.{row_at}
-use Rattle.block.specs.declared.Row.{Row}
 use Rattle.pair_laws.specs.Theorem.{covered_le}
 use Rattle.missing_points.specs.Rows.{mask-fixed, summed-more, summed-whole, summed-small}
 use borrow.Author.Rules.{rules}

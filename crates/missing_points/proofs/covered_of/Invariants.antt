@@ -1,19 +1,12 @@
 -- `missing_points::covered_of` meets its contract. The loop's invariant: the sum is how many points the rows before i cover. The measure is what
 -- is left. No sum on the way passes the number of points. Assumes nothing.
-use mathlib.Core.Path.{◌≡◌, sym}
+use mathlib.Core.Path.{◌≡◌}
 use Prim.Native.Nat.{ℕ, ◌≤◌, ◌-◌, ◌^◌}
-use native.Mathlib.Omega.{arith}
 use lib.Count.{ones}
-use lib.Pow.{pow_mono}
 use Rattle.sums.specs.Sums.{sum as sum_of}
-use Rattle.sums.specs.Laws.{sum-zero}
-use Rattle.block.specs.Limits.{list_inputs}
 use Rattle.block.specs.Words.{rows_of}
 use Rattle.block.specs.Refusals.{row_at}
 use Rattle.block.specs.declared.Row.{Row}
-use Rattle.pair_laws.specs.Theorem.{covered_le}
-use Rattle.missing_points.specs.Rows.{mask-fixed, summed-more, summed-whole, summed-small}
-use borrow.Author.Rules.{rules}
 use Rattle.missing_points.proofs.covered_of.Given as goal
 
 -- how many points lie under a row

@@ -3,7 +3,6 @@ use mathlib.Core.Path.{sym}
 use native.Mathlib.Omega.{arith}
 use Rattle.block.specs.Words.{rows_of}
 use Rattle.pair_laws.specs.Theorem.{covered-shift}
-use borrow.Author.Rules.{rules}
 use Rattle.missing_points.proofs.missing_in.Goals as goal
 
 pub returns-then-covered_of-power : goal.returns-then-covered_of-power

@@ -1,17 +1,11 @@
 -- `missing_points::taken_of` meets its contract. The loop's invariant: the sum is what the rows before i take. The measure is what is left.
 -- No sum on the way passes the points twice. Assumes nothing.
-use mathlib.Core.Path.{◌≡◌, sym}
+use mathlib.Core.Path.{◌≡◌}
 use Prim.Native.Nat.{◌≤◌, ◌-◌}
-use native.Mathlib.Omega.{arith}
-use lib.Pow.{pow_mono}
 use Rattle.sums.specs.Sums.{sum as sum_of}
-use Rattle.sums.specs.Laws.{sum-zero}
-use Rattle.block.specs.Limits.{list_inputs}
 use Rattle.block.specs.Words.{rows_of}
 use Rattle.block.specs.Refusals.{row_at}
-use Rattle.pair_laws.specs.Theorem.{takes, taken-le}
-use Rattle.missing_points.specs.Rows.{mask-fixed, summed-more, summed-whole, summed-small}
-use borrow.Author.Rules.{rules}
+use Rattle.pair_laws.specs.Theorem.{takes}
 use Rattle.missing_points.proofs.taken_of.Given as goal
 
 abbrev pub invariant-loop-i : goal.invariant-loop-i

@@ -1,11 +1,8 @@
 -- `model_values::driven_word` meets its contract. The loop's invariant: the word of the outputs passed, the next power, and where the next
 -- output's patterns begin. The measure is the number of outputs left. Assumes nothing.
-use mathlib.Core.Path.{◌≡◌, refl, sym, ap, ◌∙◌}
-use Prim.Native.Nat.{ℕ, ◌+◌, ◌-◌, ◌*◌, ◌^◌, ◌≤◌, ◌<◌}
-use native.Mathlib.Omega.{arith}
-use borrow.Author.Rules.{rules}
-use Rattle.model_laws.specs.Powers.{power-more, power_le}
-use Rattle.model_values.specs.Driven.{driven_word, begun, begun-none, begun_more, begun-le, word_none, word-goes-on}
+use mathlib.Core.Path.{◌≡◌}
+use Prim.Native.Nat.{◌-◌, ◌^◌, ◌≤◌, ◌<◌}
+use Rattle.model_values.specs.Driven.{driven_word, begun}
 use Rattle.model_values.proofs.driven_word.Given as goal
 
 abbrev pub invariant-loop-j : goal.invariant-loop-j

@@ -1,9 +1,7 @@
 use mathlib.Core.Path.{sym, ◌∙◌}
 use Prim.Native.Nat.{◌-◌}
 use native.Mathlib.Omega.{arith}
-use borrow.Author.Rules.{rules}
-use Rattle.table_checks.specs.Search.{Searched, search-starts, search-goes-on, search-finds, search-ends}
-use Rattle.model_values.specs.Checks.{bad_at}
+use Rattle.table_checks.specs.Search.{search-starts, search-goes-on, search-finds, search-ends}
 use Rattle.model_values.proofs.first_bad_pattern.Goals as goal
 
 pub loop-i-init : goal.loop-i-init

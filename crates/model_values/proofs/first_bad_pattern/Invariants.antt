@@ -1,10 +1,7 @@
 -- `model_values::first_bad_pattern` meets its contract. The loop's invariant: no pattern passed is malformed. The measure is what is left.
 -- Assumes nothing.
-use mathlib.Core.Path.{sym, ◌∙◌}
 use Prim.Native.Nat.{◌-◌}
-use native.Mathlib.Omega.{arith}
-use borrow.Author.Rules.{rules}
-use Rattle.table_checks.specs.Search.{Searched, search-starts, search-goes-on, search-finds, search-ends}
+use Rattle.table_checks.specs.Search.{Searched}
 use Rattle.model_values.specs.Checks.{bad_at}
 use Rattle.model_values.proofs.first_bad_pattern.Given as goal
 

@@ -1,10 +1,7 @@
-use mathlib.Core.Path.{sym, ◌∙◌}
-use Prim.Native.Nat.{◌+◌, ◌-◌}
+use Prim.Native.Nat.{◌-◌}
 use native.Mathlib.Omega.{arith}
-use borrow.Author.Rules.{rules}
 use borrow.Author.Tests.{eq-eqb, ne_eqb}
-use Rattle.table_checks.specs.Search.{Searched, search-starts, search-goes-on, search-finds, search-ends}
-use Rattle.model_values.specs.Driven.{driven_at}
+use Rattle.table_checks.specs.Search.{search-starts, search-goes-on, search-finds, search-ends}
 use Rattle.model_values.proofs.first_driving.Goals as goal
 
 pub loop-i-init : goal.loop-i-init

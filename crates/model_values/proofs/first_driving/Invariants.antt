@@ -1,11 +1,7 @@
 -- `model_values::first_driving` meets its contract. The loop's invariant: z lies under no pattern passed. The measure is what is left.
 -- Assumes nothing.
-use mathlib.Core.Path.{sym, ◌∙◌}
 use Prim.Native.Nat.{◌+◌, ◌-◌}
-use native.Mathlib.Omega.{arith}
-use borrow.Author.Rules.{rules}
-use borrow.Author.Tests.{eq-eqb, ne_eqb}
-use Rattle.table_checks.specs.Search.{Searched, search-starts, search-goes-on, search-finds, search-ends}
+use Rattle.table_checks.specs.Search.{Searched}
 use Rattle.model_values.specs.Driven.{driven_at}
 use Rattle.model_values.proofs.first_driving.Given as goal
 

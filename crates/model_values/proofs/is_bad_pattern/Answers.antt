@@ -1,7 +1,6 @@
 -- `model_values::is_bad_pattern` meets its contract: a word of 0 is below 2. Assumes nothing.
 use Rattle.block.specs.Refusals.{bad_row}
 use Rattle.block.specs.ModelRead.{bad_pattern}
-use borrow.Author.Rules.{rules}
 use Rattle.model_values.proofs.is_bad_pattern.Goals as goal
 
 pub returns : goal.returns

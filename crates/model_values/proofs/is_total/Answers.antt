@@ -1,9 +1,5 @@
-use Prim.Native.Nat.{ℕ, ◌+◌, ◌-◌, ◌≤◌, ◌<◌}
-use mathlib.Core.Path.{◌≡◌, sym}
+use Prim.Native.Nat.{◌-◌}
 use native.Mathlib.Omega.{arith}
-use borrow.Author.Rules.{rules}
-use borrow.Author.Tests.{ne_eqb}
-use lib.ListN.{length}
 use Rattle.model_values.specs.Driven.{begun, begun-none, begun_more, too_many, rest-none}
 use Rattle.model_values.proofs.is_total.Goals as goal
 

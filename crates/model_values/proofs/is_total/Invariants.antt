@@ -1,12 +1,9 @@
 -- `model_values::is_total` meets its contract. The loop's invariant: the counts passed and what is left are the number of patterns. The
 -- measure is what is left of the counts. Assumes nothing.
-use Prim.Native.Nat.{ℕ, ◌+◌, ◌-◌, ◌≤◌, ◌<◌}
-use mathlib.Core.Path.{◌≡◌, sym}
-use native.Mathlib.Omega.{arith}
-use borrow.Author.Rules.{rules}
-use borrow.Author.Tests.{ne_eqb}
+use Prim.Native.Nat.{◌+◌, ◌-◌, ◌≤◌}
+use mathlib.Core.Path.{◌≡◌}
 use lib.ListN.{length}
-use Rattle.model_values.specs.Driven.{begun, begun-none, begun_more, too_many, rest-none}
+use Rattle.model_values.specs.Driven.{begun}
 use Rattle.model_values.proofs.is_total.Given as goal
 
 abbrev pub invariant-loop-i : goal.invariant-loop-i

@@ -1,6 +1,5 @@
 -- `model_values::is_unfit` meets its contract: the first of three tests that says so. Assumes nothing.
 use mathlib.Core.Path.{sym}
-use borrow.Author.Rules.{rules}
 use borrow.Author.Tests.{eq-eqb, ne_eqb}
 use Rattle.model_values.proofs.is_unfit.Goals as goal
 

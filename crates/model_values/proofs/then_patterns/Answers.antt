@@ -2,7 +2,6 @@
 use native.Mathlib.Omega.{arith}
 use Rattle.refusal_laws.specs.Verdicts.{then-refused}
 use Rattle.model_values.specs.Checks.{flat-rooms, patterns-asked}
-use borrow.Author.Rules.{rules}
 use Rattle.model_values.proofs.then_patterns.Goals as goal
 
 pub returns-then-v-ne0 : goal.returns-then-v-ne0

@@ -1,9 +1,5 @@
 -- `model_values::weighed` meets its contract: 1 or 0 times the power. Assumes nothing.
-use mathlib.Core.Path.{◌≡◌, refl, ap}
-use Prim.Native.Nat.{ℕ, ◌*◌, ◌≤◌}
-use mathlib.Core.Bool.{Bool}
 use native.Mathlib.Omega.{arith}
-use Rattle.sums.specs.Sums.{one}
 use Rattle.model_values.proofs.weighed.Goals as goal
 
 pub returns-then-holds : goal.returns-then-holds

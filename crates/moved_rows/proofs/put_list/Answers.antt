@@ -1,6 +1,5 @@
 -- `moved_rows::put_list` meets its contract: the parts of the rows are copied one by one. Assumes nothing.
 use Rattle.moved_rows.specs.Put.{list_put}
-use borrow.Author.Rules.{rules}
 use Rattle.moved_rows.proofs.put_list.Goals as goal
 
 pub returns : goal.returns

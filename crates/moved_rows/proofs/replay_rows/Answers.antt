@@ -2,7 +2,6 @@
 use native.Mathlib.Omega.{arith}
 use Rattle.block.specs.Limits.{given_rows}
 use Rattle.moved_rows.specs.Put.{rows-laid}
-use borrow.Author.Rules.{rules}
 use Rattle.moved_rows.proofs.replay_rows.Goals as goal
 
 pub put_list-requires : goal.put_list-requires

@@ -2,7 +2,6 @@
 -- Assumes nothing.
 use mathlib.Core.Path.{sym, ◌∙◌}
 use Rattle.pair_weights.specs.Places.{cube_of, hit-taken, hit-left}
-use borrow.Author.Rules.{rules}
 use Rattle.pair_weights.proofs.pair_adds.Goals as goal
 
 pub weight_of-requires : goal.weight_of-requires

@@ -5,7 +5,6 @@ use native.Mathlib.Omega.{arith}
 use lib.Pow.{pow_mono}
 use Rattle.block.specs.Limits.{list_inputs}
 use Rattle.pair_laws.specs.Theorem.{counts-le}
-use borrow.Author.Rules.{rules}
 use Rattle.pair_weights.proofs.points_of.Goals as goal
 
 pub overflow_mul-result : goal.overflow_mul-result

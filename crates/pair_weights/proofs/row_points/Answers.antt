@@ -1,7 +1,6 @@
 -- `pair_weights::row_points` meets its contract: the row fixes at most n inputs, so the power is one of 0 to n. Assumes nothing.
 use native.Mathlib.Omega.{arith}
 use lib.Count.{ones-le}
-use borrow.Author.Rules.{rules}
 use Rattle.pair_weights.proofs.row_points.Goals as goal
 
 pub overflow_cast-mask : goal.overflow_cast-mask

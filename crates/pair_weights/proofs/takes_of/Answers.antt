@@ -7,7 +7,6 @@ use lib.Bits.{or_self}
 use lib.Count.{ones}
 use borrow.Author.Tests.{eq-eqb, ne_eqb}
 use Rattle.pair_laws.specs.Theorem.{counts-le}
-use borrow.Author.Rules.{rules}
 use Rattle.pair_weights.proofs.takes_of.Goals as goal
 
 pub returns-then-word-missing : goal.returns-then-word-missing

@@ -1,6 +1,5 @@
 -- `pair_weights::times_of` meets its contract, by its tests: they are those of the definition. Assumes nothing.
 use native.Mathlib.Omega.{arith}
-use borrow.Author.Rules.{rules}
 use Rattle.pair_weights.proofs.times_of.Goals as goal
 
 pub returns-then-a-missing : goal.returns-then-a-missing

@@ -4,7 +4,6 @@ use native.Mathlib.Nat.{mul-one}
 use native.Mathlib.Omega.{arith}
 use lib.Bits.{bit_or, or_lt}
 use lib.Count.{ones, ones-le}
-use borrow.Author.Rules.{rules}
 use Rattle.block.specs.Limits.{list_inputs}
 use Rattle.pair_weights.specs.Places.{weight-small}
 use Rattle.pair_weights.proofs.weight_of.Goals as goal

@@ -1,9 +1,7 @@
-use Prim.Native.Nat.{suc, ◌+◌, ◌-◌, ◌^◌, ◌≤◌, ◌<◌}
+use Prim.Native.Nat.{suc, ◌+◌, ◌-◌}
 use mathlib.Core.Path.{◌≡◌}
 use native.Mathlib.Omega.{arith}
-use lib.ListN.{length}
 use Rattle.put_bytes.specs.Digits.{places-turn, places-one}
-use Rattle.block.specs.Text.{digits}
 use Rattle.put_bytes.proofs.places.Goals as goal
 
 pub loop-rest-init : goal.loop-rest-init

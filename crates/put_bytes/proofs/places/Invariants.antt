@@ -2,9 +2,7 @@
 -- the rest is below the power of ten that the digits not counted allow. The measure is the rest. Assumes nothing.
 use Prim.Native.Nat.{suc, ◌+◌, ◌-◌, ◌^◌, ◌≤◌, ◌<◌}
 use mathlib.Core.Path.{◌≡◌}
-use native.Mathlib.Omega.{arith}
 use lib.ListN.{length}
-use Rattle.put_bytes.specs.Digits.{places-turn, places-one}
 use Rattle.block.specs.Text.{digits}
 use Rattle.put_bytes.proofs.places.Given as goal
 

@@ -1,7 +1,6 @@
 -- `put_bytes::put_bits` meets its contract: the bits of a number are its last digits in base 2. Assumes nothing.
 use mathlib.Core.Path.{ap}
 use native.Mathlib.Omega.{arith}
-use borrow.Author.Rules.{rules}
 use lib.ListN.{length}
 use Rattle.put_bytes.specs.Digits.{bits-last}
 use Rattle.put_bytes.proofs.put_bits.Goals as goal

@@ -1,9 +1,8 @@
-use Prim.Native.Nat.{◌≤◌, ◌-◌}
+use Prim.Native.Nat.{◌-◌}
 use mathlib.Core.Path.{◌≡◌, refl, ◌∙◌}
 use native.Mathlib.Omega.{arith}
-use borrow.Author.Rules.{rules}
 use lib.ListN.{length, length-set, take}
-use lib.Seq.{sets, take-length}
+use lib.Seq.{take-length}
 use Rattle.put_bytes.specs.Puts.{copy_more}
 use Rattle.put_bytes.proofs.put_bytes.Goals as goal
 

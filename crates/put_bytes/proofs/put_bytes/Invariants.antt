@@ -1,12 +1,9 @@
 -- `put_bytes::put_bytes` meets its contract. The loop's invariant: the first i bytes of s are stored. The measure is what is left of s.
 -- Assumes nothing.
 use Prim.Native.Nat.{◌≤◌, ◌-◌}
-use mathlib.Core.Path.{◌≡◌, refl, ◌∙◌}
-use native.Mathlib.Omega.{arith}
-use borrow.Author.Rules.{rules}
-use lib.ListN.{length, length-set, take}
-use lib.Seq.{sets, take-length}
-use Rattle.put_bytes.specs.Puts.{copy_more}
+use mathlib.Core.Path.{◌≡◌}
+use lib.ListN.{length, take}
+use lib.Seq.{sets}
 use Rattle.put_bytes.proofs.put_bytes.Given as goal
 
 abbrev pub invariant-loop-i : goal.invariant-loop-i

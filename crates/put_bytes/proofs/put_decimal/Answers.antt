@@ -1,7 +1,6 @@
 -- `put_bytes::put_decimal` meets its contract: a number in decimal is its last digits in base 10, as many as it has. Assumes nothing.
 use mathlib.Core.Path.{ap}
 use native.Mathlib.Omega.{arith}
-use borrow.Author.Rules.{rules}
 use lib.ListN.{length}
 use Rattle.put_bytes.specs.Digits.{decimal-last}
 use Rattle.put_bytes.proofs.put_decimal.Goals as goal

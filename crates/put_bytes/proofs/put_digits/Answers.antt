@@ -1,9 +1,7 @@
-use Prim.Native.Nat.{◌+◌, ◌≤◌}
 use mathlib.Core.Path.{◌≡◌, refl, sym, ◌∙◌}
 use native.Mathlib.Nat.{mod-lt}
 use native.Mathlib.Omega.{arith}
 use lib.ListN.{length, length-set}
-use lib.Seq.{sets}
 use Rattle.put_bytes.specs.Digits.{last_digits, length_last, last-down}
 use Rattle.put_bytes.proofs.put_digits.Goals as goal
 

@@ -1,12 +1,10 @@
 -- `put_bytes::put_digits` meets its contract. The loop's invariant: there is room for the digits that are left, and stored in what is there,
 -- they give what all digits, stored at entry, give. The measure is the number of digits left. Assumes nothing.
 use Prim.Native.Nat.{◌+◌, ◌≤◌}
-use mathlib.Core.Path.{◌≡◌, refl, sym, ◌∙◌}
-use native.Mathlib.Nat.{mod-lt}
-use native.Mathlib.Omega.{arith}
-use lib.ListN.{length, length-set}
+use mathlib.Core.Path.{◌≡◌}
+use lib.ListN.{length}
 use lib.Seq.{sets}
-use Rattle.put_bytes.specs.Digits.{last_digits, length_last, last-down}
+use Rattle.put_bytes.specs.Digits.{last_digits}
 use Rattle.put_bytes.proofs.put_digits.Given as goal
 
 abbrev pub invariant-loop-left : goal.invariant-loop-left

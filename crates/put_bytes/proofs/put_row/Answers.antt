@@ -1,6 +1,5 @@
 -- `put_bytes::put_row` meets its contract: the four puts, one after the other, are the row's line. Assumes nothing.
 use native.Mathlib.Omega.{arith}
-use borrow.Author.Rules.{rules}
 use lib.ListN.{length-append}
 use Rattle.put_bytes.specs.Puts.{then}
 use Rattle.block.specs.Text.{row_line}

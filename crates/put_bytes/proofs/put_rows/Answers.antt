@@ -1,12 +1,8 @@
-use Prim.Native.Nat.{◌-◌, ◌≤◌}
+use Prim.Native.Nat.{◌-◌}
 use mathlib.Core.Path.{◌≡◌, refl}
 use native.Mathlib.Omega.{arith}
-use borrow.Author.Rules.{rules}
-use lib.ListN.{length}
-use Rattle.block.specs.Text.{row_lines}
-use Rattle.flat_rows.specs.Listing.{rows_from}
 use Rattle.put_bytes.specs.Length.{row_within}
-use Rattle.put_bytes.specs.Puts.{Put, then, none-put, lines_more, lines_none}
+use Rattle.put_bytes.specs.Puts.{then, none-put, lines_more, lines_none}
 use Rattle.put_bytes.proofs.put_rows.Goals as goal
 
 pub loop-i-init : goal.loop-i-init

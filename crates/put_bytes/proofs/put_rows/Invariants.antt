@@ -1,14 +1,11 @@
 -- `put_bytes::put_rows` meets its contract. The loop's invariant: the lines of the first i rows are put. The measure is the number of rows
 -- left. Assumes nothing.
 use Prim.Native.Nat.{◌-◌, ◌≤◌}
-use mathlib.Core.Path.{◌≡◌, refl}
-use native.Mathlib.Omega.{arith}
-use borrow.Author.Rules.{rules}
+use mathlib.Core.Path.{◌≡◌}
 use lib.ListN.{length}
 use Rattle.block.specs.Text.{row_lines}
 use Rattle.flat_rows.specs.Listing.{rows_from}
-use Rattle.put_bytes.specs.Length.{row_within}
-use Rattle.put_bytes.specs.Puts.{Put, then, none-put, lines_more, lines_none}
+use Rattle.put_bytes.specs.Puts.{Put}
 use Rattle.put_bytes.proofs.put_rows.Given as goal
 
 abbrev pub invariant-loop-i : goal.invariant-loop-i

@@ -1,9 +1,6 @@
-use Prim.Native.Nat.{◌+◌, ◌≤◌}
 use mathlib.Core.Path.{◌≡◌, refl, sym, ◌∙◌}
 use native.Mathlib.Omega.{arith}
-use borrow.Author.Rules.{rules}
 use lib.ListN.{length, length-set}
-use lib.Seq.{sets}
 use Rattle.put_bytes.specs.Digits.{length_symbols, symbols-down}
 use Rattle.block.specs.Text.{symbols}
 use Rattle.put_bytes.proofs.put_symbols.Goals as goal

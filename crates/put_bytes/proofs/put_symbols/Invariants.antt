@@ -1,12 +1,9 @@
 -- `put_bytes::put_symbols` meets its contract. The loop's invariant: there is room for the symbols that are left, and stored in what is there,
 -- they give what all symbols, stored at entry, give. The measure is the number of symbols left. Assumes nothing.
 use Prim.Native.Nat.{◌+◌, ◌≤◌}
-use mathlib.Core.Path.{◌≡◌, refl, sym, ◌∙◌}
-use native.Mathlib.Omega.{arith}
-use borrow.Author.Rules.{rules}
-use lib.ListN.{length, length-set}
+use mathlib.Core.Path.{◌≡◌}
+use lib.ListN.{length}
 use lib.Seq.{sets}
-use Rattle.put_bytes.specs.Digits.{length_symbols, symbols-down}
 use Rattle.block.specs.Text.{symbols}
 use Rattle.put_bytes.proofs.put_symbols.Given as goal
 

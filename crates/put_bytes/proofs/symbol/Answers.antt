@@ -1,5 +1,4 @@
 -- `put_bytes::symbol` meets its contract: each return is the case of `symbol_of` that its test leads to. Assumes nothing.
-use borrow.Author.Rules.{rules}
 use borrow.Author.Tests.{eq-eqb, ne_eqb}
 use Rattle.put_bytes.proofs.symbol.Goals as goal
 

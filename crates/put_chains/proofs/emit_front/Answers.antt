@@ -1,12 +1,9 @@
-use Prim.Native.Nat.{ℕ, ◌+◌, ◌-◌, ◌*◌, ◌≤◌}
+use Prim.Native.Nat.{ℕ, ◌-◌}
 use mathlib.Core.Path.{◌≡◌, refl}
 use native.Mathlib.Omega.{arith}
-use lib.ListN.{length, get_or}
-use Rattle.block.specs.Model.{front_covers}
-use Rattle.put_names.specs.Fitting.{Fitted, next, none-fitted}
-use Rattle.put_chains.specs.Texts.{cover_text}
+use lib.ListN.{get_or}
+use Rattle.put_names.specs.Fitting.{next, none-fitted}
 use Rattle.put_chains.specs.Rows.{front-none, front-more}
-use borrow.Author.Rules.{rules}
 use Rattle.put_chains.proofs.emit_front.Goals as goal
 
 pub loop-i-init : goal.loop-i-init

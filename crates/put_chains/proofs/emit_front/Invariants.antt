@@ -1,14 +1,11 @@
 -- `put_chains::emit_front` meets its contract. The loop's invariant: the covers of the first i rows are put. The measure is the number of
 -- rows left. Assumes nothing.
-use Prim.Native.Nat.{ℕ, ◌+◌, ◌-◌, ◌*◌, ◌≤◌}
-use mathlib.Core.Path.{◌≡◌, refl}
-use native.Mathlib.Omega.{arith}
+use Prim.Native.Nat.{◌+◌, ◌-◌, ◌*◌, ◌≤◌}
+use mathlib.Core.Path.{◌≡◌}
 use lib.ListN.{length, get_or}
 use Rattle.block.specs.Model.{front_covers}
-use Rattle.put_names.specs.Fitting.{Fitted, next, none-fitted}
+use Rattle.put_names.specs.Fitting.{Fitted}
 use Rattle.put_chains.specs.Texts.{cover_text}
-use Rattle.put_chains.specs.Rows.{front-none, front-more}
-use borrow.Author.Rules.{rules}
 use Rattle.put_chains.proofs.emit_front.Given as goal
 
 abbrev pub invariant-loop-i : goal.invariant-loop-i

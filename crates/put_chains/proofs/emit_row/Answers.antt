@@ -1,9 +1,7 @@
-use Prim.Native.Nat.{◌+◌, ◌-◌, ◌*◌, ◌^◌, ◌≤◌, ◌<◌}
-use mathlib.Core.Path.{◌≡◌, refl}
+use Prim.Native.Nat.{◌-◌}
+use mathlib.Core.Path.{refl}
 use native.Mathlib.Omega.{arith}
-use lib.ListN.{length}
-use Rattle.put_chains.specs.Rows.{RowPut, row-none, row_more, row_done, half_lt}
-use borrow.Author.Rules.{rules}
+use Rattle.put_chains.specs.Rows.{row-none, row_more, row_done, half_lt}
 use Rattle.put_chains.proofs.emit_row.Goals as goal
 
 pub loop-left-init : goal.loop-left-init

@@ -1,11 +1,9 @@
 -- `put_chains::emit_row` meets its contract. The loop's invariant: what is put and what the digits left will bring are the row's covers
 -- (`RowPut`). The measure is the number of digits left. Assumes nothing.
 use Prim.Native.Nat.{◌+◌, ◌-◌, ◌*◌, ◌^◌, ◌≤◌, ◌<◌}
-use mathlib.Core.Path.{◌≡◌, refl}
-use native.Mathlib.Omega.{arith}
+use mathlib.Core.Path.{◌≡◌}
 use lib.ListN.{length}
-use Rattle.put_chains.specs.Rows.{RowPut, row-none, row_more, row_done, half_lt}
-use borrow.Author.Rules.{rules}
+use Rattle.put_chains.specs.Rows.{RowPut}
 use Rattle.put_chains.proofs.emit_row.Given as goal
 
 abbrev pub invariant-loop-left : goal.invariant-loop-left

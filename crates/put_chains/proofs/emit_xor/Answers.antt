@@ -2,7 +2,6 @@
 use native.Mathlib.Omega.{arith}
 use Rattle.put_names.specs.Fitting.{next}
 use Rattle.put_chains.specs.Texts.{xor-text}
-use borrow.Author.Rules.{rules}
 use Rattle.put_chains.proofs.emit_xor.Goals as goal
 
 pub emit_bytes-requires : goal.emit_bytes-requires

@@ -3,7 +3,6 @@ use native.Mathlib.Omega.{arith}
 use lib.ListN.{length-append}
 use Rattle.put_bytes.specs.Puts.{then}
 use Rattle.put_import.specs.Line.{import_line}
-use borrow.Author.Rules.{rules}
 use Rattle.put_import.proofs.put_line.Goals as goal
 
 pub put_name-c-requires : goal.put_name-c-requires

@@ -1,10 +1,9 @@
-use Prim.Native.Nat.{◌≤◌, ◌-◌}
+use Prim.Native.Nat.{◌-◌}
 use mathlib.Core.Path.{◌≡◌, refl, ◌∙◌}
 use mathlib.Core.List.{map}
 use native.Mathlib.Omega.{arith}
 use lib.ListN.{length, length-set, length-map, take}
-use lib.Seq.{sets, take-length}
-use borrow.Author.Rules.{rules}
+use lib.Seq.{take-length}
 use Rattle.put_import.specs.Line.{shown_byte}
 use Rattle.put_import.specs.Copy.{name-more}
 use Rattle.put_import.proofs.put_name.Goals as goal

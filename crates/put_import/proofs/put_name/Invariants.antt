@@ -1,14 +1,11 @@
 -- `put_import::put_name` meets its contract. The loop's invariant: the first i bytes of the name are put as they are shown. The measure
 -- is what is left of the name. Assumes nothing.
 use Prim.Native.Nat.{◌≤◌, ◌-◌}
-use mathlib.Core.Path.{◌≡◌, refl, ◌∙◌}
+use mathlib.Core.Path.{◌≡◌}
 use mathlib.Core.List.{map}
-use native.Mathlib.Omega.{arith}
-use lib.ListN.{length, length-set, length-map, take}
-use lib.Seq.{sets, take-length}
-use borrow.Author.Rules.{rules}
+use lib.ListN.{length, take}
+use lib.Seq.{sets}
 use Rattle.put_import.specs.Line.{shown_byte}
-use Rattle.put_import.specs.Copy.{name-more}
 use Rattle.put_import.proofs.put_name.Given as goal
 
 abbrev pub invariant-loop-i : goal.invariant-loop-i

@@ -2,7 +2,6 @@
 use borrow.Author.Tests.{eq-eqb, ne_eqb}
 use native.Mathlib.Omega.{arith}
 use Rattle.put_import.specs.Line.{line_words}
-use borrow.Author.Rules.{rules}
 use Rattle.put_import.proofs.put_words.Goals as goal
 
 pub put_three-requires : goal.put_three-requires

@@ -2,7 +2,6 @@
 use mathlib.Core.Path.{refl}
 use native.Mathlib.Omega.{arith}
 use Rattle.put_names.specs.Fitting.{put-fitted, past_end}
-use borrow.Author.Rules.{rules}
 use Rattle.put_names.proofs.emit_bytes.Goals as goal
 
 pub returns-then-end-out : goal.returns-then-end-out

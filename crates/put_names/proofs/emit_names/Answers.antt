@@ -1,12 +1,8 @@
-use Prim.Native.Nat.{◌+◌, ◌-◌, ◌*◌, ◌≤◌}
+use Prim.Native.Nat.{◌-◌}
 use mathlib.Core.Path.{◌≡◌, refl}
 use native.Mathlib.Omega.{arith}
-use lib.ListN.{length}
-use Rattle.slices.specs.Places.{tab}
-use Rattle.block.specs.Model.{spaced}
-use Rattle.put_names.specs.Fitting.{Fitted, next, none-fitted}
-use Rattle.model_laws.specs.Spaced.{lettered, names_more, names-none}
-use borrow.Author.Rules.{rules}
+use Rattle.put_names.specs.Fitting.{next, none-fitted}
+use Rattle.model_laws.specs.Spaced.{names_more, names-none}
 use Rattle.put_names.proofs.emit_names.Goals as goal
 
 pub loop-i-init : goal.loop-i-init

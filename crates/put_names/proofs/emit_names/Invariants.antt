@@ -1,14 +1,12 @@
 -- `put_names::emit_names` meets its contract. The loop's invariant: the first i names are put, each with at most four bytes. The measure is
 -- the number of names left. Assumes nothing.
 use Prim.Native.Nat.{◌+◌, ◌-◌, ◌*◌, ◌≤◌}
-use mathlib.Core.Path.{◌≡◌, refl}
-use native.Mathlib.Omega.{arith}
+use mathlib.Core.Path.{◌≡◌}
 use lib.ListN.{length}
 use Rattle.slices.specs.Places.{tab}
 use Rattle.block.specs.Model.{spaced}
-use Rattle.put_names.specs.Fitting.{Fitted, next, none-fitted}
-use Rattle.model_laws.specs.Spaced.{lettered, names_more, names-none}
-use borrow.Author.Rules.{rules}
+use Rattle.put_names.specs.Fitting.{Fitted}
+use Rattle.model_laws.specs.Spaced.{lettered}
 use Rattle.put_names.proofs.emit_names.Given as goal
 
 abbrev pub invariant-loop-i : goal.invariant-loop-i

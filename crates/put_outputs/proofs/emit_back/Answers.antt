@@ -1,15 +1,11 @@
-use Prim.Native.Nat.{ℕ, ◌+◌, ◌-◌, ◌*◌, ◌^◌, ◌≤◌}
+use Prim.Native.Nat.{ℕ, ◌-◌, ◌*◌}
 use mathlib.Core.Path.{◌≡◌, refl, ap, ◌∙◌}
 use native.Mathlib.Omega.{arith}
-use lib.ListN.{length}
-use Rattle.slices.specs.Places.{tab}
-use Rattle.block.specs.Model.{back_covers, patterns_of}
+use Rattle.block.specs.Model.{patterns_of}
 use Rattle.flat_rows.specs.Listing.{rows_from}
-use Rattle.put_names.specs.Fitting.{Fitted, next, none-fitted}
-use Rattle.put_chains.specs.Texts.{cover_text}
+use Rattle.put_names.specs.Fitting.{next, none-fitted}
 use Rattle.model_laws.specs.Powers.{power-more, power_le}
 use Rattle.put_outputs.specs.Outputs.{back_none, back_more}
-use borrow.Author.Rules.{rules}
 use Rattle.put_outputs.proofs.emit_back.Goals as goal
 
 pub loop-j-init : goal.loop-j-init

@@ -1,17 +1,13 @@
 -- `put_outputs::emit_back` meets its contract. The loop's invariant: the covers of the first j outputs are put, and power is 2^j. The
 -- measure is the number of outputs left. Assumes nothing.
-use Prim.Native.Nat.{ℕ, ◌+◌, ◌-◌, ◌*◌, ◌^◌, ◌≤◌}
-use mathlib.Core.Path.{◌≡◌, refl, ap, ◌∙◌}
-use native.Mathlib.Omega.{arith}
+use Prim.Native.Nat.{◌+◌, ◌-◌, ◌*◌, ◌^◌, ◌≤◌}
+use mathlib.Core.Path.{◌≡◌}
 use lib.ListN.{length}
 use Rattle.slices.specs.Places.{tab}
 use Rattle.block.specs.Model.{back_covers, patterns_of}
 use Rattle.flat_rows.specs.Listing.{rows_from}
-use Rattle.put_names.specs.Fitting.{Fitted, next, none-fitted}
+use Rattle.put_names.specs.Fitting.{Fitted}
 use Rattle.put_chains.specs.Texts.{cover_text}
-use Rattle.model_laws.specs.Powers.{power-more, power_le}
-use Rattle.put_outputs.specs.Outputs.{back_none, back_more}
-use borrow.Author.Rules.{rules}
 use Rattle.put_outputs.proofs.emit_back.Given as goal
 
 abbrev pub invariant-loop-j : goal.invariant-loop-j

@@ -5,7 +5,6 @@ use Rattle.block.specs.Model.{pattern}
 use Rattle.put_bytes.specs.Puts.{then}
 use Rattle.put_names.specs.Fitting.{put-fitted, past_end}
 use Rattle.put_outputs.specs.Patterns.{length-cube}
-use borrow.Author.Rules.{rules}
 use Rattle.put_outputs.proofs.emit_cube.Goals as goal
 
 pub returns-then-end-out : goal.returns-then-end-out

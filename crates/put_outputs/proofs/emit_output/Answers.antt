@@ -2,7 +2,6 @@
 use native.Mathlib.Omega.{arith}
 use Rattle.put_names.specs.Fitting.{next}
 use Rattle.put_outputs.specs.Outputs.{output-text}
-use borrow.Author.Rules.{rules}
 use Rattle.put_outputs.proofs.emit_output.Goals as goal
 
 pub returns : goal.returns

@@ -1,13 +1,9 @@
-use Prim.Native.Nat.{◌+◌, ◌-◌, ◌*◌, ◌≤◌}
+use Prim.Native.Nat.{◌+◌, ◌-◌}
 use mathlib.Core.Path.{◌≡◌, refl}
 use native.Mathlib.Omega.{arith}
-use lib.ListN.{length}
 use lib.Pow.{pow_pos}
-use Rattle.block.specs.Model.{patterns_of}
-use Rattle.flat_rows.specs.Listing.{rows_from}
-use Rattle.put_names.specs.Fitting.{Fitted, next, none-fitted}
-use Rattle.put_outputs.specs.Patterns.{pattern_text, patterns-none, patterns-more}
-use borrow.Author.Rules.{rules}
+use Rattle.put_names.specs.Fitting.{next, none-fitted}
+use Rattle.put_outputs.specs.Patterns.{patterns-none, patterns-more}
 use Rattle.put_outputs.proofs.emit_patterns.Goals as goal
 
 pub loop-left-init : goal.loop-left-init

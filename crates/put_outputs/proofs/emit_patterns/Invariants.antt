@@ -1,15 +1,12 @@
 -- `put_outputs::emit_patterns` meets its contract. The loop's invariant: the lines that the first p - left rows bring are put. The measure
 -- is the number of rows left. Assumes nothing.
 use Prim.Native.Nat.{◌+◌, ◌-◌, ◌*◌, ◌≤◌}
-use mathlib.Core.Path.{◌≡◌, refl}
-use native.Mathlib.Omega.{arith}
+use mathlib.Core.Path.{◌≡◌}
 use lib.ListN.{length}
-use lib.Pow.{pow_pos}
 use Rattle.block.specs.Model.{patterns_of}
 use Rattle.flat_rows.specs.Listing.{rows_from}
-use Rattle.put_names.specs.Fitting.{Fitted, next, none-fitted}
-use Rattle.put_outputs.specs.Patterns.{pattern_text, patterns-none, patterns-more}
-use borrow.Author.Rules.{rules}
+use Rattle.put_names.specs.Fitting.{Fitted}
+use Rattle.put_outputs.specs.Patterns.{pattern_text}
 use Rattle.put_outputs.proofs.emit_patterns.Given as goal
 
 abbrev pub invariant-loop-left : goal.invariant-loop-left

@@ -1,9 +1,8 @@
-use Prim.Native.Nat.{◌+◌, ◌-◌, ◌/◌, ◌^◌, ◌≤◌}
+use Prim.Native.Nat.{◌+◌, ◌-◌}
 use mathlib.Core.Path.{◌≡◌, refl}
 use native.Mathlib.Omega.{arith}
 use lib.ListN.{length, length-set}
-use Rattle.put_outputs.specs.Patterns.{symbols_put, symbols-none, symbols-more, symbols-put, half-more}
-use borrow.Author.Rules.{rules}
+use Rattle.put_outputs.specs.Patterns.{symbols-none, symbols-more, symbols-put, half-more}
 use Rattle.put_outputs.proofs.put_cube.Goals as goal
 
 pub loop-left-init : goal.loop-left-init

@@ -1,11 +1,9 @@
 -- `put_outputs::put_cube` meets its contract. The loop's invariant: the first n - left symbols are put, and m and v are the mask and the
 -- values without as many of their lowest digits. The measure is the number of symbols left. Assumes nothing.
-use Prim.Native.Nat.{◌+◌, ◌-◌, ◌/◌, ◌^◌, ◌≤◌}
-use mathlib.Core.Path.{◌≡◌, refl}
-use native.Mathlib.Omega.{arith}
-use lib.ListN.{length, length-set}
-use Rattle.put_outputs.specs.Patterns.{symbols_put, symbols-none, symbols-more, symbols-put, half-more}
-use borrow.Author.Rules.{rules}
+use Prim.Native.Nat.{◌-◌, ◌/◌, ◌^◌, ◌≤◌}
+use mathlib.Core.Path.{◌≡◌}
+use lib.ListN.{length}
+use Rattle.put_outputs.specs.Patterns.{symbols_put}
 use Rattle.put_outputs.proofs.put_cube.Given as goal
 
 abbrev pub invariant-loop-left : goal.invariant-loop-left

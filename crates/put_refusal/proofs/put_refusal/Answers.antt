@@ -2,7 +2,6 @@
 use Rattle.put_bytes.specs.Puts.{then}
 use Rattle.block.specs.Sheet.{refusal_line}
 use native.Mathlib.Omega.{arith}
-use borrow.Author.Rules.{rules}
 use lib.ListN.{length-append}
 use Rattle.put_refusal.proofs.put_refusal.Goals as goal
 

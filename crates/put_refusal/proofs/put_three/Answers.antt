@@ -1,7 +1,6 @@
 -- `put_refusal::put_three` meets its contract: the six puts, one after the other, are the text. Assumes nothing.
 use Rattle.put_bytes.specs.Puts.{then}
 use native.Mathlib.Omega.{arith}
-use borrow.Author.Rules.{rules}
 use lib.ListN.{length-append}
 use Rattle.put_refusal.proofs.put_three.Goals as goal
 

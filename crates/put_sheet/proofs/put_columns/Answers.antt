@@ -3,7 +3,6 @@ use Rattle.put_bytes.specs.Puts.{then}
 use Rattle.put_sheet.specs.Lines.{columns_text}
 use native.Mathlib.Omega.{arith}
 use lib.ListN.{length-append}
-use borrow.Author.Rules.{rules}
 use Rattle.put_sheet.proofs.put_columns.Goals as goal
 
 pub put_section-a-requires : goal.put_section-a-requires

@@ -2,7 +2,6 @@
 use Rattle.put_bytes.specs.Puts.{then}
 use Rattle.put_sheet.specs.Lines.{front_text}
 use native.Mathlib.Omega.{arith}
-use borrow.Author.Rules.{rules}
 use lib.ListN.{length-append}
 use Rattle.put_sheet.proofs.put_front.Goals as goal
 

@@ -1,11 +1,9 @@
-use Prim.Native.Nat.{◌-◌, ◌≤◌}
+use Prim.Native.Nat.{◌-◌}
 use mathlib.Core.Path.{◌≡◌, refl}
 use native.Mathlib.Omega.{arith}
-use borrow.Author.Rules.{rules}
 use lib.ListN.{length, take}
 use lib.Seq.{take-length}
-use Rattle.block.specs.Sheet.{matrix_lines}
-use Rattle.put_bytes.specs.Puts.{Put, then, none-put}
+use Rattle.put_bytes.specs.Puts.{then, none-put}
 use Rattle.put_sheet.specs.Length.{line-within}
 use Rattle.put_sheet.specs.Lines.{matrix-none, matrix-more}
 use Rattle.put_sheet.proofs.put_matrix.Goals as goal

@@ -1,15 +1,10 @@
 -- `put_sheet::put_matrix` meets its contract. The loop's invariant: the lines of the first i numbers are put. The measure is how many are
 -- left. Assumes nothing.
 use Prim.Native.Nat.{◌-◌, ◌≤◌}
-use mathlib.Core.Path.{◌≡◌, refl}
-use native.Mathlib.Omega.{arith}
-use borrow.Author.Rules.{rules}
+use mathlib.Core.Path.{◌≡◌}
 use lib.ListN.{length, take}
-use lib.Seq.{take-length}
 use Rattle.block.specs.Sheet.{matrix_lines}
-use Rattle.put_bytes.specs.Puts.{Put, then, none-put}
-use Rattle.put_sheet.specs.Length.{line-within}
-use Rattle.put_sheet.specs.Lines.{matrix-none, matrix-more}
+use Rattle.put_bytes.specs.Puts.{Put}
 use Rattle.put_sheet.proofs.put_matrix.Given as goal
 
 abbrev pub invariant-loop-i : goal.invariant-loop-i

@@ -2,7 +2,6 @@
 use Rattle.put_bytes.specs.Puts.{then}
 use Rattle.block.specs.Sheet.{section}
 use native.Mathlib.Omega.{arith}
-use borrow.Author.Rules.{rules}
 use lib.ListN.{length-append}
 use Rattle.put_sheet.proofs.put_section.Goals as goal
 

@@ -1,6 +1,5 @@
 -- `put_sheet::put_sheet` meets its contract: the four parts, one after the other, are the sheet. Assumes nothing.
 use native.Mathlib.Omega.{arith}
-use borrow.Author.Rules.{rules}
 use lib.ListN.{length-append}
 use Rattle.flat_rows.specs.Listing.{rows_from}
 use Rattle.put_bytes.specs.Puts.{then}

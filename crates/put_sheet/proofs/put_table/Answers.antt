@@ -1,6 +1,5 @@
 -- `put_sheet::put_table` meets its contract: the first line and the rows, one after the other. Assumes nothing.
 use native.Mathlib.Omega.{arith}
-use borrow.Author.Rules.{rules}
 use lib.ListN.{length-append}
 use Rattle.slices.specs.Filled.{length-tab}
 use Rattle.put_bytes.specs.Puts.{then}

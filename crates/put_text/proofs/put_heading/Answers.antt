@@ -1,6 +1,5 @@
 -- `put_text::put_heading` meets its contract: the five puts, one after the other, are the heading. Assumes nothing.
 use native.Mathlib.Omega.{arith}
-use borrow.Author.Rules.{rules}
 use lib.ListN.{length-append}
 use Rattle.put_bytes.specs.Puts.{then}
 use Rattle.block.specs.Text.{head_line}

@@ -2,7 +2,6 @@
 use native.Mathlib.Omega.{arith}
 use lib.ListN.{length-append}
 use Rattle.put_bytes.specs.Puts.{then}
-use borrow.Author.Rules.{rules}
 use Rattle.put_text.proofs.put_headings.Goals as goal
 
 pub put_heading-a-requires : goal.put_heading-a-requires

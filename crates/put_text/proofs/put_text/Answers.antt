@@ -1,6 +1,5 @@
 -- `put_text::put_text` meets its contract: the headings, the rows and the last line, one after the other, are the text. Assumes nothing.
 use native.Mathlib.Omega.{arith}
-use borrow.Author.Rules.{rules}
 use lib.ListN.{length-append}
 use Rattle.put_bytes.specs.Puts.{then}
 use Rattle.put_text.specs.Parts.{text-parts}

@@ -3,7 +3,6 @@ use native.Mathlib.Omega.{arith}
 use borrow.Author.Tests.{eq-eqb, ne_eqb}
 use Rattle.put_bytes.specs.Puts.{none-put}
 use Rattle.put_text.specs.Length.{type-length}
-use borrow.Author.Rules.{rules}
 use Rattle.put_text.proofs.put_type_line.Goals as goal
 
 pub returns-then-type_line-eq0 : goal.returns-then-type_line-eq0

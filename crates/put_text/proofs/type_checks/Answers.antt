@@ -3,7 +3,6 @@ use mathlib.Core.Path.{refl}
 use Rattle.block.specs.Limits.{list_inputs}
 use Rattle.refusal_laws.specs.Verdicts.{asked-where}
 use Rattle.shared_checks.specs.Sizes.{asked-sizes}
-use borrow.Author.Rules.{rules}
 use Rattle.put_text.proofs.type_checks.Goals as goal
 
 pub returns : goal.returns

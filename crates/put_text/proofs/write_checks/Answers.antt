@@ -11,7 +11,6 @@ use Rattle.refusal_laws.specs.Verdicts.{verdict-hit, verdict-miss, zero-too, par
 use Rattle.shared_checks.specs.Sizes.{inside, sizes-pass}
 use Rattle.put_text.specs.Checks.{bad-check}
 use Rattle.flat_rows.specs.Listing.{rows-count, equal-lengths}
-use borrow.Author.Rules.{rules}
 use Rattle.put_text.proofs.write_checks.Goals as goal
 
 pub returns-then-size-ne0 : goal.returns-then-size-ne0

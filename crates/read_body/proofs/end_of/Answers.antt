@@ -1,5 +1,4 @@
 -- `read_body::end_of` meets its contract: each return is the case of `end_of` that the tests on the way lead to. Assumes nothing.
-use borrow.Author.Rules.{rules}
 use borrow.Author.Tests.{eq-eqb, ne_eqb}
 use Rattle.read_laws.specs.ByPlace.{end_of}
 use Rattle.read_body.proofs.end_of.Goals as goal

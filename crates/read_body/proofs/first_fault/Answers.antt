@@ -1,6 +1,5 @@
 -- `read_body::first_fault` meets its contract: the first broken row, or what the last line and the text's end say. Assumes nothing.
 use native.Mathlib.Omega.{arith}
-use borrow.Author.Rules.{rules}
 use borrow.Author.Tests.{lt-ltb, le-ltb}
 use Rattle.read_laws.specs.Front.{rows-bytes-le}
 use Rattle.read_laws.specs.ByPlace.{fault_of}

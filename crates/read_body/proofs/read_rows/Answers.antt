@@ -1,7 +1,6 @@
 -- `read_body::read_rows` meets its contract: a faulty line leaves the slices alone, and where there is none the rows are copied to them.
 -- Assumes nothing.
 use mathlib.Core.Path.{sym, ◌∙◌}
-use borrow.Author.Rules.{rules}
 use Rattle.read_body.specs.Kept.{filled-not, none-broken, filled-copied}
 use Rattle.read_body.proofs.read_rows.Goals as goal
 

@@ -1,20 +1,12 @@
 -- `read_body::read_sound` meets its contract. The loop's invariant: no row passed is broken, the fields of the rows passed lie over each
 -- slice, and the next row starts at its place. The measure is the number of rows left. Assumes nothing.
 use mathlib.Core.Bool.{false}
-use mathlib.Core.Path.{◌≡◌, refl, sym, ap, ◌∙◌}
+use mathlib.Core.Path.{◌≡◌}
 use Prim.Native.Nat.{ℕ, ◌+◌, ◌*◌, ◌-◌, ◌≤◌, ◌<◌}
-use native.Mathlib.Omega.{arith}
-use borrow.Author.Count.{below_more}
-use borrow.Author.Rules.{rules}
-use lib.ListN.{length, length-set}
+use lib.ListN.{length}
 use Rattle.slices.specs.Places.{tab, over}
-use Rattle.slices.specs.Filled.{over_none, over-more}
-use Rattle.slices.specs.Least.{first-is}
 use Rattle.block.specs.Words.{mask_part, values_part, word_part}
-use Rattle.read_laws.specs.Front.{rows-bytes-le}
-use Rattle.read_laws.specs.ByPlace.{row_from, row_or, is_broken, line_of, broken_line, field_of}
-use Rattle.read_laws.specs.declared.Line.{Line}
-use Rattle.read_laws.specs.declared.Line.TheVariants.{Broken, Sound}
+use Rattle.read_laws.specs.ByPlace.{broken_line, field_of}
 use Rattle.read_body.proofs.read_sound.Given as goal
 
 abbrev pub invariant-loop-i : goal.invariant-loop-i

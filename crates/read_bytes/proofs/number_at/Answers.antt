@@ -1,13 +1,10 @@
-use Prim.Native.Nat.{◌-◌, ◌≤◌}
-use mathlib.Core.Path.{◌≡◌, sym, ◌∙◌}
+use Prim.Native.Nat.{◌-◌}
+use mathlib.Core.Path.{sym, ◌∙◌}
 use native.Mathlib.Omega.{arith}
 use borrow.Author.Count.{below_more}
-use borrow.Author.Rules.{rules}
-use borrow.Author.Tests.{not-true, not-false}
-use Rattle.block.specs.Text.{value_of}
-use Rattle.read_laws.specs.ByPlace.{longest, bytes_at}
+use Rattle.read_laws.specs.ByPlace.{longest}
 use Rattle.read_laws.specs.Numerals.{digit-range}
-use Rattle.read_bytes.specs.Digits.{AllDigits, value_none, value-more, value-below, number-ends}
+use Rattle.read_bytes.specs.Digits.{value_none, value-more, value-below, number-ends}
 use Rattle.read_bytes.proofs.number_at.Goals as goal
 
 pub loop-count-init : goal.loop-count-init

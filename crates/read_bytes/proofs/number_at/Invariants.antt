@@ -1,15 +1,10 @@
 -- `read_bytes::number_at` meets its contract. The loop's invariant: the first `count` bytes are digits, and v is what they spell. The measure is
 -- the number of digits left. Assumes nothing.
 use Prim.Native.Nat.{◌-◌, ◌≤◌}
-use mathlib.Core.Path.{◌≡◌, sym, ◌∙◌}
-use native.Mathlib.Omega.{arith}
-use borrow.Author.Count.{below_more}
-use borrow.Author.Rules.{rules}
-use borrow.Author.Tests.{not-true, not-false}
+use mathlib.Core.Path.{◌≡◌}
 use Rattle.block.specs.Text.{value_of}
-use Rattle.read_laws.specs.ByPlace.{longest, bytes_at}
-use Rattle.read_laws.specs.Numerals.{digit-range}
-use Rattle.read_bytes.specs.Digits.{AllDigits, value_none, value-more, value-below, number-ends}
+use Rattle.read_laws.specs.ByPlace.{bytes_at}
+use Rattle.read_bytes.specs.Digits.{AllDigits}
 use Rattle.read_bytes.proofs.number_at.Given as goal
 
 abbrev pub invariant-loop-count : goal.invariant-loop-count

@@ -3,7 +3,6 @@ use mathlib.Core.Path.{refl}
 use Rattle.slices.specs.Places.{at}
 use Rattle.read_names.specs.Fate.{Came}
 use Rattle.read_chains.specs.Chains.{Ended}
-use borrow.Author.Rules.{rules}
 use Rattle.read_chains.proofs.end_row.Goals as goal
 
 pub returns-in-Stop : goal.returns-in-Stop

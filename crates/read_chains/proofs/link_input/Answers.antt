@@ -1,12 +1,11 @@
-use mathlib.Core.Path.{◌≡◌, sym, ◌∙◌}
+use mathlib.Core.Path.{sym, ◌∙◌}
 use mathlib.Core.Bool.{false}
-use Prim.Native.Nat.{ℕ, ◌-◌, ◌≤◌, ◌<◌}
+use Prim.Native.Nat.{◌-◌}
 use native.Mathlib.Omega.{arith}
 use Rattle.slices.specs.Places.{at}
 use borrow.Author.Count.{below_more}
 use Rattle.slices.specs.Least.{first-is}
 use Rattle.read_chains.specs.Chains.{linked_at}
-use borrow.Author.Rules.{rules}
 use Rattle.read_chains.proofs.link_input.Goals as goal
 
 pub loop-b-init : goal.loop-b-init

@@ -1,14 +1,10 @@
 -- `read_chains::link_input` meets its contract. The loop's invariant: no input passed fits. The measure is the number of inputs left.
 -- Assumes nothing.
-use mathlib.Core.Path.{◌≡◌, sym, ◌∙◌}
+use mathlib.Core.Path.{◌≡◌}
 use mathlib.Core.Bool.{false}
 use Prim.Native.Nat.{ℕ, ◌-◌, ◌≤◌, ◌<◌}
-use native.Mathlib.Omega.{arith}
 use Rattle.slices.specs.Places.{at}
-use borrow.Author.Count.{below_more}
-use Rattle.slices.specs.Least.{first-is}
 use Rattle.read_chains.specs.Chains.{linked_at}
-use borrow.Author.Rules.{rules}
 use Rattle.read_chains.proofs.link_input.Given as goal
 
 abbrev pub invariant-loop-b : goal.invariant-loop-b

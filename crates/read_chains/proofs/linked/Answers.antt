@@ -4,7 +4,6 @@ use native.Mathlib.Omega.{arith}
 use Rattle.slices.specs.Places.{at}
 use Rattle.read_names.specs.Met.{lost-is}
 use Rattle.read_chains.specs.Chains.{linked-low, linked-ends, linked-over, linked-goes}
-use borrow.Author.Rules.{rules}
 use Rattle.read_chains.proofs.linked.Goals as goal
 
 pub returns-then-power-m : goal.returns-then-power-m

@@ -1,10 +1,10 @@
 -- `read_chains::meet_input` meets its contract: the space and the name are met one after the other. Assumes nothing.
-use mathlib.Core.List.{[], ◌∷◌}
+use mathlib.Core.List.{[]}
+use mathlib.Core.List.{◌∷◌}
 use native.Mathlib.Omega.{arith}
 use Rattle.slices.specs.Places.{at}
 use Rattle.block.specs.Model.{x_name}
 use Rattle.read_names.specs.Met.{met-and}
-use borrow.Author.Rules.{rules}
 use Rattle.read_chains.proofs.meet_input.Goals as goal
 
 pub returns : goal.returns

@@ -5,7 +5,6 @@ use Rattle.slices.specs.Places.{at}
 use Rattle.block.specs.Model.{part_name}
 use Rattle.read_names.specs.Met.{met-and}
 use Rattle.read_chains.specs.Chains.{opening}
-use borrow.Author.Rules.{rules}
 use Rattle.read_chains.proofs.meet_so_far.Goals as goal
 
 pub returns : goal.returns

@@ -1,10 +1,8 @@
 use mathlib.Core.Path.{sym, ◌∙◌}
-use mathlib.Core.List.{List}
-use Prim.Native.Nat.{ℕ, ◌+◌, ◌-◌, ◌^◌, ◌≤◌, ◌<◌}
+use Prim.Native.Nat.{◌+◌, ◌-◌}
 use native.Mathlib.Omega.{arith}
 use Rattle.slices.specs.Places.{at}
-use Rattle.read_chains.specs.Chains.{Chaining, Going, power_small}
-use Rattle.block.specs.ModelRead.{State}
+use Rattle.read_chains.specs.Chains.{power_small}
 use Rattle.read_chains.specs.Chains.{Grown, going-first, going-none, going-last, going-broken, going-part, few-parts, parts_more}
 use borrow.Author.Rules.{rules}
 use Rattle.read_chains.proofs.read_chain.Goals as goal

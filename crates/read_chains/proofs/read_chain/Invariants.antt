@@ -1,14 +1,10 @@
 -- `read_chains::read_chain` meets its contract. The loop's invariant: the chain has come from the first line to this one with its inputs so
 -- far, which more than doubled with each part. The measure is what they can still grow. Assumes nothing.
-use mathlib.Core.Path.{sym, ◌∙◌}
 use mathlib.Core.List.{List}
 use Prim.Native.Nat.{ℕ, ◌+◌, ◌-◌, ◌^◌, ◌≤◌, ◌<◌}
-use native.Mathlib.Omega.{arith}
 use Rattle.slices.specs.Places.{at}
-use Rattle.read_chains.specs.Chains.{Chaining, Going, power_small}
+use Rattle.read_chains.specs.Chains.{Chaining, Going}
 use Rattle.block.specs.ModelRead.{State}
-use Rattle.read_chains.specs.Chains.{Grown, going-first, going-none, going-last, going-broken, going-part, few-parts, parts_more}
-use borrow.Author.Rules.{rules}
 use Rattle.read_chains.proofs.read_chain.Given as goal
 
 abbrev pub invariant-loop-all : goal.invariant-loop-all

@@ -7,7 +7,6 @@ use mathlib.Core.Path.{ap₂}
 use Rattle.read_names.specs.Met.{lost-is}
 use Rattle.read_chains.specs.declared.Link.TheVariants.{Last, Part}
 use Rattle.read_chains.specs.Chains.{link-told, link-none, link-last, link-part, power_small}
-use borrow.Author.Rules.{rules}
 use Rattle.read_chains.proofs.read_link.Goals as goal
 
 pub returns-then-n-b : goal.returns-then-n-b

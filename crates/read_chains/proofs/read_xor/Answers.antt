@@ -1,13 +1,13 @@
 -- `read_chains::read_xor` meets its contract: the second line is read where the first stands. Assumes nothing.
+use mathlib.Core.List.{[]}
 use mathlib.Core.Path.{refl}
-use mathlib.Core.List.{[], ◌∷◌}
+use mathlib.Core.List.{◌∷◌}
 use Rattle.slices.specs.Places.{at}
 use Rattle.model_laws.specs.WordLines.{is_line}
 use Rattle.read_names.specs.Fate.{Came}
 use Rattle.block.specs.Model.{cube_line}
 use Rattle.block.specs.ModelRead.{Due, xor_due}
 use Rattle.read_names.specs.Fate.{came-after}
-use borrow.Author.Rules.{rules}
 use Rattle.read_chains.proofs.read_xor.Goals as goal
 
 pub read_line-requires : goal.read_line-requires

@@ -1,7 +1,6 @@
 -- `read_headings::counted` meets its contract: what the heading gives leads to the case of `counted_of`. Assumes nothing.
 use mathlib.Core.Path.{ap, sym, ◌∙◌}
 use native.Mathlib.Omega.{arith}
-use borrow.Author.Rules.{rules}
 use Rattle.read_laws.specs.ByPlace.{counted_of, width_of}
 use Rattle.read_headings.proofs.counted.Goals as goal
 

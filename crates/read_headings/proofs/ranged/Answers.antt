@@ -1,6 +1,5 @@
 -- `read_headings::ranged` meets its contract: each return is the case of `ranged_of` that the tests on the way lead to. Assumes nothing.
 use mathlib.Core.Path.{sym, ◌∙◌}
-use borrow.Author.Rules.{rules}
 use borrow.Author.Tests.{lt-ltb, le-ltb}
 use Rattle.block.specs.Limits.{list_inputs, outputs, given_rows}
 use Rattle.shared_checks.specs.Sizes.{inside}

@@ -1,7 +1,6 @@
 -- `read_headings::read_headings` meets its contract: what each heading gives leads to the case of `opening_of`. Assumes nothing.
 use mathlib.Core.Path.{ap, sym, ◌∙◌}
 use native.Mathlib.Omega.{arith}
-use borrow.Author.Rules.{rules}
 use Rattle.read_laws.specs.ByPlace.{opening_of, width_of}
 use Rattle.read_headings.proofs.read_headings.Goals as goal
 

@@ -1,9 +1,8 @@
-use Prim.Native.Nat.{◌≤◌, ◌-◌}
+use Prim.Native.Nat.{◌-◌}
 use mathlib.Core.Path.{◌≡◌, sym, ◌∙◌}
 use native.Mathlib.Omega.{arith}
-use borrow.Author.Rules.{rules}
 use lib.ListN.{length}
-use Rattle.read_laws.specs.TypeLines.{StandsTo, stands-more, stands-all, stands-not}
+use Rattle.read_laws.specs.TypeLines.{stands-more, stands-all, stands-not}
 use Rattle.read_headings.proofs.stands_at.Goals as goal
 
 pub loop-i-init : goal.loop-i-init

@@ -1,11 +1,8 @@
 -- `read_headings::stands_at` meets its contract. The loop's invariant: the first i bytes of the line stand there. The measure is what is
 -- left of the line. Assumes nothing.
 use Prim.Native.Nat.{◌≤◌, ◌-◌}
-use mathlib.Core.Path.{◌≡◌, sym, ◌∙◌}
-use native.Mathlib.Omega.{arith}
-use borrow.Author.Rules.{rules}
 use lib.ListN.{length}
-use Rattle.read_laws.specs.TypeLines.{StandsTo, stands-more, stands-all, stands-not}
+use Rattle.read_laws.specs.TypeLines.{StandsTo}
 use Rattle.read_headings.proofs.stands_at.Given as goal
 
 abbrev pub invariant-loop-i : goal.invariant-loop-i

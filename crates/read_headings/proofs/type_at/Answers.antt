@@ -1,7 +1,6 @@
 -- `read_headings::type_at` meets its contract: each return is the case of `type_at` that the tests on the way lead to. Assumes nothing.
 use mathlib.Core.Path.{sym, ap, ◌∙◌}
 use native.Mathlib.Omega.{arith}
-use borrow.Author.Rules.{rules}
 use Rattle.read_laws.specs.ByPlace.{type_at}
 use Rattle.read_laws.specs.declared.TypeLine.{TypeLine}
 use Rattle.read_headings.proofs.type_at.Goals as goal

@@ -1,6 +1,5 @@
 -- `read_kinds::in_numbers` meets its contract, by the two cases of an answer. Assumes nothing.
 use mathlib.Core.Path.{sym, ap}
-use borrow.Author.Rules.{rules}
 use Rattle.block.specs.Text.{numbers}
 use Rattle.read_kinds.proofs.in_numbers.Goals as goal
 

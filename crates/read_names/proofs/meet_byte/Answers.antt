@@ -2,7 +2,6 @@
 use mathlib.Core.Path.{sym, ◌∙◌}
 use Rattle.slices.specs.Places.{at}
 use Rattle.read_names.specs.Met.{lost-is, byte-met, byte-other, byte_past}
-use borrow.Author.Rules.{rules}
 use Rattle.read_names.proofs.meet_byte.Goals as goal
 
 pub returns-then-text-at : goal.returns-then-text-at

@@ -1,11 +1,10 @@
 use mathlib.Core.Path.{◌≡◌, sym, ap, ◌∙◌}
-use Prim.Native.Nat.{◌-◌, ◌≤◌}
+use Prim.Native.Nat.{◌-◌}
 use native.Mathlib.Omega.{arith}
 use lib.ListN.{length, take}
 use lib.Seq.{take-length}
 use Rattle.slices.specs.Places.{at}
 use Rattle.read_names.specs.Met.{met_at, met-none, met-more}
-use borrow.Author.Rules.{rules}
 use Rattle.read_names.proofs.meet_bytes.Goals as goal
 
 pub loop-i-init : goal.loop-i-init

@@ -1,13 +1,10 @@
 -- `read_names::meet_bytes` meets its contract. The loop's invariant: the place is that after the bytes passed. The measure is the number
 -- of bytes left. Assumes nothing.
-use mathlib.Core.Path.{◌≡◌, sym, ap, ◌∙◌}
+use mathlib.Core.Path.{◌≡◌}
 use Prim.Native.Nat.{◌-◌, ◌≤◌}
-use native.Mathlib.Omega.{arith}
 use lib.ListN.{length, take}
-use lib.Seq.{take-length}
 use Rattle.slices.specs.Places.{at}
-use Rattle.read_names.specs.Met.{met_at, met-none, met-more}
-use borrow.Author.Rules.{rules}
+use Rattle.read_names.specs.Met.{met_at}
 use Rattle.read_names.proofs.meet_bytes.Given as goal
 
 abbrev pub invariant-loop-i : goal.invariant-loop-i

@@ -1,10 +1,10 @@
 -- `read_names::meet_name` meets its contract: the letter and the number are met one after the other. Assumes nothing.
-use mathlib.Core.List.{[], ◌∷◌}
+use mathlib.Core.List.{[]}
+use mathlib.Core.List.{◌∷◌}
 use native.Mathlib.Omega.{arith}
 use Rattle.slices.specs.Places.{at}
 use Rattle.block.specs.Text.{decimal}
 use Rattle.read_names.specs.Met.{met-and}
-use borrow.Author.Rules.{rules}
 use Rattle.read_names.proofs.meet_name.Goals as goal
 
 pub returns : goal.returns

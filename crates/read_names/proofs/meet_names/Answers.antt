@@ -1,12 +1,12 @@
+use mathlib.Core.List.{[]}
 use mathlib.Core.Path.{◌≡◌, sym}
-use mathlib.Core.List.{[], ◌∷◌}
-use Prim.Native.Nat.{◌-◌, ◌≤◌}
+use mathlib.Core.List.{◌∷◌}
+use Prim.Native.Nat.{◌-◌}
 use native.Mathlib.Omega.{arith}
 use Rattle.slices.specs.Places.{at, tab}
 use Rattle.block.specs.Model.{spaced}
 use Rattle.model_laws.specs.Spaced.{lettered, names_more, names-none}
-use Rattle.read_names.specs.Met.{met_at, met-none, met-and}
-use borrow.Author.Rules.{rules}
+use Rattle.read_names.specs.Met.{met-none, met-and}
 use Rattle.read_names.proofs.meet_names.Goals as goal
 
 pub loop-i-init : goal.loop-i-init

@@ -1,14 +1,11 @@
 -- `read_names::meet_names` meets its contract. The loop's invariant: the place is that after the names passed. The measure is the number
 -- of names left. Assumes nothing.
-use mathlib.Core.Path.{◌≡◌, sym}
-use mathlib.Core.List.{[], ◌∷◌}
+use mathlib.Core.Path.{◌≡◌}
 use Prim.Native.Nat.{◌-◌, ◌≤◌}
-use native.Mathlib.Omega.{arith}
 use Rattle.slices.specs.Places.{at, tab}
 use Rattle.block.specs.Model.{spaced}
-use Rattle.model_laws.specs.Spaced.{lettered, names_more, names-none}
-use Rattle.read_names.specs.Met.{met_at, met-none, met-and}
-use borrow.Author.Rules.{rules}
+use Rattle.model_laws.specs.Spaced.{lettered}
+use Rattle.read_names.specs.Met.{met_at}
 use Rattle.read_names.proofs.meet_names.Given as goal
 
 abbrev pub invariant-loop-i : goal.invariant-loop-i

@@ -1,9 +1,9 @@
 -- `read_names::meet_number` meets its contract: a number below 10 is one digit, and one below 100 two. Assumes nothing.
-use mathlib.Core.List.{[], ◌∷◌}
+use mathlib.Core.List.{[]}
+use mathlib.Core.List.{◌∷◌}
 use native.Mathlib.Omega.{arith}
 use Rattle.slices.specs.Places.{at}
 use Rattle.read_names.specs.Met.{one-digit, two_digits, met-and}
-use borrow.Author.Rules.{rules}
 use Rattle.read_names.proofs.meet_number.Goals as goal
 
 pub returns-then-v-lt10 : goal.returns-then-v-lt10

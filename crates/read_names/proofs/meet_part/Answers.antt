@@ -1,11 +1,11 @@
 -- `read_names::meet_part` meets its contract: the row's name, the dash and the number are met one after the other. Assumes nothing.
-use mathlib.Core.List.{[], ◌∷◌}
+use mathlib.Core.List.{[]}
+use mathlib.Core.List.{◌∷◌}
 use native.Mathlib.Omega.{arith}
 use Rattle.slices.specs.Places.{at}
 use Rattle.block.specs.Text.{decimal}
 use Rattle.model_laws.specs.Spaced.{lettered}
 use Rattle.read_names.specs.Met.{met-and}
-use borrow.Author.Rules.{rules}
 use Rattle.read_names.proofs.meet_part.Goals as goal
 
 pub returns : goal.returns

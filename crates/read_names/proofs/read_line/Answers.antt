@@ -4,7 +4,6 @@ use native.Mathlib.Omega.{arith}
 use Rattle.slices.specs.Places.{at}
 use Rattle.read_names.specs.Met.{lost-is}
 use Rattle.read_names.specs.Fate.{Came, due-came, due-lost}
-use borrow.Author.Rules.{rules}
 use Rattle.read_names.proofs.read_line.Goals as goal
 
 pub returns-then-to : goal.returns-then-to

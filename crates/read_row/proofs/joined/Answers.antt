@@ -1,5 +1,4 @@
 -- `read_row::joined` meets its contract: each return is the case of `joined_of` that the tests on the way lead to. Assumes nothing.
-use borrow.Author.Rules.{rules}
 use borrow.Author.Tests.{eq-eqb, ne_eqb}
 use Rattle.read_laws.specs.ByPlace.{joined_of}
 use Rattle.read_row.proofs.joined.Goals as goal

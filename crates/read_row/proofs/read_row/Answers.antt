@@ -1,5 +1,4 @@
 -- `read_row::read_row` meets its contract: its four parts, joined. Assumes nothing.
-use borrow.Author.Rules.{rules}
 use Rattle.read_laws.specs.ByPlace.{row_from}
 use Rattle.read_row.proofs.read_row.Goals as goal
 

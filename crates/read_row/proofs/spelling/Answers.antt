@@ -1,11 +1,11 @@
-use mathlib.Core.Path.{◌≡◌, refl, sym, ap, ◌∙◌}
-use Prim.Native.Nat.{◌+◌, ◌*◌, ◌^◌, ◌≤◌, ◌<◌, ◌-◌}
+use mathlib.Core.Path.{◌≡◌, refl, sym, ◌∙◌}
+use Prim.Native.Nat.{◌^◌, ◌≤◌, ◌<◌, ◌-◌}
 use native.Mathlib.Numerals.{add-one}
 use native.Mathlib.Omega.{arith}
 use lib.Pow.{pow_mono}
 use borrow.Author.Rules.{rules}
-use Rattle.read_row.specs.Told.{told_of, told-small, bit-more, step-told}
-use Rattle.read_laws.specs.ByPlace.{spelled_at, step_of}
+use Rattle.read_row.specs.Told.{told-small, bit-more, step-told}
+use Rattle.read_laws.specs.ByPlace.{spelled_at}
 use Rattle.read_row.proofs.spelling.Goals as goal
 use Rattle.read_row.proofs.spelling.Goals.{In-loop-i}
 

@@ -1,13 +1,9 @@
 -- `read_row::spelling` meets its contract. The loop's invariant: what is told is what the first i symbols spell, and each number is small.
 -- The measure is the number of symbols left. Assumes nothing.
-use mathlib.Core.Path.{◌≡◌, refl, sym, ap, ◌∙◌}
-use Prim.Native.Nat.{◌+◌, ◌*◌, ◌^◌, ◌≤◌, ◌<◌, ◌-◌}
-use native.Mathlib.Numerals.{add-one}
-use native.Mathlib.Omega.{arith}
-use lib.Pow.{pow_mono}
-use borrow.Author.Rules.{rules}
-use Rattle.read_row.specs.Told.{told_of, told-small, bit-more, step-told}
-use Rattle.read_laws.specs.ByPlace.{spelled_at, step_of}
+use mathlib.Core.Path.{◌≡◌}
+use Prim.Native.Nat.{◌^◌, ◌≤◌, ◌<◌, ◌-◌}
+use Rattle.read_row.specs.Told.{told_of}
+use Rattle.read_laws.specs.ByPlace.{spelled_at}
 use Rattle.read_row.proofs.spelling.Given as goal
 
 abbrev pub invariant-loop-i : goal.invariant-loop-i

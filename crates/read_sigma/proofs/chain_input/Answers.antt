@@ -1,7 +1,7 @@
 use mathlib.Core.Path.{◌≡◌, sym, ap, ◌∙◌}
 use mathlib.Core.Bool.{false}
 use mathlib.Core.List.{List, ◌∷◌}
-use Prim.Native.Nat.{ℕ, ◌-◌, ◌^◌, ◌≤◌, ◌<◌}
+use Prim.Native.Nat.{ℕ, ◌-◌, ◌^◌}
 use native.Mathlib.Omega.{arith}
 use borrow.Author.Tests.{lt-ltb, le-ltb}
 use Rattle.slices.specs.Places.{at, first}
@@ -13,7 +13,6 @@ use Rattle.read_names.specs.Met.{met_at}
 use Rattle.read_chains.specs.Chains.{linked_at}
 use Rattle.read_sigma.specs.Rows.{chain_at}
 use mathlib.Core.Path.{ap₂}
-use borrow.Author.Rules.{rules}
 use Rattle.read_sigma.proofs.chain_input.Goals as goal
 
 -- the test by what was found

@@ -1,21 +1,10 @@
 -- `read_sigma::chain_input` meets its contract. The loop's invariant: no chain begins with an input passed. The measure is the number of
 -- inputs left. Assumes nothing.
-use mathlib.Core.Path.{◌≡◌, sym, ap, ◌∙◌}
+use mathlib.Core.Path.{◌≡◌}
 use mathlib.Core.Bool.{false}
-use mathlib.Core.List.{List, ◌∷◌}
-use Prim.Native.Nat.{ℕ, ◌-◌, ◌^◌, ◌≤◌, ◌<◌}
-use native.Mathlib.Omega.{arith}
-use borrow.Author.Tests.{lt-ltb, le-ltb}
-use Rattle.slices.specs.Places.{at, first}
-use borrow.Author.Count.{below_more}
-use lib.Dec.{ltb}
-use Rattle.slices.specs.Least.{first-is}
-use Rattle.block.specs.Model.{x_name}
-use Rattle.read_names.specs.Met.{met_at}
-use Rattle.read_chains.specs.Chains.{linked_at}
+use Prim.Native.Nat.{ℕ, ◌-◌, ◌≤◌, ◌<◌}
+use Rattle.slices.specs.Places.{at}
 use Rattle.read_sigma.specs.Rows.{chain_at}
-use mathlib.Core.Path.{ap₂}
-use borrow.Author.Rules.{rules}
 use Rattle.read_sigma.proofs.chain_input.Given as goal
 
 abbrev pub invariant-loop-a : goal.invariant-loop-a

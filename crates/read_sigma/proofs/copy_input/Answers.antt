@@ -1,7 +1,8 @@
+use mathlib.Core.List.{[]}
 use mathlib.Core.Path.{◌≡◌, sym, ◌∙◌}
 use mathlib.Core.Bool.{false}
-use mathlib.Core.List.{[], ◌∷◌, ◌++◌}
-use Prim.Native.Nat.{ℕ, ◌+◌, ◌-◌, ◌≤◌, ◌<◌}
+use mathlib.Core.List.{◌∷◌, ◌++◌}
+use Prim.Native.Nat.{◌+◌, ◌-◌}
 use native.Mathlib.Omega.{arith}
 use Rattle.slices.specs.Places.{at}
 use borrow.Author.Count.{below_more}
@@ -9,7 +10,6 @@ use Rattle.slices.specs.Least.{first-is}
 use Rattle.block.specs.Model.{x_name, z_name}
 use Rattle.read_names.specs.Met.{lost-is, met-found, met-missed}
 use Rattle.read_sigma.specs.Rows.{copy_at}
-use borrow.Author.Rules.{rules}
 use Rattle.read_sigma.proofs.copy_input.Goals as goal
 
 pub loop-a-init : goal.loop-a-init

@@ -1,17 +1,10 @@
 -- `read_sigma::copy_input` meets its contract. The loop's invariant: no input passed is copied. The measure is the number of inputs left.
 -- Assumes nothing.
-use mathlib.Core.Path.{◌≡◌, sym, ◌∙◌}
+use mathlib.Core.Path.{◌≡◌}
 use mathlib.Core.Bool.{false}
-use mathlib.Core.List.{[], ◌∷◌, ◌++◌}
-use Prim.Native.Nat.{ℕ, ◌+◌, ◌-◌, ◌≤◌, ◌<◌}
-use native.Mathlib.Omega.{arith}
+use Prim.Native.Nat.{ℕ, ◌-◌, ◌≤◌, ◌<◌}
 use Rattle.slices.specs.Places.{at}
-use borrow.Author.Count.{below_more}
-use Rattle.slices.specs.Least.{first-is}
-use Rattle.block.specs.Model.{x_name, z_name}
-use Rattle.read_names.specs.Met.{lost-is, met-found, met-missed}
 use Rattle.read_sigma.specs.Rows.{copy_at}
-use borrow.Author.Rules.{rules}
 use Rattle.read_sigma.proofs.copy_input.Given as goal
 
 abbrev pub invariant-loop-a : goal.invariant-loop-a

@@ -4,7 +4,6 @@ use Rattle.slices.specs.Places.{at}
 use Rattle.model_laws.specs.WordLines.{is_line}
 use Rattle.read_names.specs.Fate.{Came}
 use Rattle.read_chains.specs.Chains.{Ended}
-use borrow.Author.Rules.{rules}
 use Rattle.read_sigma.proofs.end_copy.Goals as goal
 
 pub read_line-requires : goal.read_line-requires

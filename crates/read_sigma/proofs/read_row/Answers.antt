@@ -5,7 +5,6 @@ use Rattle.block.specs.ModelRead.{RowDue}
 use Rattle.read_chains.specs.Chains.{Chained, power-lt, power_pos}
 use Rattle.read_sigma.specs.Rows.{row-none}
 use Rattle.read_sigma.specs.Rows.{row_copied, row_chained}
-use borrow.Author.Rules.{rules}
 use Rattle.read_sigma.proofs.read_row.Goals as goal
 
 pub returns-then-copy-n : goal.returns-then-copy-n

@@ -1,10 +1,8 @@
-use mathlib.Core.Path.{◌≡◌, refl}
-use Prim.Native.Nat.{◌-◌, ◌≤◌}
+use mathlib.Core.Path.{refl}
+use Prim.Native.Nat.{◌-◌}
 use native.Mathlib.Omega.{arith}
-use lib.ListN.{length}
 use Rattle.slices.specs.Places.{at}
-use Rattle.read_sigma.specs.Rows.{Rows, SoFar, rows-first, rows-stop, rows_more, rows_all}
-use borrow.Author.Rules.{rules}
+use Rattle.read_sigma.specs.Rows.{Rows, rows-first, rows-stop, rows_more, rows_all}
 use Rattle.read_sigma.proofs.read_rows.Goals as goal
 
 pub loop-i-init : goal.loop-i-init

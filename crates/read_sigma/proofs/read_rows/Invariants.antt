@@ -1,12 +1,10 @@
 -- `read_sigma::read_rows` meets its contract. The loop's invariant: the rows passed have been read, and are stored where they fit. The
 -- measure is the number of rows left. Assumes nothing.
-use mathlib.Core.Path.{◌≡◌, refl}
+use mathlib.Core.Path.{◌≡◌}
 use Prim.Native.Nat.{◌-◌, ◌≤◌}
-use native.Mathlib.Omega.{arith}
 use lib.ListN.{length}
 use Rattle.slices.specs.Places.{at}
-use Rattle.read_sigma.specs.Rows.{Rows, SoFar, rows-first, rows-stop, rows_more, rows_all}
-use borrow.Author.Rules.{rules}
+use Rattle.read_sigma.specs.Rows.{SoFar}
 use Rattle.read_sigma.proofs.read_rows.Given as goal
 
 abbrev pub invariant-loop-i : goal.invariant-loop-i

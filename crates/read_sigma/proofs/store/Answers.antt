@@ -2,7 +2,6 @@
 use mathlib.Core.Path.{sym}
 use Rattle.slices.specs.Places.{at}
 use lib.Seq.{set_out}
-use borrow.Author.Rules.{rules}
 use Rattle.read_sigma.proofs.store.Goals as goal
 
 pub returns-else-at-out : goal.returns-else-at-out

@@ -1,6 +1,5 @@
 -- `read_work::closed` meets its contract: each return is the case of `closed_of` that its test leads to. Assumes nothing.
 use borrow.Author.Tests.{eq-eqb, ne_eqb}
-use borrow.Author.Rules.{rules}
 use Rattle.read_laws.specs.ByPlace.{closed_of}
 use Rattle.read_work.proofs.closed.Goals as goal
 

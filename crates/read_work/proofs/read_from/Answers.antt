@@ -2,7 +2,6 @@
 -- from the cursor on, which stands in it, is the rest. Assumes nothing.
 use mathlib.Core.Path.{refl, sym, subst, ◌∙◌}
 use native.Mathlib.Omega.{arith}
-use borrow.Author.Rules.{rules}
 use Rattle.read_laws.specs.Whole.{fault-le}
 use Rattle.read_laws.specs.ByPlace.{OpenWithin, reading_of, after_of}
 use Rattle.read_laws.specs.declared.Opening.{Opening}

@@ -2,7 +2,6 @@
 -- Assumes nothing.
 use mathlib.Core.Path.{◌≡◌, ap, ◌∙◌}
 use native.Mathlib.Omega.{arith}
-use borrow.Author.Rules.{rules}
 use Rattle.block.specs.Words.{mask_part, values_part, word_part}
 use Rattle.block.specs.Text.{read_text, numbers}
 use Rattle.read_laws.specs.Answers.{numbers-read, after_read}

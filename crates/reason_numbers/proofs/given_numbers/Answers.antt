@@ -1,5 +1,4 @@
 -- `reason_numbers::given_numbers` meets its contract, by the four cases of a reason. Assumes nothing.
-use borrow.Author.Rules.{rules}
 use Rattle.reason_numbers.proofs.given_numbers.Goals as goal
 
 pub returns-in-Zero : goal.returns-in-Zero

@@ -1,6 +1,5 @@
 -- `reason_numbers::in_numbers` meets its contract, by the two cases of an answer. Assumes nothing.
 use mathlib.Core.Path.{sym, ap, ◌∙◌}
-use borrow.Author.Rules.{rules}
 use Rattle.block.specs.Reasons.{why_numbers}
 use Rattle.reason_numbers.proofs.in_numbers.Goals as goal
 

@@ -1,6 +1,6 @@
 -- `record_copies::gather` meets its contract. The loop's invariant: the first i records are copied out, and zeros stand after them. The measure is
 -- what is left. Assumes nothing.
-use Rattle.std.proofs.Common.{◌≡◌, ◌≤◌, ◌-◌}
+use Rattle.std.proofs.Common.{◌≤◌, ◌-◌}
 use Rattle.block.specs.Refusals.{row_at}
 use Rattle.record_copies.specs.Copied.{Copied}
 use Rattle.record_copies.specs.Flat.{zeros}

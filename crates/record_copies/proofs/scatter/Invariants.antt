@@ -1,6 +1,6 @@
 -- `record_copies::scatter` meets its contract. The loop's invariant: the first i records are copied in. The measure is what is left.
 -- Assumes nothing.
-use Rattle.std.proofs.Common.{◌≡◌, ◌≤◌, ◌-◌}
+use Rattle.std.proofs.Common.{◌≤◌, ◌-◌}
 use Rattle.slices.specs.Places.{at}
 use Rattle.block.specs.Words.{row}
 use Rattle.record_copies.specs.Copied.{Copied}

@@ -28,16 +28,21 @@ pub put_region-next-requires : goal.put_region-next-requires
 put_region-next-requires t c =
     let a = c.args in
     let h = smaller a.n a.q a.masks.now a.values.now a.words.now c.requires.n_le_list_inputs.2 c.requires.values_len.2 c.meet_rows-m.ensures c.if-m-eq0.false c.if-undecided-eq0.false c.highest_bit-h.ensures 0 _ (omega arith) c.half_row-low.ensures in
-    (omega (arith, h.fewer, c.type_inv), record {
-      n_le_list_inputs = (c.requires.n_le_list_inputs.0, c.requires.n_le_list_inputs.1, h.well, c.requires.n_le_list_inputs.3);
-      values_len = c.requires.values_len;
-    })
+    (omega (arith, h.fewer), ((c.requires.n_le_list_inputs.0, c.requires.n_le_list_inputs.1, h.well, c.requires.n_le_list_inputs.3), c.requires.values_len))
 
 pub half_row-high-requires : goal.half_row-high-requires
 half_row-high-requires t c =
     let a = c.args in
     let l = cut_below a.n a.q a.masks.now a.values.now a.words.now c.requires.n_le_list_inputs.2 c.requires.values_len.2 c.meet_rows-m.ensures c.if-m-eq0.false c.if-undecided-eq0.false c.highest_bit-h.ensures in
     (omega (arith, l), omega arith)
+
+pub put_region-requires : goal.put_region-requires
+put_region-requires t c =
+    let a = c.args in
+    let h = smaller a.n a.q a.masks.now a.values.now a.words.now c.requires.n_le_list_inputs.2 c.requires.values_len.2 c.meet_rows-m.ensures c.if-m-eq0.false c.if-undecided-eq0.false c.highest_bit-h.ensures 1 _ (omega arith) c.half_row-high.ensures in (
+      omega (arith, h.fewer),
+      ((c.requires.n_le_list_inputs.0, omega (arith, c.put_region-next.ensures.longer), h.well, search rules), c.requires.values_len),
+    )
 
 pub returns : goal.returns
 returns t c =

@@ -1,12 +1,8 @@
 -- `region_work::meet_rows` meets its contract. The loop's invariant: the three numbers are what the first i rows say. The measure is the
 -- number of rows left. Assumes nothing.
-use mathlib.Core.Path.{◌≡◌, sym, ◌∙◌}
-use mathlib.Core.Logic.{⊎_elim}
 use Prim.Native.Nat.{◌≤◌, ◌-◌}
-use native.Mathlib.Omega.{arith}
 use lib.ListN.{length}
-use Rattle.region_work.specs.Meet.{Says, says_none, says-le, says-met, says-unmet}
-use borrow.Author.Rules.{rules}
+use Rattle.region_work.specs.Meet.{Says}
 use Rattle.region_work.proofs.meet_rows.Given as goal
 
 abbrev pub invariant-loop-i : goal.invariant-loop-i

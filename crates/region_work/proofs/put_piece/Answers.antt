@@ -2,7 +2,6 @@
 use mathlib.Core.Path.{refl}
 use native.Mathlib.Omega.{arith}
 use Rattle.region_work.specs.Put.{put_one, put_full}
-use borrow.Author.Rules.{rules}
 use Rattle.region_work.proofs.put_piece.Goals as goal
 
 pub returns-then-count-ge-GIVEN_ROWS : goal.returns-then-count-ge-GIVEN_ROWS

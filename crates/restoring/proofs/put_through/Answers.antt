@@ -1,11 +1,9 @@
 use mathlib.Core.Path.{◌≡◌, ap, ◌∙◌}
-use Prim.Native.Nat.{ℕ, ◌≤◌, ◌<◌, ◌-◌, ◌^◌}
+use Prim.Native.Nat.{ℕ, ◌<◌, ◌-◌, ◌^◌}
 use native.Mathlib.Omega.{arith}
-use lib.ListN.{length}
 use lib.Pow.{pow_mono}
-use Rattle.slices.specs.Places.{at, tab, over}
+use Rattle.slices.specs.Places.{at, over}
 use Rattle.slices.specs.Filled.{over_none, over-more, get_d_any}
-use Rattle.block.specs.Limits.{table_inputs}
 use Rattle.block.specs.Words.{none, of_table}
 use Rattle.block.specs.Basis.{columns}
 use Rattle.matrix_laws.specs.Linear.{columns-lt}

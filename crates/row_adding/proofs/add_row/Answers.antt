@@ -2,7 +2,6 @@
 use mathlib.Core.Path.{refl}
 use native.Mathlib.Omega.{arith}
 use Rattle.row_adding.specs.Held.{added-one}
-use borrow.Author.Rules.{rules}
 use Rattle.row_adding.proofs.add_row.Goals as goal
 
 pub returns-then-count-ge-SMALLER_ROWS : goal.returns-then-count-ge-SMALLER_ROWS

@@ -2,7 +2,6 @@
 use mathlib.Core.Path.{sym, ◌∙◌}
 use Rattle.row_halves.specs.Halves.{split-two, split_one}
 use Rattle.row_adding.specs.Held.{added_then}
-use borrow.Author.Rules.{rules}
 use Rattle.row_adding.proofs.add_split.Goals as goal
 
 pub returns-then-is_split : goal.returns-then-is_split

@@ -4,7 +4,6 @@ use native.Mathlib.Omega.{arith}
 use lib.Pow.{pow_mono}
 use Rattle.walks.specs.Walk.{walk-below}
 use Rattle.walks.specs.Few.{walk-few}
-use borrow.Author.Rules.{rules}
 use Rattle.row_basis.proofs.find_basis.Goals as goal
 
 pub find_basis_in-requires : goal.find_basis_in-requires

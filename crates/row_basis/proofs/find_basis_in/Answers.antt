@@ -16,7 +16,7 @@ shifts_of-requires c =
     let h = walked a.n a.w a.candidates.now _ _ walk.ensures.out_after walk.ensures.value in record {
       n_le_list_inputs = (c.requires.n_le_list_inputs.0, c.requires.listed);
       disjoint = c.requires.disjoint;
-      places_in_bounds = (omega (arith, walk.ensures.value, walk.auto.1.1.0, room.0), omega (arith, walk.ensures.value, room.1), walked-lt _ _ _ _ h);
+      places_in_bounds = (omega (arith, walk.ensures.value, walk.auto.out, room.0), omega (arith, walk.ensures.value, room.1), walked-lt _ _ _ _ h);
       by_index = λ i b. (ones-light a.w _ (walked-light _ _ _ _ h i b)).1;
     }
 
@@ -27,7 +27,7 @@ choose_basis-requires c =
     let kept = c.shifts_of.auto.out in
     let room = c.requires.w_in_bounds in record {
       count_in_bounds = (
-        omega (arith, walk.ensures.value, walk.auto.1.1.0, room.0),
+        omega (arith, walk.ensures.value, walk.auto.out, room.0),
         omega (arith, walk.ensures.value, kept, room.1),
         search rules,
         search rules,

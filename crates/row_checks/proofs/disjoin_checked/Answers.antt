@@ -1,7 +1,6 @@
 -- `row_checks::disjoin_checked` meets its contract: its checks step by step. Assumes nothing.
 use Rattle.block.specs.Words.{rows_of}
 use Rattle.row_checks.specs.Steps as steps
-use borrow.Author.Rules.{rules}
 use Rattle.row_checks.proofs.disjoin_checked.Goals as goal
 
 pub then_formed-requires : goal.then_formed-requires

@@ -1,7 +1,6 @@
 -- `row_checks::join_verdict` meets its contract: its checks step by step. Assumes nothing.
 use Rattle.block.specs.Words.{rows_of}
 use Rattle.row_checks.specs.Steps as steps
-use borrow.Author.Rules.{rules}
 use Rattle.row_checks.proofs.join_verdict.Goals as goal
 
 pub then_disjoint-requires : goal.then_disjoint-requires

@@ -1,7 +1,6 @@
 -- `row_checks::method_checked` meets its contract: its checks step by step. Assumes nothing.
 use Rattle.block.specs.Words.{rows_of}
 use Rattle.row_checks.specs.Steps.{method-in-range, method-verdict}
-use borrow.Author.Rules.{rules}
 use Rattle.row_checks.proofs.method_checked.Goals as goal
 
 pub then_rows-requires : goal.then_rows-requires

@@ -1,7 +1,6 @@
 -- `row_checks::row_value_verdict` meets its contract: its checks step by step. Assumes nothing.
 use Rattle.block.specs.Words.{rows_of}
 use Rattle.row_checks.specs.Steps.{value-in-range, value-verdict}
-use borrow.Author.Rules.{rules}
 use Rattle.row_checks.proofs.row_value_verdict.Goals as goal
 
 pub then_rows-requires : goal.then_rows-requires

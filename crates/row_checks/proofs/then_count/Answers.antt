@@ -1,9 +1,9 @@
 -- `row_checks::then_count` meets its contract: one check, by the number of rows. Assumes nothing.
+use mathlib.Core.List.{[]}
 use mathlib.Core.Path.{ap, ◌∙◌}
 use mathlib.Core.Bool.{Bool}
-use mathlib.Core.List.{[], ◌∷◌}
+use mathlib.Core.List.{◌∷◌}
 use Rattle.block.specs.Refusals.{check, verdict, and_then, outside}
-use borrow.Author.Rules.{rules}
 use Rattle.row_checks.proofs.then_count.Goals as goal
 
 pub returns : goal.returns

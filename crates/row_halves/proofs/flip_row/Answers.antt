@@ -1,5 +1,4 @@
 -- `row_halves::flip_row` meets its contract: the values by what the calls ensure. Assumes nothing.
-use borrow.Author.Rules.{rules}
 use Rattle.row_halves.proofs.flip_row.Goals as goal
 
 pub returns : goal.returns

@@ -1,7 +1,6 @@
 -- `row_halves::flipped_half` meets its contract: the flips of the half. Assumes nothing.
 use mathlib.Core.Path.{ap, ◌∙◌}
 use Rattle.block.specs.Rows.{flip_row}
-use borrow.Author.Rules.{rules}
 use Rattle.row_halves.proofs.flipped_half.Goals as goal
 
 pub returns : goal.returns

@@ -1,5 +1,4 @@
 -- `row_halves::half_row` meets its contract: mask and values by what the calls ensure. Assumes nothing.
-use borrow.Author.Rules.{rules}
 use Rattle.row_halves.proofs.half_row.Goals as goal
 
 pub returns : goal.returns

@@ -2,7 +2,6 @@
 use mathlib.Core.Path.{sym, ◌∙◌}
 use borrow.Author.Tests.{eq-eqb, ne_eqb}
 use Rattle.row_halves.specs.Halves.{splits}
-use borrow.Author.Rules.{rules}
 use Rattle.row_halves.proofs.is_split.Goals as goal
 
 pub returns-then-bit_of-eq1 : goal.returns-then-bit_of-eq1

@@ -1,10 +1,8 @@
-use mathlib.Core.Path.{◌≡◌, sym, ap, ◌∙◌}
-use Prim.Native.Nat.{◌≤◌, ◌<◌, ◌-◌}
+use mathlib.Core.Path.{sym, ap, ◌∙◌}
+use Prim.Native.Nat.{◌-◌}
 use native.Mathlib.Omega.{arith}
 use Rattle.block.specs.Limits.{list_inputs}
-use Rattle.block.specs.Words.{rows_of}
-use Rattle.pair_laws.specs.Theorem.{often}
-use Rattle.pair_laws.specs.Symmetric.{added, added_none, cubes_to, cubes-none}
+use Rattle.pair_laws.specs.Symmetric.{added, added_none, cubes-none}
 use Rattle.missing_points.specs.Rows.{mask-fixed}
 use Rattle.missing_points.specs.Looped.{cubes-pass, sum-put, sum-small, row_done, rows-done}
 use borrow.Author.Rules.{rules}

@@ -1,16 +1,10 @@
 -- `row_shifts::pairs_add` meets its contract. The invariant of both loops: the sum is what the cubes of the pairs before i, j add. The
 -- measures are the numbers of rows left. No sum on the way passes the last, which is at most the points twice. Assumes nothing.
-use mathlib.Core.Path.{◌≡◌, sym, ap, ◌∙◌}
-use mathlib.Core.Logic.{⊎_elim}
+use mathlib.Core.Path.{◌≡◌}
 use Prim.Native.Nat.{◌≤◌, ◌<◌, ◌-◌}
-use native.Mathlib.Omega.{arith}
-use Rattle.block.specs.Limits.{list_inputs}
 use Rattle.block.specs.Words.{rows_of}
 use Rattle.pair_laws.specs.Theorem.{often}
-use Rattle.pair_laws.specs.Symmetric.{added, added_none, cubes_to, cubes-none}
-use Rattle.missing_points.specs.Rows.{mask-fixed}
-use Rattle.missing_points.specs.Looped.{cubes-pass, sum-put, sum-small, row_done, rows-done}
-use borrow.Author.Rules.{rules}
+use Rattle.pair_laws.specs.Symmetric.{added, cubes_to}
 use Rattle.row_shifts.proofs.pairs_add.Given as goal
 
 abbrev pub invariant-loop-j : goal.invariant-loop-j

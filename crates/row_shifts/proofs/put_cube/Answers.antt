@@ -2,7 +2,6 @@
 use mathlib.Core.Path.{refl, ap}
 use Prim.Native.Nat.{ℕ}
 use lib.ListN.{set}
-use borrow.Author.Rules.{rules}
 use Rattle.row_shifts.proofs.put_cube.Goals as goal
 
 pub weight_of-requires : goal.weight_of-requires

@@ -1,14 +1,14 @@
-use mathlib.Core.Path.{◌≡◌, refl, ◌∙◌}
-use Prim.Native.Nat.{◌≤◌, ◌<◌, ◌+◌, ◌-◌, ◌*◌}
+use mathlib.Core.Path.{refl, ◌∙◌}
+use Prim.Native.Nat.{◌<◌, ◌+◌, ◌-◌, ◌*◌}
 use native.Mathlib.Omega.{arith}
 use lib.ListN.{length}
 use Rattle.block.specs.Words.{rows_of}
 use Rattle.pair_laws.specs.Theorem.{often}
-use Rattle.pair_laws.specs.Symmetric.{cubes_to, cubes-none}
+use Rattle.pair_laws.specs.Symmetric.{cubes-none}
 use Rattle.pair_weights.specs.Places.{cube_of}
 use Rattle.missing_points.specs.Rows.{mask-fixed}
 use Rattle.missing_points.specs.Looped.{cubes-put, cubes-pass, cubes-fit, cubes-number, row_done, rows-done}
-use Rattle.row_shifts.specs.Stored.{CubesAt, Grown, cubes-at-none, grown-more, grown-same}
+use Rattle.row_shifts.specs.Stored.{cubes-at-none, grown-more, grown-same}
 use borrow.Author.Rules.{rules}
 use Rattle.row_shifts.proofs.put_cubes.Goals as goal
 use Rattle.row_shifts.proofs.put_cubes.Goals.{then-times-gt0, else-times-gt0}

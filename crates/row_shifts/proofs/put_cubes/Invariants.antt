@@ -1,19 +1,13 @@
 -- `row_shifts::put_cubes` meets its contract. The outer loop's invariant: the cubes of the rows before i with all lie in the slices; the
 -- inner loop's: where these lay there, so do the cubes of row i with those before j. The measures are the numbers of rows left.
 -- Assumes nothing.
-use mathlib.Core.Path.{◌≡◌, refl, ◌∙◌}
-use mathlib.Core.Logic.{⊎_elim}
-use Prim.Native.Nat.{◌≤◌, ◌<◌, ◌+◌, ◌-◌, ◌*◌}
-use native.Mathlib.Omega.{arith}
+use mathlib.Core.Path.{◌≡◌}
+use Prim.Native.Nat.{◌≤◌, ◌<◌, ◌-◌}
 use lib.ListN.{length}
 use Rattle.block.specs.Words.{rows_of}
 use Rattle.pair_laws.specs.Theorem.{often}
-use Rattle.pair_laws.specs.Symmetric.{cubes_to, cubes-none}
-use Rattle.pair_weights.specs.Places.{cube_of}
-use Rattle.missing_points.specs.Rows.{mask-fixed}
-use Rattle.missing_points.specs.Looped.{cubes-put, cubes-pass, cubes-fit, cubes-number, row_done, rows-done}
-use Rattle.row_shifts.specs.Stored.{CubesAt, Grown, cubes-at-none, grown-more, grown-same}
-use borrow.Author.Rules.{rules}
+use Rattle.pair_laws.specs.Symmetric.{cubes_to}
+use Rattle.row_shifts.specs.Stored.{CubesAt, Grown}
 use Rattle.row_shifts.proofs.put_cubes.Given as goal
 
 abbrev pub invariant-loop-j : goal.invariant-loop-j

@@ -1,8 +1,8 @@
 use mathlib.Core.Path.{◌≡◌, sym}
-use Prim.Native.Nat.{◌≤◌, ◌-◌}
+use Prim.Native.Nat.{◌-◌}
 use native.Mathlib.Omega.{arith}
 use Rattle.sums.specs.Laws.{sum-zero}
-use Rattle.row_shifts.specs.Stored.{added_by, added_more, added-step}
+use Rattle.row_shifts.specs.Stored.{added_more, added-step}
 use borrow.Author.Rules.{rules}
 use Rattle.row_shifts.proofs.shift_by_cubes.Goals as goal
 

@@ -1,11 +1,8 @@
 -- `row_shifts::shift_by_cubes` meets its contract. The loop's invariant: the sum is what the cubes before q add. The measure is what is
 -- left. No sum on the way passes the last. Assumes nothing.
-use mathlib.Core.Path.{◌≡◌, sym}
+use mathlib.Core.Path.{◌≡◌}
 use Prim.Native.Nat.{◌≤◌, ◌-◌}
-use native.Mathlib.Omega.{arith}
-use Rattle.sums.specs.Laws.{sum-zero}
-use Rattle.row_shifts.specs.Stored.{added_by, added_more, added-step}
-use borrow.Author.Rules.{rules}
+use Rattle.row_shifts.specs.Stored.{added_by}
 use Rattle.row_shifts.proofs.shift_by_cubes.Given as goal
 
 abbrev pub invariant-loop-q : goal.invariant-loop-q

@@ -8,7 +8,6 @@ use Rattle.block.specs.Words.{of_rows, rows_of}
 use Rattle.block.specs.Measure.{shift}
 use Rattle.pair_laws.specs.Theorem.{counts-le, taken-le, shift_le}
 use Rattle.missing_points.specs.Looped.{shift-parts}
-use borrow.Author.Rules.{rules}
 use Rattle.row_shifts.proofs.shift_of_rows.Goals as goal
 use Rattle.row_shifts.proofs.shift_of_rows.Goals.{After-pairs_add}
 

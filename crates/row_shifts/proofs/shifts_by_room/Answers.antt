@@ -3,7 +3,6 @@
 use native.Mathlib.Omega.{arith}
 use Rattle.block.specs.Limits.{given_rows}
 use Rattle.row_shifts.specs.Stored.{roomy-few}
-use borrow.Author.Rules.{rules}
 use Rattle.row_shifts.proofs.shifts_by_room.Goals as goal
 
 pub shifts_in_room-requires : goal.shifts_in_room-requires

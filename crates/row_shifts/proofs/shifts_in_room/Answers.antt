@@ -6,7 +6,6 @@ use Rattle.block.specs.Words.{rows_of}
 use Rattle.pair_laws.specs.Theorem.{counts-le}
 use Rattle.missing_points.specs.Looped.{cubes-few}
 use Rattle.row_shifts.specs.Due.{due-done, all-due}
-use borrow.Author.Rules.{rules}
 use Rattle.row_shifts.proofs.shifts_in_room.Goals as goal
 
 pub put_cubes-count-requires : goal.put_cubes-count-requires

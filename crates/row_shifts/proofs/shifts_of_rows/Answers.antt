@@ -4,7 +4,6 @@ use mathlib.Core.List.{List}
 use Prim.Native.Nat.{ℕ}
 use Rattle.slices.specs.Places.{at, over}
 use Rattle.slices.specs.Filled.{tab-cong}
-use borrow.Author.Rules.{rules}
 use Rattle.row_shifts.proofs.shifts_of_rows.Goals as goal
 
 pub returns : goal.returns

@@ -1,14 +1,10 @@
 -- `row_splits::exchange_each` meets its contract. The loop's invariant: the first i numbers are exchanged, the rest is as it was. The
 -- measure is what is left. Assumes nothing.
-use mathlib.Core.Path.{◌≡◌, ap, ◌∙◌}
-use mathlib.Core.List.{List}
-use Prim.Native.Nat.{ℕ, ◌≤◌, ◌-◌}
-use native.Mathlib.Omega.{arith}
+use mathlib.Core.Path.{◌≡◌}
+use Prim.Native.Nat.{◌≤◌, ◌-◌}
 use lib.ListN.{length}
 use Rattle.slices.specs.Places.{at, tab, over}
-use Rattle.slices.specs.Filled.{over_none, over-more, over-beyond}
 use Rattle.block.specs.Rows.{exchange}
-use borrow.Author.Rules.{rules}
 use Rattle.row_splits.proofs.exchange_each.Given as goal
 
 abbrev pub invariant-loop-i : goal.invariant-loop-i

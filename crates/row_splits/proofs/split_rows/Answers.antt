@@ -1,12 +1,9 @@
 use mathlib.Core.Path.{◌≡◌, refl, ◌∙◌}
 use mathlib.Core.List.{[]}
 use native.Mathlib.Nat.{zero-add}
-use Prim.Native.Nat.{◌+◌, ◌≤◌, ◌-◌, ◌*◌}
+use Prim.Native.Nat.{◌+◌, ◌-◌}
 use native.Mathlib.Omega.{arith}
-use lib.ListN.{length}
-use Rattle.block.specs.Rows.{split_rows}
-use Rattle.flat_rows.specs.Listing.{rows_from}
-use Rattle.row_adding.specs.Held.{Added, added_none, held_none}
+use Rattle.row_adding.specs.Held.{added_none, held_none}
 use Rattle.row_splits.specs.Split.{split-none, split-bound, split-added}
 use borrow.Author.Rules.{rules}
 use Rattle.row_splits.proofs.split_rows.Goals as goal

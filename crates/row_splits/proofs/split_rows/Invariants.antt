@@ -1,16 +1,11 @@
 -- `row_splits::split_rows` meets its contract. The loop's invariant: what becomes of the first i rows was added to an empty list. The
 -- measure is the number of rows left. Assumes nothing.
-use mathlib.Core.Path.{◌≡◌, refl, ◌∙◌}
-use mathlib.Core.List.{[]}
-use native.Mathlib.Nat.{zero-add}
-use Prim.Native.Nat.{◌+◌, ◌≤◌, ◌-◌, ◌*◌}
-use native.Mathlib.Omega.{arith}
+use mathlib.Core.Path.{◌≡◌}
+use Prim.Native.Nat.{◌≤◌, ◌-◌, ◌*◌}
 use lib.ListN.{length}
 use Rattle.block.specs.Rows.{split_rows}
 use Rattle.flat_rows.specs.Listing.{rows_from}
-use Rattle.row_adding.specs.Held.{Added, added_none, held_none}
-use Rattle.row_splits.specs.Split.{split-none, split-bound, split-added}
-use borrow.Author.Rules.{rules}
+use Rattle.row_adding.specs.Held.{Added}
 use Rattle.row_splits.proofs.split_rows.Given as goal
 
 abbrev pub invariant-loop-i : goal.invariant-loop-i

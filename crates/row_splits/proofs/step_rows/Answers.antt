@@ -5,7 +5,6 @@ use native.Mathlib.Omega.{arith}
 use lib.ListN.{length}
 use Rattle.block.specs.Rows.{split_rows}
 use Rattle.row_adding.specs.Held.{held-past, held-copied, rows-exchanged}
-use borrow.Author.Rules.{rules}
 use Rattle.row_splits.proofs.step_rows.Goals as goal
 
 pub copy_first-requires-then-count-le-SMALLER_ROWS : goal.copy_first-requires-then-count-le-SMALLER_ROWS

@@ -1,16 +1,14 @@
 use mathlib.Core.Path.{◌≡◌, refl, sym, ap, ◌∙◌}
 use mathlib.Core.List.{List}
-use Prim.Native.Nat.{suc, ◌≤◌, ◌<◌, ◌-◌}
+use Prim.Native.Nat.{suc, ◌<◌, ◌-◌}
 use native.Mathlib.Numerals.{add-one}
 use native.Mathlib.Omega.{arith}
 use lib.ListN.{length}
-use Rattle.slices.specs.Places.{at, tab, over}
+use Rattle.slices.specs.Places.{at, tab}
 use Rattle.slices.specs.Filled.{length-tab}
-use Rattle.block.specs.Limits.{list_inputs, smaller_rows}
 use Rattle.block.specs.Rows.{moved}
 use Rattle.block.specs.declared.Row.{Row}
 use Rattle.flat_rows.specs.Listing.{rows_from}
-use Rattle.matrix_laws.specs.Reach.{reach_rows}
 use Rattle.step_laws.specs.Step.{step_rows}
 use Rattle.step_laws.specs.Moved.{moved_none}
 use Rattle.matrix_steps.specs.Steps.{partner-lt, reach-start, reach-turn}

@@ -1,23 +1,13 @@
 -- `row_steps::move_rows` meets its contract. The loop's invariant: the matrix is the one reached by the first k columns, and the slices
 -- hold the rows after k steps, of which there are no more than a smaller block may have. The measure is the number of steps left. Assumes nothing.
-use mathlib.Core.Path.{◌≡◌, refl, sym, ap, ◌∙◌}
-use mathlib.Core.List.{List}
-use Prim.Native.Nat.{suc, ◌≤◌, ◌<◌, ◌-◌}
-use native.Mathlib.Numerals.{add-one}
-use native.Mathlib.Omega.{arith}
+use mathlib.Core.Path.{◌≡◌}
+use Prim.Native.Nat.{◌≤◌, ◌-◌}
 use lib.ListN.{length}
 use Rattle.slices.specs.Places.{at, tab, over}
-use Rattle.slices.specs.Filled.{length-tab}
 use Rattle.block.specs.Limits.{list_inputs, smaller_rows}
 use Rattle.block.specs.Rows.{moved}
-use Rattle.block.specs.declared.Row.{Row}
 use Rattle.flat_rows.specs.Listing.{rows_from}
 use Rattle.matrix_laws.specs.Reach.{reach_rows}
-use Rattle.step_laws.specs.Step.{step_rows}
-use Rattle.step_laws.specs.Moved.{moved_none}
-use Rattle.matrix_steps.specs.Steps.{partner-lt, reach-start, reach-turn}
-use Rattle.row_steps.specs.Passed.{step-held, replay-stopped, replay-done}
-use borrow.Author.Rules.{rules}
 use Rattle.row_steps.proofs.move_rows.Given as goal
 
 abbrev pub invariant-loop-k : goal.invariant-loop-k

@@ -1,7 +1,6 @@
 -- `shared_checks::refuse_where` meets its contract: a list of one check. Assumes nothing.
 use mathlib.Core.Path.{sym, ◌∙◌}
 use Rattle.refusal_laws.specs.Verdicts.{verdict-hit, verdict-miss, verdict-none}
-use borrow.Author.Rules.{rules}
 use Rattle.shared_checks.proofs.refuse_where.Goals as goal
 
 pub returns-then-holds : goal.returns-then-holds

@@ -4,7 +4,6 @@ use mathlib.Core.Bool.{Bool}
 use mathlib.Core.List.{[], ◌∷◌}
 use Rattle.block.specs.Refusals.{check, verdict}
 use Rattle.refusal_laws.specs.Verdicts.{asked-where}
-use borrow.Author.Rules.{rules}
 use Rattle.shared_checks.proofs.sizes.Goals as goal
 
 pub returns : goal.returns

@@ -1,7 +1,6 @@
 -- `shared_checks::then_where` meets its contract: the earlier refusal, or the check's answer. Assumes nothing.
 use mathlib.Core.Path.{◌∙◌}
 use Rattle.refusal_laws.specs.Verdicts.{then-refused, then-answered}
-use borrow.Author.Rules.{rules}
 use Rattle.shared_checks.proofs.then_where.Goals as goal
 
 pub returns-then-v-ne0 : goal.returns-then-v-ne0

@@ -1,12 +1,10 @@
-use Prim.Native.Nat.{◌≤◌, ◌<◌, ◌-◌}
+use Prim.Native.Nat.{◌-◌}
 use mathlib.Core.Path.{◌≡◌, sym, ◌∙◌, refl}
 use native.Mathlib.Omega.{arith}
 use borrow.Author.Count.{below_more}
-use borrow.Author.Rules.{rules}
 use borrow.Author.Tests.{eqb-true, eqb-false}
 use lib.ListN.{length}
-use Rattle.shared_points.specs.declared.Pair.TheVariants.{Apart}
-use Rattle.shared_points.specs.Pairs.{Passed, PassedBelow, pair-at, pair-none}
+use Rattle.shared_points.specs.Pairs.{pair-at, pair-none}
 use Rattle.shared_points.proofs.first_pair.Goals as goal
 
 pub search-init : goal.search-init

@@ -2,14 +2,10 @@
 -- inner loop's: row i shares none with the rows behind it and below j. The measures are the numbers of rows left. Assumes
 -- nothing.
 use Prim.Native.Nat.{◌≤◌, ◌<◌, ◌-◌}
-use mathlib.Core.Path.{◌≡◌, sym, ◌∙◌, refl}
-use native.Mathlib.Omega.{arith}
-use borrow.Author.Count.{below_more}
-use borrow.Author.Rules.{rules}
-use borrow.Author.Tests.{eqb-true, eqb-false}
+use mathlib.Core.Path.{◌≡◌}
 use lib.ListN.{length}
 use Rattle.shared_points.specs.declared.Pair.TheVariants.{Apart}
-use Rattle.shared_points.specs.Pairs.{Passed, PassedBelow, pair-at, pair-none}
+use Rattle.shared_points.specs.Pairs.{Passed, PassedBelow}
 use Rattle.shared_points.proofs.first_pair.Given as goal
 
 abbrev pub invariant-loop-j : goal.invariant-loop-j

@@ -1,5 +1,4 @@
 -- `shared_points::refuse_pair` meets its contract by cases. Assumes nothing.
-use borrow.Author.Rules.{rules}
 use Rattle.shared_points.proofs.refuse_pair.Goals as goal
 
 pub returns-in-At : goal.returns-in-At

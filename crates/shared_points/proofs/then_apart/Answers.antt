@@ -1,6 +1,5 @@
 -- `shared_points::then_apart` meets its contract: the earlier refusal, or the first pair's answer. Assumes nothing.
 use Rattle.shared_points.specs.Pairs.{apart-refused, apart-asked}
-use borrow.Author.Rules.{rules}
 use Rattle.shared_points.proofs.then_apart.Goals as goal
 
 pub returns-then-v-ne0 : goal.returns-then-v-ne0

@@ -1,6 +1,6 @@
 -- `spectrum_words::add_quotients` meets its contract: it divides by the same number whether that is given as a number or not. Assumes
 -- nothing.
-use Rattle.std.proofs.Common.{◌≡◌, ℕ, ◌+◌, ◌/◌, ◌^◌, ◌<◌, ◌≤◌, List, length, ℤ, pos, nat_abs, sym, ap, ◌∙◌, subst, arith, pow_mono, rules}
+use Rattle.std.proofs.Common.{◌≡◌, ℕ, ◌+◌, ◌/◌, ◌^◌, ◌<◌, ◌≤◌, List, length, ℤ, pos, nat_abs, sym, ap, ◌∙◌, subst, arith, pow_mono}
 use Rattle.slices.specs.Places.{at, tab}
 use Rattle.block.specs.Limits.{table_inputs}
 use Rattle.walsh_laws.specs.Walsh.{most_points}

@@ -1,8 +1,8 @@
-use Rattle.std.proofs.Common.{◌≡◌, ℕ, ◌+◌, ◌-◌, ◌/◌, ◌%◌, ◌^◌, ◌<◌, ◌≤◌, length, ℤ, pos, nat_abs, sym, refl, ap, ◌∙◌, subst, ap₂, div-le_self, arith, length-set, w32, to_z, of_z, rules}
+use Rattle.std.proofs.Common.{◌≡◌, ◌+◌, ◌-◌, ◌/◌, ◌%◌, ◌<◌, ◌≤◌, length, ℤ, pos, nat_abs, sym, refl, ap, ◌∙◌, subst, ap₂, div-le_self, arith, length-set, w32, to_z, of_z, rules}
 use Rattle.walsh_laws.specs.Machine.{back, quotient-asks, quotient-gives}
-use Rattle.slices.specs.Places.{at, tab, over}
+use Rattle.slices.specs.Places.{at, over}
 use Rattle.slices.specs.Filled.{over_none, over-more, over-beyond, over-whole}
-use Rattle.walsh_laws.specs.Walsh.{most_points, most_number}
+use Rattle.walsh_laws.specs.Walsh.{most_number}
 use Rattle.walsh_laws.specs.Passes.{val}
 use Rattle.spectrum_words.proofs.divide_by.Goals as goal
 use Rattle.spectrum_words.proofs.divide_by.Goals.{After-exact_quotient, In-loop-t}

@@ -1,10 +1,7 @@
 -- `spectrum_words::divide_by` meets its contract. The loop's invariant: the first t quotients are added. The measure is what is left.
 -- Assumes nothing.
-use Rattle.std.proofs.Common.{◌≡◌, ℕ, ◌+◌, ◌-◌, ◌/◌, ◌%◌, ◌^◌, ◌<◌, ◌≤◌, length, ℤ, pos, nat_abs, sym, refl, ap, ◌∙◌, subst, ap₂, div-le_self, arith, length-set, w32, to_z, of_z, rules}
-use Rattle.walsh_laws.specs.Machine.{back, quotient-asks, quotient-gives}
+use Rattle.std.proofs.Common.{◌≡◌, ◌+◌, ◌-◌, ◌/◌, ◌≤◌, length, pos, nat_abs}
 use Rattle.slices.specs.Places.{at, tab, over}
-use Rattle.slices.specs.Filled.{over_none, over-more, over-beyond, over-whole}
-use Rattle.walsh_laws.specs.Walsh.{most_points, most_number}
 use Rattle.walsh_laws.specs.Passes.{val}
 use Rattle.spectrum_words.proofs.divide_by.Given as goal
 

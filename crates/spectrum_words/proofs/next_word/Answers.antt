@@ -1,5 +1,4 @@
-use Rattle.std.proofs.Common.{ℕ, ◌+◌, ◌-◌, ◌<◌, ◌≤◌, length, arith, rules}
-use Rattle.slices.specs.Places.{at}
+use Rattle.std.proofs.Common.{◌-◌, arith, rules}
 use Rattle.spectrum_words.specs.Laws.{nearer-more}
 use Rattle.spectrum_words.proofs.next_word.Goals as goal
 

@@ -1,8 +1,7 @@
 -- `spectrum_words::next_word` meets its contract. The loop's invariant: the way from u leads past no entry passed that is not below u. The
 -- measure is what is left. Assumes nothing.
-use Rattle.std.proofs.Common.{ℕ, ◌+◌, ◌-◌, ◌<◌, ◌≤◌, length, arith, rules}
+use Rattle.std.proofs.Common.{ℕ, ◌+◌, ◌-◌, ◌<◌, ◌≤◌, length}
 use Rattle.slices.specs.Places.{at}
-use Rattle.spectrum_words.specs.Laws.{nearer-more}
 use Rattle.spectrum_words.proofs.next_word.Given as goal
 
 abbrev pub invariant-loop-x : goal.invariant-loop-x

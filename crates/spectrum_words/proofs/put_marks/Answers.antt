@@ -1,5 +1,5 @@
-use Rattle.std.proofs.Common.{◌≡◌, ◌-◌, ◌≤◌, eqb, length, pos, refl, ◌∙◌, arith, length-set, rules}
-use Rattle.slices.specs.Places.{at, tab, over}
+use Rattle.std.proofs.Common.{◌≡◌, ◌-◌, eqb, length, pos, refl, ◌∙◌, arith, length-set, rules}
+use Rattle.slices.specs.Places.{at, over}
 use Rattle.slices.specs.Filled.{over_none, over-more, over-whole}
 use Rattle.spectrum_words.specs.Words.{marks}
 use Rattle.spectrum_words.specs.Laws.{mark-back}

@@ -1,10 +1,8 @@
 -- `spectrum_words::put_marks` meets its contract. The loop's invariant: the first x marks are stored. The measure is what is left.
 -- Assumes nothing.
-use Rattle.std.proofs.Common.{◌≡◌, ◌-◌, ◌≤◌, eqb, length, pos, refl, ◌∙◌, arith, length-set, rules}
+use Rattle.std.proofs.Common.{◌≡◌, ◌-◌, ◌≤◌, length, pos}
 use Rattle.slices.specs.Places.{at, tab, over}
-use Rattle.slices.specs.Filled.{over_none, over-more, over-whole}
 use Rattle.spectrum_words.specs.Words.{marks}
-use Rattle.spectrum_words.specs.Laws.{mark-back}
 use Rattle.spectrum_words.proofs.put_marks.Given as goal
 
 abbrev pub invariant-loop-x : goal.invariant-loop-x

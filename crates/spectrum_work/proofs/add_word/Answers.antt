@@ -13,7 +13,6 @@ use Rattle.walsh_laws.specs.Passes.{val}
 use Rattle.walsh.specs.Numbers.{Ready}
 use Rattle.spectrum_words.specs.Words.{marks, Exact}
 use Rattle.spectrum_work.specs.Word.{naturals, transformed, ready-marks, ready-power, correlated, exact, quotient, squared, squarable}
-use borrow.Author.Rules.{rules}
 use Rattle.spectrum_work.proofs.add_word.Goals as goal
 use Rattle.spectrum_work.proofs.add_word.Goals.{After-put_marks, After-square, After-transform, After-transform-2}
 

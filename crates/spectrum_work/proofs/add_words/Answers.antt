@@ -1,12 +1,11 @@
 use mathlib.Core.Path.{◌≡◌, sym, ap, ◌∙◌}
-use Prim.Native.Nat.{ℕ, ◌-◌, ◌≤◌, ◌^◌}
+use Prim.Native.Nat.{ℕ, ◌-◌, ◌^◌}
 use native.Mathlib.Omega.{arith}
 use lib.IntN.{pos}
 use lib.ListN.{length}
 use Rattle.slices.specs.Places.{at, tab}
 use Rattle.slices.specs.Filled.{length-tab}
 use Rattle.spectrum_work.specs.Words.{below, words-first, words-next, words_small, words-all}
-use borrow.Author.Rules.{rules}
 use Rattle.spectrum_work.proofs.add_words.Goals as goal
 
 pub loop-u-init : goal.loop-u-init

@@ -1,14 +1,10 @@
 -- `spectrum_work::add_words` meets its contract. The loop's invariant: the words below u are added, and the working room holds zeros. The
 -- measure is what is left of the words. Assumes nothing.
-use mathlib.Core.Path.{◌≡◌, sym, ap, ◌∙◌}
-use Prim.Native.Nat.{ℕ, ◌-◌, ◌≤◌, ◌^◌}
-use native.Mathlib.Omega.{arith}
+use mathlib.Core.Path.{◌≡◌}
+use Prim.Native.Nat.{◌-◌, ◌≤◌, ◌^◌}
 use lib.IntN.{pos}
-use lib.ListN.{length}
 use Rattle.slices.specs.Places.{at, tab}
-use Rattle.slices.specs.Filled.{length-tab}
-use Rattle.spectrum_work.specs.Words.{below, words-first, words-next, words_small, words-all}
-use borrow.Author.Rules.{rules}
+use Rattle.spectrum_work.specs.Words.{below}
 use Rattle.spectrum_work.proofs.add_words.Given as goal
 
 abbrev pub invariant-loop-u : goal.invariant-loop-u

@@ -1,9 +1,9 @@
 use mathlib.Core.Path.{◌≡◌, refl, ◌∙◌}
-use Prim.Native.Nat.{◌-◌, ◌≤◌}
+use Prim.Native.Nat.{◌-◌}
 use native.Mathlib.Omega.{arith}
 use lib.IntN.{pos}
 use lib.ListN.{length, length-set}
-use Rattle.slices.specs.Places.{tab, over}
+use Rattle.slices.specs.Places.{over}
 use Rattle.slices.specs.Filled.{over_none, over-more, over-whole}
 use borrow.Author.Rules.{rules}
 use Rattle.spectrum_work.proofs.clear.Goals as goal

@@ -1,12 +1,9 @@
 -- `spectrum_work::clear` meets its contract. The loop's invariant: the first x places hold 0. The measure is what is left. Assumes nothing.
-use mathlib.Core.Path.{◌≡◌, refl, ◌∙◌}
+use mathlib.Core.Path.{◌≡◌}
 use Prim.Native.Nat.{◌-◌, ◌≤◌}
-use native.Mathlib.Omega.{arith}
 use lib.IntN.{pos}
-use lib.ListN.{length, length-set}
+use lib.ListN.{length}
 use Rattle.slices.specs.Places.{tab, over}
-use Rattle.slices.specs.Filled.{over_none, over-more, over-whole}
-use borrow.Author.Rules.{rules}
 use Rattle.spectrum_work.proofs.clear.Given as goal
 
 abbrev pub invariant-loop-x : goal.invariant-loop-x

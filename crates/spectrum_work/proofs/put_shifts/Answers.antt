@@ -7,7 +7,6 @@ use Rattle.block.specs.Words.{of_table}
 use Rattle.block.specs.Measure.{shift}
 use Rattle.block.specs.Tables.{shift_values, working_end}
 use Rattle.slices.specs.Filled.{over-part}
-use borrow.Author.Rules.{rules}
 use Rattle.spectrum_work.proofs.put_shifts.Goals as goal
 
 pub slice_bounds-add_words-end-2 : goal.slice_bounds-add_words-end-2

@@ -1,9 +1,6 @@
-use mathlib.Core.Path.{◌≡◌}
 use Prim.Native.Nat.{◌-◌}
 use native.Mathlib.Omega.{arith}
-use lib.ListN.{length}
-use Rattle.slices.specs.Places.{at}
-use Rattle.symmetric_values.specs.Values.{Folded, fold-starts, fold-goes-on, fold-bounded, fold-ends}
+use Rattle.symmetric_values.specs.Values.{fold-starts, fold-goes-on, fold-bounded, fold-ends}
 use borrow.Author.Rules.{rules}
 use Rattle.symmetric_values.proofs.fold_all.Goals as goal
 

@@ -2,11 +2,9 @@
 -- measure is what is left. Assumes nothing.
 use mathlib.Core.Path.{◌≡◌}
 use Prim.Native.Nat.{◌-◌}
-use native.Mathlib.Omega.{arith}
 use lib.ListN.{length}
 use Rattle.slices.specs.Places.{at}
-use Rattle.symmetric_values.specs.Values.{Folded, fold-starts, fold-goes-on, fold-bounded, fold-ends}
-use borrow.Author.Rules.{rules}
+use Rattle.symmetric_values.specs.Values.{Folded}
 use Rattle.symmetric_values.proofs.fold_all.Given as goal
 
 abbrev pub invariant-loop-left : goal.invariant-loop-left

@@ -1,13 +1,9 @@
 -- `symmetric_values::fold_once` meets its contract. The loop's invariant: the first i values are folded, and the rest holds what it held. The
 -- measure is what is left. Assumes nothing.
-use mathlib.Core.Path.{◌≡◌, ap, ap₂, ◌∙◌}
-use mathlib.Core.List.{List}
-use Prim.Native.Nat.{ℕ, ◌+◌, ◌-◌, ◌≤◌}
-use native.Mathlib.Omega.{arith}
+use mathlib.Core.Path.{◌≡◌}
+use Prim.Native.Nat.{◌+◌, ◌-◌, ◌≤◌}
 use lib.ListN.{length}
 use Rattle.slices.specs.Places.{at, tab, over}
-use Rattle.slices.specs.Filled.{over_none, over-more, over-beyond}
-use borrow.Author.Rules.{rules}
 use Rattle.symmetric_values.proofs.fold_once.Given as goal
 
 abbrev pub invariant-loop-i : goal.invariant-loop-i

@@ -5,7 +5,6 @@ use native.Mathlib.Omega.{arith}
 use Rattle.block.specs.Symmetric.{of_counts}
 use Rattle.symmetric_laws.specs.Blocks.{counts-symmetric}
 use Rattle.symmetric_values.specs.Values.{shift-most, times-most, measured-one, measured-more}
-use borrow.Author.Rules.{rules}
 use Rattle.symmetric_values.proofs.symmetric_measures.Goals as goal
 use Rattle.symmetric_values.proofs.symmetric_measures.Goals.{After-value_at_two-two}
 

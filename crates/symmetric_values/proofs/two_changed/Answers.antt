@@ -2,7 +2,6 @@
 use native.Mathlib.Omega.{arith}
 use Rattle.symmetric_laws.specs.Blocks.{word_for}
 use Rattle.symmetric_values.specs.Values.{adds-two}
-use borrow.Author.Rules.{rules}
 use Rattle.symmetric_values.proofs.two_changed.Goals as goal
 
 pub overflow_add-result : goal.overflow_add-result

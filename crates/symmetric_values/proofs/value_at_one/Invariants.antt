@@ -1,15 +1,11 @@
 -- `symmetric_values::value_at_one` meets its contract. The loop's invariant: the values of the first c counts are there. The measure is what is left.
 -- Assumes nothing.
-use mathlib.Core.Path.{◌≡◌, refl, ◌∙◌}
+use mathlib.Core.Path.{◌≡◌}
 use Prim.Native.Nat.{◌-◌, ◌≤◌}
-use native.Mathlib.Omega.{arith}
 use lib.ListN.{length}
 use Rattle.slices.specs.Places.{tab, over}
-use Rattle.slices.specs.Filled.{over_none, over-more}
 use Rattle.symmetric_laws.specs.Weights.{changed, equal}
 use Rattle.symmetric_laws.specs.Blocks.{word_for}
-use Rattle.symmetric_values.specs.Values.{laid-small, one-small, folded-one}
-use borrow.Author.Rules.{rules}
 use Rattle.symmetric_values.proofs.value_at_one.Given as goal
 
 abbrev pub invariant-loop-c : goal.invariant-loop-c

@@ -1,8 +1,7 @@
 use mathlib.Core.Path.{◌≡◌, refl, ◌∙◌}
-use Prim.Native.Nat.{◌-◌, ◌≤◌}
+use Prim.Native.Nat.{◌-◌}
 use native.Mathlib.Omega.{arith}
-use lib.ListN.{length}
-use Rattle.slices.specs.Places.{tab, over}
+use Rattle.slices.specs.Places.{over}
 use Rattle.slices.specs.Filled.{over_none, over-more}
 use Rattle.symmetric_laws.specs.Weights.{changed, equal}
 use Rattle.symmetric_laws.specs.Blocks.{word_for}

@@ -1,10 +1,7 @@
 use mathlib.Core.Path.{◌≡◌, refl}
 use Prim.Native.Nat.{◌+◌, ◌≤◌, ◌-◌, ◌^◌}
 use native.Mathlib.Omega.{arith}
-use lib.ListN.{length}
 use lib.Pow.{pow_pos, pow_mono}
-use Rattle.slices.specs.Places.{tab, over}
-use Rattle.block.specs.Symmetric.{of_counts}
 use Rattle.symmetric_laws.specs.Slices.{power-more}
 use Rattle.symmetric_work.specs.Entries.{places, entered-held, entries-step, entries-end}
 use borrow.Author.Rules.{rules}

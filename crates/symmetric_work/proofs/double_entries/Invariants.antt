@@ -1,15 +1,10 @@
 -- `symmetric_work::double_entries` meets its contract. The loop's invariant: the entries below 2^(j + 1) - 2^i are there, and the rest holds what
 -- it held. The measure is i. Assumes nothing.
-use mathlib.Core.Path.{◌≡◌, refl}
+use mathlib.Core.Path.{◌≡◌}
 use Prim.Native.Nat.{◌+◌, ◌≤◌, ◌-◌, ◌^◌}
-use native.Mathlib.Omega.{arith}
 use lib.ListN.{length}
-use lib.Pow.{pow_pos, pow_mono}
 use Rattle.slices.specs.Places.{tab, over}
 use Rattle.block.specs.Symmetric.{of_counts}
-use Rattle.symmetric_laws.specs.Slices.{power-more}
-use Rattle.symmetric_work.specs.Entries.{places, entered-held, entries-step, entries-end}
-use borrow.Author.Rules.{rules}
 use Rattle.symmetric_work.proofs.double_entries.Given as goal
 
 abbrev pub invariant-loop-i : goal.invariant-loop-i

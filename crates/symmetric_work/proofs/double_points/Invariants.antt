@@ -1,17 +1,11 @@
 -- `symmetric_work::double_points` meets its contract. The loop's invariant: T at each number below size + z is there, and the rest holds what it
 -- held. The measure is what is left. Assumes nothing.
 use mathlib.Core.Path.{◌≡◌}
-use Prim.Native.Nat.{suc, ◌+◌, ◌≤◌, ◌-◌, ◌^◌}
-use native.Mathlib.Omega.{arith}
+use Prim.Native.Nat.{◌+◌, ◌≤◌, ◌-◌, ◌^◌}
 use lib.ListN.{length}
-use lib.Pow.{pow_mono}
 use Rattle.slices.specs.Places.{tab, over}
-use Rattle.slices.specs.Filled.{over-more}
 use Rattle.block.specs.Basis.{columns}
 use Rattle.block.specs.Symmetric.{gray_column}
-use Rattle.symmetric_laws.specs.Slices.{power-more}
-use Rattle.symmetric_work.specs.Points.{laid-images, laid-held, next-value}
-use borrow.Author.Rules.{rules}
 use Rattle.symmetric_work.proofs.double_points.Given as goal
 
 abbrev pub invariant-loop-z : goal.invariant-loop-z

@@ -1,7 +1,6 @@
 -- `symmetric_work::gray_row` meets its contract: 2^j is not above 2^n. Assumes nothing.
 use native.Mathlib.Omega.{arith}
 use lib.Pow.{pow_mono}
-use borrow.Author.Rules.{rules}
 use Rattle.symmetric_work.proofs.gray_row.Goals as goal
 
 pub overflow_sub-result : goal.overflow_sub-result

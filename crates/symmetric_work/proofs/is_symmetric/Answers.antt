@@ -1,9 +1,8 @@
 use mathlib.Core.Path.{sym}
-use Prim.Native.Nat.{ℕ, ◌≤◌, ◌<◌, ◌-◌}
+use Prim.Native.Nat.{◌-◌}
 use native.Mathlib.Omega.{arith}
 use borrow.Author.Count.{below_more}
 use Rattle.symmetric_laws.specs.Words.{kept-symmetric}
-use Rattle.symmetric_work.specs.Looks.{Repeated}
 use borrow.Author.Rules.{rules}
 use Rattle.symmetric_work.proofs.is_symmetric.Goals as goal
 

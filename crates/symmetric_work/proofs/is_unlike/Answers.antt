@@ -1,10 +1,9 @@
-use mathlib.Core.Path.{◌≡◌, refl}
+use mathlib.Core.Path.{refl}
 use Prim.Native.Nat.{ℕ, ◌≤◌, ◌<◌, ◌-◌, ◌^◌}
 use native.Mathlib.Omega.{arith}
-use lib.ListN.{length}
 use lib.Pow.{pow_pos, pow_mono}
 use Rattle.block.specs.Limits.{table_inputs}
-use Rattle.symmetric_work.specs.Looks.{Looking, look-starts, look-goes-on, look-finds, look-ends, looked-some, looked-none}
+use Rattle.symmetric_work.specs.Looks.{look-starts, look-goes-on, look-finds, look-ends, looked-some, looked-none}
 use borrow.Author.Rules.{rules}
 use Rattle.symmetric_work.proofs.is_unlike.Goals as goal
 

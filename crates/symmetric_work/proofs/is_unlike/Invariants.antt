@@ -1,13 +1,9 @@
 -- `symmetric_work::is_unlike` meets its contract. The loop's invariant: it has come to some number, and no entry before it is unlike. The measure
 -- is what is left. Assumes nothing.
-use mathlib.Core.Path.{◌≡◌, refl}
-use Prim.Native.Nat.{ℕ, ◌≤◌, ◌<◌, ◌-◌, ◌^◌}
-use native.Mathlib.Omega.{arith}
+use mathlib.Core.Path.{◌≡◌}
+use Prim.Native.Nat.{◌≤◌, ◌<◌, ◌-◌, ◌^◌}
 use lib.ListN.{length}
-use lib.Pow.{pow_pos, pow_mono}
-use Rattle.block.specs.Limits.{table_inputs}
-use Rattle.symmetric_work.specs.Looks.{Looking, look-starts, look-goes-on, look-finds, look-ends, looked-some, looked-none}
-use borrow.Author.Rules.{rules}
+use Rattle.symmetric_work.specs.Looks.{Looking}
 use Rattle.symmetric_work.proofs.is_unlike.Given as goal
 
 abbrev pub invariant-loop-with : goal.invariant-loop-with

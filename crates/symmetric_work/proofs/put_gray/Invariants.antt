@@ -1,18 +1,13 @@
 -- `symmetric_work::put_gray` meets its contract. The loop's invariant: the first z entries are stored, and from there on T is still there. The
 -- measure is what is left. Assumes nothing.
-use mathlib.Core.Path.{◌≡◌, ap, ◌∙◌}
-use Prim.Native.Nat.{◌≤◌, ◌<◌, ◌-◌, ◌^◌}
-use native.Mathlib.Omega.{arith}
-use lib.ListN.{length, get_or}
-use lib.Pow.{pow_mono}
+use mathlib.Core.Path.{◌≡◌}
+use Prim.Native.Nat.{◌≤◌, ◌-◌, ◌^◌}
+use lib.ListN.{length}
 use Rattle.slices.specs.Places.{tab, over}
-use Rattle.slices.specs.Filled.{over_none, over-more, over-over}
 use Rattle.block.specs.Words.{of_table}
-use Rattle.block.specs.Basis.{columns, smaller}
+use Rattle.block.specs.Basis.{smaller}
 use Rattle.block.specs.Symmetric.{gray_column}
 use Rattle.matrix_laws.specs.Images.{Images}
-use Rattle.symmetric_work.specs.Points.{laid-images, still, point-lt, entry_at}
-use borrow.Author.Rules.{rules}
 use Rattle.symmetric_work.proofs.put_gray.Given as goal
 
 abbrev pub invariant-loop-z : goal.invariant-loop-z

@@ -3,7 +3,6 @@ use Prim.Native.Nat.{◌+◌, ◌≤◌, ◌<◌, ◌-◌, ◌^◌}
 use native.Mathlib.Omega.{arith}
 use lib.ListN.{length, length-set}
 use lib.Pow.{pow_pos, pow_mono}
-use Rattle.slices.specs.Places.{tab, over}
 use Rattle.block.specs.Basis.{columns}
 use Rattle.block.specs.Symmetric.{gray_column}
 use Rattle.matrix_laws.specs.Images.{images-first}

@@ -1,16 +1,11 @@
 -- `symmetric_work::put_points` meets its contract. The loop's invariant: T at each number below 2^i is there, and the rest holds what it held. The
 -- measure is what is left. Assumes nothing.
-use mathlib.Core.Path.{◌≡◌, refl}
-use Prim.Native.Nat.{◌+◌, ◌≤◌, ◌<◌, ◌-◌, ◌^◌}
-use native.Mathlib.Omega.{arith}
-use lib.ListN.{length, length-set}
-use lib.Pow.{pow_pos, pow_mono}
+use mathlib.Core.Path.{◌≡◌}
+use Prim.Native.Nat.{◌≤◌, ◌-◌, ◌^◌}
+use lib.ListN.{length}
 use Rattle.slices.specs.Places.{tab, over}
 use Rattle.block.specs.Basis.{columns}
 use Rattle.block.specs.Symmetric.{gray_column}
-use Rattle.matrix_laws.specs.Images.{images-first}
-use Rattle.symmetric_work.specs.Points.{laid-images, laid-held, laid-again, laid-first, column-of}
-use borrow.Author.Rules.{rules}
 use Rattle.symmetric_work.proofs.put_points.Given as goal
 
 abbrev pub invariant-loop-i : goal.invariant-loop-i

@@ -3,7 +3,7 @@ use Prim.Native.Nat.{◌+◌, ◌≤◌, ◌<◌, ◌-◌, ◌^◌}
 use native.Mathlib.Omega.{arith}
 use lib.ListN.{length, get_or, length-set}
 use lib.Pow.{pow_pos, pow_mono}
-use Rattle.slices.specs.Places.{tab, over}
+use Rattle.slices.specs.Places.{over}
 use Rattle.block.specs.Symmetric.{of_counts, symmetric_table}
 use Rattle.symmetric_work.specs.Points.{laid-again}
 use Rattle.symmetric_work.specs.Entries.{entered-over, entered-held, entered-first}

@@ -1,15 +1,10 @@
 -- `symmetric_work::put_symmetric` meets its contract. The loop's invariant: the entries below 2^j are there, and the rest holds what it held. The
 -- measure is what is left. Assumes nothing.
-use mathlib.Core.Path.{◌≡◌, refl}
-use Prim.Native.Nat.{◌+◌, ◌≤◌, ◌<◌, ◌-◌, ◌^◌}
-use native.Mathlib.Omega.{arith}
-use lib.ListN.{length, get_or, length-set}
-use lib.Pow.{pow_pos, pow_mono}
+use mathlib.Core.Path.{◌≡◌}
+use Prim.Native.Nat.{◌≤◌, ◌-◌, ◌^◌}
+use lib.ListN.{length}
 use Rattle.slices.specs.Places.{tab, over}
-use Rattle.block.specs.Symmetric.{of_counts, symmetric_table}
-use Rattle.symmetric_work.specs.Points.{laid-again}
-use Rattle.symmetric_work.specs.Entries.{entered-over, entered-held, entered-first}
-use borrow.Author.Rules.{rules}
+use Rattle.block.specs.Symmetric.{of_counts}
 use Rattle.symmetric_work.proofs.put_symmetric.Given as goal
 
 abbrev pub invariant-loop-j : goal.invariant-loop-j

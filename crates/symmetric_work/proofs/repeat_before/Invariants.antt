@@ -1,13 +1,10 @@
 -- `symmetric_work::repeat_before` meets its contract. The loop's invariant: y entries are repeated, and the rest holds what it held. The measure is
 -- what is left. Assumes nothing.
-use mathlib.Core.Path.{◌≡◌, refl}
+use mathlib.Core.Path.{◌≡◌}
 use Prim.Native.Nat.{◌+◌, ◌≤◌, ◌-◌}
-use native.Mathlib.Omega.{arith}
 use lib.ListN.{length}
 use Rattle.slices.specs.Places.{tab, over}
-use Rattle.slices.specs.Filled.{over-more}
-use Rattle.symmetric_work.specs.Entries.{repeated, repeat-starts, repeat-next}
-use borrow.Author.Rules.{rules}
+use Rattle.symmetric_work.specs.Entries.{repeated}
 use Rattle.symmetric_work.proofs.repeat_before.Given as goal
 
 abbrev pub invariant-loop-y : goal.invariant-loop-y

@@ -1,7 +1,6 @@
 -- `symmetric_work::symmetric_value` meets its contract: the answer is 1 or 0. Assumes nothing.
 use mathlib.Core.Path.{sym, ap, ◌∙◌}
 use Rattle.sums.specs.Sums.{one}
-use borrow.Author.Rules.{rules}
 use Rattle.symmetric_work.proofs.symmetric_value.Goals as goal
 
 pub returns-then-is_symmetric : goal.returns-then-is_symmetric

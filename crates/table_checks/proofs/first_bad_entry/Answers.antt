@@ -1,11 +1,7 @@
 use mathlib.Core.Path.{sym, ◌∙◌}
 use Prim.Native.Nat.{◌-◌}
-use lib.ListN.{length}
 use native.Mathlib.Omega.{arith}
-use Rattle.slices.specs.Places.{at}
-use Rattle.block.specs.Refusals.{bad_entry}
-use Rattle.table_checks.specs.Search.{Searched, search-starts, search-goes-on, search-finds, search-ends}
-use borrow.Author.Rules.{rules}
+use Rattle.table_checks.specs.Search.{search-starts, search-goes-on, search-finds, search-ends}
 use Rattle.table_checks.proofs.first_bad_entry.Goals as goal
 
 pub loop-i-init : goal.loop-i-init

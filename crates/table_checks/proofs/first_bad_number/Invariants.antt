@@ -1,13 +1,10 @@
 -- `table_checks::first_bad_number` meets its contract. The loop's invariant: no matrix row before i is malformed. The measure is what is left.
 -- Assumes nothing.
-use mathlib.Core.Path.{sym, ◌∙◌}
 use Prim.Native.Nat.{◌-◌}
 use lib.ListN.{length}
-use native.Mathlib.Omega.{arith}
 use Rattle.slices.specs.Places.{at}
 use Rattle.block.specs.Refusals.{bad_number}
-use Rattle.table_checks.specs.Search.{Searched, search-starts, search-goes-on, search-finds, search-ends}
-use borrow.Author.Rules.{rules}
+use Rattle.table_checks.specs.Search.{Searched}
 use Rattle.table_checks.proofs.first_bad_number.Given as goal
 
 abbrev pub invariant-loop-i : goal.invariant-loop-i

@@ -6,7 +6,6 @@ use native.Mathlib.Decide.{ℕ_discrete}
 use native.Mathlib.Omega.{arith}
 use borrow.Author.Tests.{eq-eqb, ne_eqb}
 use lib.Dec.{eqb}
-use borrow.Author.Rules.{rules}
 use Rattle.table_checks.proofs.is_other_count.Goals as goal
 
 pub returns-then-words-eq0 : goal.returns-then-words-eq0

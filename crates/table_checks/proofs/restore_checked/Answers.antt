@@ -1,6 +1,5 @@
 -- `table_checks::restore_checked` meets its contract: its checks step by step. Assumes nothing.
 use Rattle.table_checks.specs.Steps.{restore-inputs, restore-outputs, restore-verdict}
-use borrow.Author.Rules.{rules}
 use Rattle.table_checks.proofs.restore_checked.Goals as goal
 
 pub then_matrix-rows-requires : goal.then_matrix-rows-requires

@@ -6,7 +6,6 @@ use lib.Dec.{eqb}
 use lib.ListN.{length}
 use Rattle.block.specs.Tables.{spectrum_verdict}
 use Rattle.table_checks.specs.Steps.{rooms-outputs, rooms-verdict}
-use borrow.Author.Rules.{rules}
 use Rattle.table_checks.proofs.spectrum_verdict.Goals as goal
 
 pub then_entries-requires : goal.then_entries-requires

@@ -1,7 +1,6 @@
 -- `table_checks::symmetric_verdict` meets its contract: its checks step by step. Assumes nothing.
 use Rattle.block.specs.Symmetric.{symmetric_verdict}
 use Rattle.table_checks.specs.Steps.{rooms-outputs, rooms-verdict}
-use borrow.Author.Rules.{rules}
 use Rattle.table_checks.proofs.symmetric_verdict.Goals as goal
 
 pub then_entries-requires : goal.then_entries-requires

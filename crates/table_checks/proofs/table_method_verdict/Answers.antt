@@ -1,6 +1,5 @@
 -- `table_checks::table_method_verdict` meets its contract: its checks step by step. Assumes nothing.
 use Rattle.table_checks.specs.Steps.{method-outputs, method-verdict}
-use borrow.Author.Rules.{rules}
 use Rattle.table_checks.proofs.table_method_verdict.Goals as goal
 
 pub then_entries-requires : goal.then_entries-requires

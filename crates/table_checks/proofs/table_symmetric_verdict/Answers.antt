@@ -1,6 +1,5 @@
 -- `table_checks::table_symmetric_verdict` meets its contract: its checks step by step. Assumes nothing.
 use Rattle.table_checks.specs.Steps.{symmetric-outputs, symmetric-verdict}
-use borrow.Author.Rules.{rules}
 use Rattle.table_checks.proofs.table_symmetric_verdict.Goals as goal
 
 pub then_entries-requires : goal.then_entries-requires

@@ -2,7 +2,6 @@
 use Rattle.block.specs.Refusals.{bad_number}
 use Rattle.refusal_laws.specs.Verdicts.{then-refused}
 use Rattle.table_checks.specs.Steps.{malformed-asked}
-use borrow.Author.Rules.{rules}
 use Rattle.table_checks.proofs.then_matrix.Goals as goal
 
 pub returns-then-v-ne0 : goal.returns-then-v-ne0

@@ -1,8 +1,7 @@
 use mathlib.Core.Path.{◌≡◌}
-use Prim.Native.Nat.{◌≤◌, ◌-◌, ◌^◌}
+use Prim.Native.Nat.{◌-◌, ◌^◌}
 use native.Mathlib.Omega.{arith}
-use lib.ListN.{length}
-use Rattle.slices.specs.Places.{tab, over}
+use Rattle.slices.specs.Places.{over}
 use Rattle.slices.specs.Filled.{over_none, over-more}
 use Rattle.block.specs.Words.{of_table}
 use Rattle.block.specs.Measure.{shift}

@@ -1,14 +1,11 @@
 -- `table_values::small_shifts` meets its contract. The loop's invariant: the first t entries hold R, and the rest what they held.
 -- The measure is what is left. Assumes nothing.
 use mathlib.Core.Path.{◌≡◌}
-use Prim.Native.Nat.{◌≤◌, ◌-◌, ◌^◌}
-use native.Mathlib.Omega.{arith}
+use Prim.Native.Nat.{◌≤◌, ◌-◌}
 use lib.ListN.{length}
 use Rattle.slices.specs.Places.{tab, over}
-use Rattle.slices.specs.Filled.{over_none, over-more}
 use Rattle.block.specs.Words.{of_table}
 use Rattle.block.specs.Measure.{shift}
-use borrow.Author.Rules.{rules}
 use Rattle.table_values.proofs.small_shifts.Given as goal
 
 abbrev pub invariant-loop-t : goal.invariant-loop-t

@@ -4,7 +4,6 @@ use Prim.Native.Nat.{ℕ, ◌-◌, ◌*◌}
 use native.Mathlib.Omega.{arith}
 use lib.Bits.{bit_xor, xor_lt}
 use Rattle.table_words.specs.Matching.{block-le, pair-counted, pair-alone, pair-both}
-use borrow.Author.Rules.{rules}
 use Rattle.table_words.proofs.blocks_add.Goals as goal
 
 pub returns-then-c-b : goal.returns-then-c-b

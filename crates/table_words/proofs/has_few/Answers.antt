@@ -1,7 +1,6 @@
 -- `table_words::has_few` meets its contract: the number of one-bits is small enough for any width. Assumes nothing.
 use native.Mathlib.Omega.{arith}
 use lib.Count.{ones-le}
-use borrow.Author.Rules.{rules}
 use Rattle.block.specs.Limits.{table_inputs}
 use Rattle.table_words.proofs.has_few.Goals as goal
 

@@ -1,17 +1,10 @@
 -- `table_words::matches` meets its contract. The loop's invariant: m counts the points before i that match. The measure is what is left of 64.
 -- Assumes nothing.
-use mathlib.Core.Path.{◌≡◌, sym, ap, ◌∙◌}
-use mathlib.Core.Logic.{⊎_elim}
-use Prim.Native.Nat.{ℕ, ◌≤◌, ◌-◌, ◌+◌, ◌*◌}
-use native.Mathlib.Nat.{add-zero}
-use native.Mathlib.Omega.{arith}
-use borrow.Author.Tests.{eq-eqb, ne_eqb}
+use mathlib.Core.Path.{◌≡◌}
+use Prim.Native.Nat.{◌≤◌, ◌-◌, ◌+◌, ◌*◌}
 use lib.Dec.{eqb}
 use Rattle.slices.specs.Places.{at}
-use Rattle.sums.specs.Sums.{one, count}
-use Rattle.sums.specs.Laws.{count-zero, count-more, count-le}
-use Rattle.table_words.specs.Matching.{matching}
-use borrow.Author.Rules.{rules}
+use Rattle.sums.specs.Sums.{count}
 use Rattle.table_words.proofs.matches.Given as goal
 
 abbrev pub invariant-loop-i : goal.invariant-loop-i

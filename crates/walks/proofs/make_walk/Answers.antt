@@ -5,8 +5,8 @@ use native.Mathlib.Omega.{arith}
 use lib.ListN.{length}
 use lib.Pow.{pow_mono}
 use Rattle.candidates.specs.Light.{light}
-use Rattle.slices.specs.Laid.{Laid, laid_none, laid_more}
-use Rattle.walks.specs.Walk.{walk, walk_to, walk_none, walk-taken, walk-past, walk-room}
+use Rattle.slices.specs.Laid.{laid_none, laid_more}
+use Rattle.walks.specs.Walk.{walk, walk_none, walk-taken, walk-past, walk-room}
 use borrow.Author.Rules.{rules}
 use Rattle.walks.proofs.make_walk.Goals as goal
 use Rattle.walks.proofs.make_walk.Goals.{After-stride-t, Then-is_light}

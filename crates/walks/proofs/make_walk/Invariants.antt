@@ -1,16 +1,10 @@
 -- `walks::make_walk` meets its contract. The loop's invariant: the walk below t lies at the front, and the rest holds what it held; of
 -- the numbers that are passed over none is of the walk.
 -- The measure is what is left. Assumes nothing.
-use mathlib.Core.Path.{◌≡◌, refl, sym, ◌∙◌}
-use mathlib.Core.Bool.{true}
-use Prim.Native.Nat.{◌≤◌, ◌<◌, ◌+◌, ◌-◌, ◌^◌}
-use native.Mathlib.Omega.{arith}
-use lib.ListN.{length}
-use lib.Pow.{pow_mono}
-use Rattle.candidates.specs.Light.{light}
-use Rattle.slices.specs.Laid.{Laid, laid_none, laid_more}
-use Rattle.walks.specs.Walk.{walk, walk_to, walk_none, walk-taken, walk-past, walk-room}
-use borrow.Author.Rules.{rules}
+use mathlib.Core.Path.{◌≡◌}
+use Prim.Native.Nat.{◌≤◌, ◌-◌, ◌^◌}
+use Rattle.slices.specs.Laid.{Laid}
+use Rattle.walks.specs.Walk.{walk_to}
 use Rattle.walks.proofs.make_walk.Given as goal
 
 abbrev pub invariant-loop-t : goal.invariant-loop-t

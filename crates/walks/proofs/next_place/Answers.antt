@@ -1,6 +1,6 @@
 use Prim.Native.Nat.{◌-◌}
 use native.Mathlib.Omega.{arith}
-use Rattle.walks.specs.Next.{NextPlace, next-none, next_more}
+use Rattle.walks.specs.Next.{next-none, next_more}
 use borrow.Author.Rules.{rules}
 use Rattle.walks.proofs.next_place.Goals as goal
 

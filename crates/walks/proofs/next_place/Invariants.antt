@@ -1,8 +1,6 @@
 -- `walks::next_place` meets its contract, which is the loop's invariant. The measure is what is left. Assumes nothing.
 use Prim.Native.Nat.{◌-◌}
-use native.Mathlib.Omega.{arith}
-use Rattle.walks.specs.Next.{NextPlace, next-none, next_more}
-use borrow.Author.Rules.{rules}
+use Rattle.walks.specs.Next.{NextPlace}
 use Rattle.walks.proofs.next_place.Given as goal
 
 abbrev pub invariant-loop-place : goal.invariant-loop-place

@@ -1,6 +1,5 @@
-use Prim.Native.Nat.{ℕ, ◌≤◌, ◌<◌, ◌-◌}
+use Prim.Native.Nat.{◌-◌}
 use native.Mathlib.Omega.{arith}
-use Rattle.slices.specs.Places.{at}
 use Rattle.walks.specs.Ascending.{all-below, none_below, place_is}
 use borrow.Author.Rules.{rules}
 use Rattle.walks.proofs.place_of.Goals as goal

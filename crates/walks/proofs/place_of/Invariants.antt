@@ -1,10 +1,7 @@
 -- `walks::place_of` meets its contract. The loop's invariant: the numbers before `low` are below t, and from `high` on none is. The measure is
 -- what lies between. Assumes nothing.
 use Prim.Native.Nat.{ℕ, ◌≤◌, ◌<◌, ◌-◌}
-use native.Mathlib.Omega.{arith}
 use Rattle.slices.specs.Places.{at}
-use Rattle.walks.specs.Ascending.{all-below, none_below, place_is}
-use borrow.Author.Rules.{rules}
 use Rattle.walks.proofs.place_of.Given as goal
 
 abbrev pub invariant-loop-low : goal.invariant-loop-low

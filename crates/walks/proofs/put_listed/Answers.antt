@@ -1,10 +1,9 @@
 use mathlib.Core.Path.{◌≡◌, sym, ◌∙◌}
-use mathlib.Core.Logic.{⊎_elim}
 use mathlib.Core.Bool.{true}
-use Prim.Native.Nat.{◌≤◌, ◌<◌, ◌-◌, ◌^◌}
+use Prim.Native.Nat.{◌<◌, ◌-◌}
 use native.Mathlib.Omega.{arith}
 use lib.ListN.{length}
-use Rattle.slices.specs.Laid.{Laid, laid_none}
+use Rattle.slices.specs.Laid.{laid_none}
 use Rattle.candidates.specs.Light.{light}
 use Rattle.walks.specs.Printed.{kept, cut, kept-none, kept-room, laid_kept, laid-left, cut-more, cut-here}
 use borrow.Author.Rules.{rules}

@@ -1,15 +1,10 @@
 -- `walks::put_listed` meets its contract. The loop's invariant: what is kept of the numbers before this place lies at the front, and none of them is
 -- past the cut. The measure is what is left. Assumes nothing.
-use mathlib.Core.Path.{◌≡◌, sym, ◌∙◌}
-use mathlib.Core.Logic.{⊎_elim}
-use mathlib.Core.Bool.{true}
-use Prim.Native.Nat.{◌≤◌, ◌<◌, ◌-◌, ◌^◌}
-use native.Mathlib.Omega.{arith}
+use mathlib.Core.Path.{◌≡◌}
+use Prim.Native.Nat.{◌≤◌, ◌-◌, ◌^◌}
 use lib.ListN.{length}
-use Rattle.slices.specs.Laid.{Laid, laid_none}
-use Rattle.candidates.specs.Light.{light}
-use Rattle.walks.specs.Printed.{kept, cut, kept-none, kept-room, laid_kept, laid-left, cut-more, cut-here}
-use borrow.Author.Rules.{rules}
+use Rattle.slices.specs.Laid.{Laid}
+use Rattle.walks.specs.Printed.{kept, cut}
 use Rattle.walks.proofs.put_listed.Given as goal
 
 abbrev pub invariant-loop-place : goal.invariant-loop-place

@@ -6,7 +6,6 @@ use Rattle.block.specs.Limits.{list_inputs}
 use Rattle.candidate_list.specs.Printed.{printed_limit}
 use Rattle.walks.specs.Walk.{walk}
 use Rattle.walks.specs.Printed.{kept, cut, walk-printed}
-use borrow.Author.Rules.{rules}
 use Rattle.walks.proofs.put_walk.Goals as goal
 use Rattle.walks.proofs.put_walk.Goals.{After-printed_list-list}
 

@@ -1,13 +1,10 @@
 -- `walks::sum_of` meets its contract. The loop's invariant: r is the sum of the first i values; it fits, since each is below 2^32
 -- and there are no more than a list has inputs. The measure is what is left. Assumes nothing.
-use mathlib.Core.Path.{◌≡◌, sym, ap₂, ◌∙◌}
-use Prim.Native.Nat.{ℕ, ◌≤◌, ◌-◌, ◌^◌, ◌+◌, ◌*◌}
-use native.Mathlib.Omega.{arith}
+use mathlib.Core.Path.{◌≡◌}
+use Prim.Native.Nat.{◌≤◌, ◌-◌, ◌^◌, ◌*◌}
 use Rattle.slices.specs.Places.{at}
 use Rattle.sums.specs.Sums.{sum}
-use Rattle.sums.specs.Laws.{sum-zero, sum_more}
 use Rattle.walks.specs.Walk.{value_at}
-use borrow.Author.Rules.{rules}
 use Rattle.walks.proofs.sum_of.Given as goal
 
 abbrev pub invariant-loop-i : goal.invariant-loop-i

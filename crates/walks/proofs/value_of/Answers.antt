@@ -1,5 +1,4 @@
 -- `walks::value_of` meets its contract: the number stands at the place of the first that is not below it, or nowhere. Assumes nothing.
-use mathlib.Core.Logic.{⊎_elim}
 use native.Mathlib.Omega.{arith}
 use Rattle.walks.specs.Ascending.{value_found, value-missing}
 use borrow.Author.Rules.{rules}

@@ -6,7 +6,7 @@ use lib.ListN.{length-set}
 use mir.Syntax.{w32}
 use mir.Val.{to_z, of_z}
 use Rattle.walsh_laws.specs.Walsh.{most_number}
-use Rattle.walsh_laws.specs.Passes.{val, Crossed, crossed-none, crossed-more, crossed-small}
+use Rattle.walsh_laws.specs.Passes.{val, crossed-none, crossed-more, crossed-small}
 use Rattle.walsh_laws.specs.Machine.{back, sum_fits, sum_back, difference-fits, difference-back}
 use borrow.Author.Rules.{rules}
 use Rattle.walsh.proofs.cross_block.Goals as goal

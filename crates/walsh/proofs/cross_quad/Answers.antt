@@ -6,7 +6,7 @@ use lib.ListN.{length-set}
 use mir.Syntax.{w32}
 use mir.Val.{to_z, of_z}
 use Rattle.walsh_laws.specs.Walsh.{most_number}
-use Rattle.walsh_laws.specs.Passes.{val, Same, CrossedTwice, crossed-twice-none, crossed-twice-same, crossed-twice-more}
+use Rattle.walsh_laws.specs.Passes.{val, Same, crossed-twice-none, crossed-twice-same, crossed-twice-more}
 use Rattle.walsh_laws.specs.Machine.{back, sum_fits, difference-fits, first_fits, first_back, second_fits, second_back, third-fits, third_back, fourth-fits, fourth-back}
 use borrow.Author.Rules.{rules}
 use Rattle.walsh.proofs.cross_quad.Goals as goal

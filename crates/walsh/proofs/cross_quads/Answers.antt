@@ -3,7 +3,7 @@ use Prim.Native.Nat.{◌+◌, ◌*◌, ◌-◌, ◌≤◌}
 use native.Mathlib.Nat.{mul-le-mul_right}
 use native.Mathlib.Omega.{arith}
 use lib.ListN.{length}
-use Rattle.walsh_laws.specs.Passes.{PassedTwice, passed-twice-none, passed-twice-more, passed-twice-small}
+use Rattle.walsh_laws.specs.Passes.{passed-twice-none, passed-twice-more, passed-twice-small}
 use borrow.Author.Rules.{rules}
 use Rattle.walsh.proofs.cross_quads.Goals as goal
 use Rattle.walsh.proofs.cross_quads.Goals.{In-loop-b}

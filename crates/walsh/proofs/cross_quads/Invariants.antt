@@ -1,11 +1,6 @@
 -- `walsh::cross_quads` meets its contract. The loop's invariant: the first b blocks are done. The measure is what is left. Assumes nothing.
-use mathlib.Core.Path.{◌≡◌}
-use Prim.Native.Nat.{◌+◌, ◌*◌, ◌-◌, ◌≤◌}
-use native.Mathlib.Nat.{mul-le-mul_right}
-use native.Mathlib.Omega.{arith}
-use lib.ListN.{length}
-use Rattle.walsh_laws.specs.Passes.{PassedTwice, passed-twice-none, passed-twice-more, passed-twice-small}
-use borrow.Author.Rules.{rules}
+use Prim.Native.Nat.{◌-◌, ◌≤◌}
+use Rattle.walsh_laws.specs.Passes.{PassedTwice}
 use Rattle.walsh.proofs.cross_quads.Given as goal
 
 abbrev pub invariant-loop-b : goal.invariant-loop-b

@@ -3,7 +3,7 @@ use Prim.Native.Nat.{◌*◌, ◌-◌, ◌≤◌}
 use native.Mathlib.Omega.{arith}
 use lib.IntN.{ℤ, pos, nat_abs}
 use lib.ListN.{length, length-set}
-use Rattle.slices.specs.Places.{tab, over}
+use Rattle.slices.specs.Places.{over}
 use Rattle.slices.specs.Filled.{over_none, over-more, over-beyond, over-whole}
 use Rattle.walsh_laws.specs.Walsh.{most_points}
 use Rattle.walsh_laws.specs.Passes.{val}

@@ -5,7 +5,6 @@ use Prim.Native.Nat.{ℕ, ◌*◌}
 use lib.IntN.{ℤ}
 use lib.ListN.{length}
 use Rattle.walsh_laws.specs.Passes.{PassedTwice}
-use borrow.Author.Rules.{rules}
 use Rattle.walsh.proofs.two_stages.Goals as goal
 
 -- the blocks fill the list

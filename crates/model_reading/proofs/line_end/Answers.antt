@@ -1,0 +1,18 @@
+-- `model_reading::line_end` meets its contract: each return is the case of the test. Assumes nothing.
+use native.Mathlib.Omega.{arith}
+use borrow.Author.Tests.{eq-eqb, ne_eqb}
+use Rattle.model_reading.proofs.line_end.Goals as goal
+
+pub returns-then-b-eq10 : goal.returns-then-b-eq10
+returns-then-b-eq10 c =
+    record {
+      value = rw (eq-eqb c.args.b 10 c.if-b-eq10.true);
+      upper_bound = omega arith;
+    }
+
+pub returns-else-b-eq10 : goal.returns-else-b-eq10
+returns-else-b-eq10 c =
+    record {
+      value = rw (ne_eqb c.args.b 10 c.if-b-eq10.false);
+      upper_bound = omega arith;
+    }
