@@ -162,6 +162,12 @@ class Function:
                 if p is None:
                     p = next((q[0] for q in self.entry["places"] if q[2][1] == first), None)
                 if p is None:
+                    # numbered otherwise than today: the nearest of that name
+                    bare = re.sub(r"\d+$", "", norm(first))
+                    p = place
+                    while p is not None and re.sub(r"\d+$", "", norm(self.places[p][2][0])) != bare:
+                        p = self.places[p][1]
+                if p is None:
                     self.look(f"no step `{first}` at {place}")
                     return ("term", f"{self.root}." + ".".join([first] + fields))
                 place = p

@@ -6,6 +6,7 @@
 ghost use Rattle.std.specs.Prelude.{◌≤◌};
 
 use block::{FD, FR, LIST_POINTS};
+use std::env::Env;
 
 // A decimal number, where an argument is one.
 #[derive(Clone, Copy)]
@@ -49,16 +50,16 @@ fn number_of(digits: &[u8]) -> Number {
 }
 
 // The number that argument i is.
-pub fn number_at(i: usize) -> Number {
+pub fn number_at(rt: &impl Env, i: usize) -> Number {
     let mut name = io::buffer();
-    let length = os::arg(i, &mut name);
+    let length = saying::argument(rt, i, &mut name).length;
     number_of(&name[..length])
 }
 
 // Whether argument i is this one.
-pub fn is_given(i: usize, text: &[u8]) -> bool {
+pub fn is_given(rt: &impl Env, i: usize, text: &[u8]) -> bool {
     let mut name = io::buffer();
-    let length = os::arg(i, &mut name);
+    let length = saying::argument(rt, i, &mut name).length;
     saying::is_same(&name[..length], text)
 }
 
@@ -75,14 +76,14 @@ fn entry_of(x: usize) -> u16 {
 }
 
 // The number, or the - of no output, that argument i is.
-fn word_at(i: usize) -> Number {
-    if is_given(i, b"-") {
+fn word_at(rt: &impl Env, i: usize) -> Number {
+    if is_given(rt, i, b"-") {
         return Number {
             known: true,
             value: NO_OUTPUT as usize,
         };
     }
-    number_at(i)
+    number_at(rt, i)
 }
 
 // Stores a word, where there is room for it.
@@ -93,12 +94,12 @@ fn put_word(words: &mut [u16], c: usize, word: u16) {
 }
 
 // Reads the words from argument `from` on, as many as there is room for. False where one of them all is none.
-fn read_words(from: usize, words: &mut [u16]) -> bool {
-    let count = os::arg_count();
+fn read_words(rt: &impl Env, from: usize, words: &mut [u16]) -> bool {
+    let count = saying::argument_count(rt);
     let mut c: usize = 0;
     let mut i = from;
     while i < count {
-        let word = word_at(i);
+        let word = word_at(rt, i);
         if !word.known {
             return false;
         }
@@ -110,11 +111,11 @@ fn read_words(from: usize, words: &mut [u16]) -> bool {
 }
 
 // The type that argument 2 is: none is 0.
-fn given_type() -> usize {
-    if is_given(2, b"fr") {
+fn given_type(rt: &impl Env) -> usize {
+    if is_given(rt, 2, b"fr") {
         return FR;
     }
-    if is_given(2, b"fd") {
+    if is_given(rt, 2, b"fd") {
         return FD;
     }
     0
@@ -130,13 +131,13 @@ pub struct SymmetricCall {
 }
 
 // A call whose number of outputs is argument `at`. Its words are stored as far as there is room.
-fn call_from(at: usize, block_type: usize, words: &mut [u16]) -> SymmetricCall
+fn call_from(rt: &impl Env, at: usize, block_type: usize, words: &mut [u16]) -> SymmetricCall
     requires { at ≤ 3 }
     ensures { 1 ≤ result.count }
 {
-    let given = os::arg_count();
-    let k = number_at(at);
-    let read = read_words(at + 1, words);
+    let given = saying::argument_count(rt);
+    let k = number_at(rt, at);
+    let read = read_words(rt, at + 1, words);
     if given < at + 2 || !k.known || !read {
         return SymmetricCall {
             known: false,
@@ -154,14 +155,14 @@ fn call_from(at: usize, block_type: usize, words: &mut [u16]) -> SymmetricCall
 }
 
 // [fr|fd] K WORD.., after the option. The type is fd where none is said.
-pub fn symmetric_call(words: &mut [u16]) -> SymmetricCall
+pub fn symmetric_call(rt: &impl Env, words: &mut [u16]) -> SymmetricCall
     ensures { 1 ≤ result.count }
 {
-    let block_type = given_type();
+    let block_type = given_type(rt);
     if block_type == 0 {
-        return call_from(2, FD, words);
+        return call_from(rt, 2, FD, words);
     }
-    call_from(3, block_type, words)
+    call_from(rt, 3, block_type, words)
 }
 
 // ---- why a number was not taken
@@ -176,10 +177,10 @@ pub struct WhyCall {
 }
 
 // T [W], after the option.
-pub fn why_call() -> WhyCall {
-    let given = os::arg_count();
-    let t = number_at(2);
-    let w = number_at(3);
+pub fn why_call(rt: &impl Env) -> WhyCall {
+    let given = saying::argument_count(rt);
+    let t = number_at(rt, 2);
+    let w = number_at(rt, 3);
     let limited = 3 < given;
     WhyCall {
         known: given <= 4 && t.known && (w.known || !limited),

@@ -14,12 +14,14 @@ use import_counts::{
 };
 use import_paths::NAME_MOST;
 use import_says::say_name;
-use libc::STDERR_FILENO;
 use put_import::LINE_ROOM;
-use saying::say;
+use saying::errors::ENAMETOOLONG;
+use saying::{STANDARD_ERROR, say};
+use std::env::Env;
+use std::fs::Files;
 
 // Works out the list that a file held.
-pub fn import_list(name: &[u8], list: Facts, text: &[u8], models: bool) -> Done
+pub fn import_list(rt: &impl Files, name: &[u8], list: Facts, text: &[u8], models: bool) -> Done
     requires { length name.now ≤ name_most }
     ensures became_bound { result.became ≤ 7 }
     ensures model_bound { result.model ≤ 3 }
@@ -29,62 +31,62 @@ pub fn import_list(name: &[u8], list: Facts, text: &[u8], models: bool) -> Done
     let r = importing::import_text(name, text, &mut sheet, &mut line);
     if r.number != 0 {
         say(&line[..r.length]);
-        import_models::end_older(name, list, models);
+        import_models::end_older(rt, name, list, models);
         return only(REFUSED);
     }
-    let put = import_sheets::put_beside(name, false, &sheet[..r.count], list.mode);
+    let put = import_sheets::put_beside(rt, name, false, &sheet[..r.count], list.mode);
     if put.error != 0 {
         import_says::say_unwritten(name, false, put.error);
-        import_models::end_older(name, list, models);
+        import_models::end_older(rt, name, list, models);
         return only(UNWRITTEN);
     }
     say(&line[..r.length]);
     import_counts::say_became(put.became);
-    import_models::end_written(name, list, text, put.became, models)
+    import_models::end_written(rt, name, list, text, put.became, models)
 }
 
 // Reads a list and works it out. It is left alone where its sheet's place is taken.
-pub fn read_list(name: &[u8], list: Facts, models: bool) -> Done
+pub fn read_list(rt: &impl Files, name: &[u8], list: Facts, models: bool) -> Done
     requires { length name.now ≤ name_most }
     ensures became_bound { result.became ≤ 7 }
     ensures model_bound { result.model ≤ 3 }
 {
     let mut text = [0u8; READ_BYTES];
-    let input = import_files::read_file(name, &mut text);
+    let input = import_files::read_file(rt, name, &mut text);
     if input.error != 0 {
         import_says::say_unread(name, input.error);
-        import_models::end_unread(name, list, models);
+        import_models::end_unread(rt, name, list, models);
         return only(UNREAD);
     }
-    if import_says::say_block(name, false, list) {
-        import_models::end_model(name, list, models);
+    if import_says::say_block(rt, name, false, list) {
+        import_models::end_model(rt, name, list, models);
         return only(UNWRITTEN);
     }
-    import_list(name, list, &text[..input.length], models)
+    import_list(rt, name, list, &text[..input.length], models)
 }
 
 // Imports one file.
-pub fn import_file(name: &[u8], models: bool) -> Done
+pub fn import_file(rt: &impl Files, name: &[u8], models: bool) -> Done
     ensures became_bound { result.became ≤ 7 }
     ensures model_bound { result.model ≤ 3 }
 {
     // the names beside it must fit a path too
     if name.len() > NAME_MOST {
-        import_says::say_unread(name, libc::ENAMETOOLONG);
+        import_says::say_unread(name, ENAMETOOLONG);
         say(b"\n");
         return only(UNREAD);
     }
-    let list = file_facts::facts_of(name);
+    let list = file_facts::facts_of(rt, name);
     if file_facts::is_waited_for(list) {
         import_says::say_waited_for(name);
-        import_models::end_unread(name, list, models);
+        import_models::end_unread(rt, name, list, models);
         return only(UNREAD);
     }
-    read_list(name, list, models)
+    read_list(rt, name, list, models)
 }
 
 // Says why a name is passed over, where it is: it is a sheet's or a model's, or the list was there already.
-pub fn say_passed(i: usize, name: &[u8]) -> bool {
+pub fn say_passed(rt: &(impl Env + Files), i: usize, name: &[u8]) -> bool {
     if import_names::is_sheet_name(name) {
         say_name(name);
         say(b" has a sheet's name: passed over\n");
@@ -95,7 +97,7 @@ pub fn say_passed(i: usize, name: &[u8]) -> bool {
         say(b" has a model's name: passed over\n");
         return true;
     }
-    if import_folders::is_repeated(i, name) {
+    if import_folders::is_repeated(rt, i, name) {
         say_name(name);
         say(b" is given twice: its first line counts\n");
         return true;
@@ -104,61 +106,63 @@ pub fn say_passed(i: usize, name: &[u8]) -> bool {
 }
 
 // Imports the file that argument i names.
-pub fn import_argument(i: usize, models: bool) -> Done
+pub fn import_argument(rt: &(impl Env + Files), i: usize, models: bool) -> Done
     ensures became_bound { result.became ≤ 7 }
     ensures model_bound { result.model ≤ 3 }
 {
     let mut name = io::buffer();
-    let length = os::arg(i, &mut name);
-    if os::errno() != 0 {
-        import_says::say_unread(&name, os::errno());
+    let given = saying::argument(rt, i, &mut name);
+    if given.error != 0 {
+        import_says::say_unread(&name, given.error);
         say(b"\n");
         return only(UNREAD);
     }
-    if say_passed(i, &name[..length]) {
+    let length = given.length;
+    if say_passed(rt, i, &name[..length]) {
         return only(PASSED);
     }
-    import_file(&name[..length], models)
+    import_file(rt, &name[..length], models)
 }
 
 // Names the lists that have no current sheet, and those that have no current model, and says the counts; where they are not taken, that is
 // said on standard error.
 pub fn end_import(
+    rt: &impl Env,
     counts: &[usize; COUNTS],
     left: &[usize; LEFT_NAMED],
     lacking: &[usize; LEFT_NAMED],
     models: bool,
 ) {
-    import_counts::say_left(false, left, import_counts::left_of(counts));
-    import_counts::say_left(true, lacking, counts[UNMODELLED]);
+    import_counts::say_left(rt, false, left, import_counts::left_of(counts));
+    import_counts::say_left(rt, true, lacking, counts[UNMODELLED]);
     if models {
         import_counts::say_models(counts);
     }
     if !import_counts::say_counts(counts) {
         io::write_all(
-            STDERR_FILENO,
+            STANDARD_ERROR,
             b"irwystl: standard output did not take all that was said\n",
         );
     }
 }
 
 // Imports every file that the program was called with.
-pub fn import_all() {
-    let models = import_names::asks_models();
-    import_start::start_all(models);
-    let watched = import_counts::is_watched();
-    let first = import_names::first_list();
-    let count = os::arg_count();
+pub fn import_all(rt: &HostRuntime) {
+    let models = import_names::asks_models(rt);
+    import_start::start_all(rt, models);
+    let watched = import_counts::is_watched(&rt.stderr(), &rt.stdout());
+    let first = import_names::first_list(rt);
+    let count = saying::argument_count(rt);
     let mut counts = [0usize; COUNTS];
     let mut left = [0usize; LEFT_NAMED];
     let mut lacking = [0usize; LEFT_NAMED];
     let mut i = first;
     while i < count {
-        let done = import_argument(i, models);
+        let done = import_argument(rt, i, models);
         import_counts::keep_done(i, done, &mut counts, &mut left, &mut lacking);
-        import_folders::sync_after(i);
+        import_folders::sync_after(rt, i);
         i += 1;
         import_counts::show_progress(watched, i - first, count - first);
     }
-    end_import(&counts, &left, &lacking, models);
+    end_import(rt, &counts, &left, &lacking, models);
 }

@@ -2,14 +2,16 @@
 #![tactic(auto)]
 
 use block::MODEL_ROOM;
+use saying::errors::ENOENT;
 use saying::say;
+use std::fs::Files;
 
 // Whether both files can be read and hold the same bytes.
-pub fn is_as_due(path: &[u8], due: &[u8]) -> bool {
+pub fn is_as_due(rt: &impl Files, path: &[u8], due: &[u8]) -> bool {
     let mut text = [0u8; MODEL_ROOM + 1];
-    let written = import_files::read_file(path, &mut text);
+    let written = import_files::read_file(rt, path, &mut text);
     let mut other = [0u8; MODEL_ROOM + 1];
-    let expected = import_files::read_file(due, &mut other);
+    let expected = import_files::read_file(rt, due, &mut other);
     if written.error != 0 || expected.error != 0 {
         return false;
     }
@@ -17,9 +19,9 @@ pub fn is_as_due(path: &[u8], due: &[u8]) -> bool {
 }
 
 // Says whether the file has the bytes of the other.
-pub fn say_as_due(path: &[u8], due: &[u8]) {
+pub fn say_as_due(rt: &impl Files, path: &[u8], due: &[u8]) {
     say(path);
-    if is_as_due(path, due) {
+    if is_as_due(rt, path, due) {
         say(b" holds what is due\n");
     } else {
         say(b" does not hold what is due\n");
@@ -27,10 +29,10 @@ pub fn say_as_due(path: &[u8], due: &[u8]) {
 }
 
 // Says whether there is no such file.
-pub fn say_gone(path: &[u8]) {
+pub fn say_gone(rt: &impl Files, path: &[u8]) {
     let mut text = [0u8; 1];
     say(path);
-    if import_files::read_file(path, &mut text).error == libc::ENOENT {
+    if import_files::read_file(rt, path, &mut text).error == ENOENT {
         say(b" is not there\n");
     } else {
         say(b" is there\n");

@@ -2,6 +2,6 @@
 // one line. The crate bulk_import has the work.
 #![tactic(auto)]
 
-fn main() {
-    bulk_import::import_all();
+fn main(rt: HostRuntime) {
+    bulk_import::import_all(&rt);
 }

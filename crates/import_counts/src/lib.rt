@@ -6,8 +6,9 @@
 ghost use Rattle.std.specs.Prelude.{◌<◌, ◌≤◌};
 
 use import_says::{say_kind, say_name};
-use libc::{STDERR_FILENO, STDOUT_FILENO};
-use saying::say;
+use saying::{STANDARD_ERROR, STANDARD_OUTPUT, say};
+use std::env::Env;
+use std::io::IsTerminal;
 
 pub const REFUSED: usize = 3;
 
@@ -57,19 +58,19 @@ pub fn say_became(became: usize) {
 }
 
 // Whether a person sits at a terminal and the lines go elsewhere, so that they do not show how far the import is.
-pub fn is_watched() -> bool {
-    libc::isatty(STDERR_FILENO) == 1 && libc::isatty(STDOUT_FILENO) != 1
+pub fn is_watched(error: &impl IsTerminal, output: &impl IsTerminal) -> bool {
+    error.is_terminal() && !output.is_terminal()
 }
 
 // Shows that person how many files of all are done.
 pub fn show_progress(watched: bool, done: usize, all: usize) {
     if watched {
-        io::write_all(STDERR_FILENO, b"\r");
-        io::print_decimal(STDERR_FILENO, done as u64);
-        io::write_all(STDERR_FILENO, b" of ");
-        io::print_decimal(STDERR_FILENO, all as u64);
+        io::write_all(STANDARD_ERROR, b"\r");
+        io::print_decimal(STANDARD_ERROR, done as u64);
+        io::write_all(STANDARD_ERROR, b" of ");
+        io::print_decimal(STANDARD_ERROR, all as u64);
         if done == all {
-            io::write_all(STDERR_FILENO, b"\n");
+            io::write_all(STANDARD_ERROR, b"\n");
         }
     }
 }
@@ -128,9 +129,9 @@ pub fn keep_done(
 }
 
 // Names a list that has no current sheet or model.
-pub fn name_left(i: usize, model: bool) {
+pub fn name_left(rt: &impl Env, i: usize, model: bool) {
     let mut name = io::buffer();
-    let length = os::arg(i, &mut name);
+    let length = saying::argument(rt, i, &mut name).length;
     say_none(model);
     say_name(&name[..length]);
     say(b"\n");
@@ -149,11 +150,11 @@ pub fn kept_of(count: usize) -> usize
 }
 
 // Names the lists that have no current sheet or model, so that they need not be searched for among many lines.
-pub fn say_left(model: bool, left: &[usize; LEFT_NAMED], count: usize) {
+pub fn say_left(rt: &impl Env, model: bool, left: &[usize; LEFT_NAMED], count: usize) {
     let kept = kept_of(count);
     let mut j = 0;
     while j < kept {
-        name_left(left[j], model);
+        name_left(rt, left[j], model);
         j += 1;
     }
     if kept < count {
@@ -167,7 +168,7 @@ pub fn say_left(model: bool, left: &[usize; LEFT_NAMED], count: usize) {
 // Says one of the counts.
 pub fn say_count(what: &[u8], count: usize) {
     say(what);
-    io::print_decimal(STDOUT_FILENO, count as u64);
+    io::print_decimal(STANDARD_OUTPUT, count as u64);
 }
 
 // Says how many sheets or models there are, and how many of them became what.
@@ -194,5 +195,5 @@ pub fn say_counts(counts: &[usize; COUNTS]) -> bool {
     let unwritten = std::num::wrapping_add_usize(counts[UNWRITTEN], counts[UNMODELLED]);
     say_count(b", not written ", unwritten);
     say_count(b", passed over ", counts[PASSED]);
-    io::write_all(STDOUT_FILENO, b"\n")
+    io::write_all(STANDARD_OUTPUT, b"\n")
 }

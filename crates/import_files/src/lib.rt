@@ -6,34 +6,35 @@
 
 ghost use Rattle.std.specs.Prelude.{◌≤◌, length};
 ghost use Rattle.io.specs.Counts.{IsPrefixLen};
-ghost use Rattle.libc.specs.Io.{Ended};
 ghost use Rattle.import_paths.specs.Room.{name_most, ending_most};
 
 use import_paths::{PATH_ROOM, put_path};
+use saying::errors::{EEXIST, EIO, ENAMETOOLONG, ENOENT};
+use saying::{open_file, path_of, read_full};
+use std::fs;
+use std::fs::{Files, OpenFile, OpenOptions, Permissions};
+use std::io::{self as system, Read, Write};
+use std::os::unix::fs::PermissionsExt;
 
 // How many names are tried for one file.
 pub const NAMES_TRIED: usize = 1000;
 
-// Why the last call failed: some error, even where the system names none.
-pub fn reason() -> i32 {
-    let error = os::errno();
-    if error == 0 {
-        return libc::EIO;
+// Why a call failed: some error, even where the system names none; 0 where it did not fail.
+pub fn reason(done: system::Result<()>) -> i32 {
+    match done {
+        Ok(()) => 0,
+        Err(error) => saying::number_of(error),
     }
-    error
 }
 
 // Whether reading ended where the file did. `read_full` also ends where a read fails, and a folder can be opened and not read.
-pub fn end_error(fd: i32) -> i32 {
+pub fn end_error(file: &mut impl Read) -> i32 {
     let mut more = [0u8; 1];
-    let got = libc::read(fd, &mut more);
-    if got < 0 {
-        return reason();
+    match file.read(&mut more) {
+        Ok(0) => 0,
+        Ok(_) => EIO,
+        Err(error) => saying::number_of(error),
     }
-    if got > 0 {
-        return libc::EIO;
-    }
-    0
 }
 
 // What was read of a file: how many bytes, or why not.
@@ -43,77 +44,102 @@ pub struct Input {
     pub length: usize,
 }
 
-// Reads the file, as much of it as fits.
-pub fn read_file(path: &[u8], text: &mut [u8]) -> Input
+// Reads a file that is open, as much of it as fits.
+pub fn read_open(file: &mut impl Read, text: &mut [u8]) -> Input
     ensures { IsPrefixLen result.length text.new }
 {
-    let fd = os::open_read(path);
-    if fd < 0 {
-        return Input {
-            error: reason(),
-            length: 0,
-        };
-    }
-    let length = io::read_full(fd, text);
+    let length = read_full(file, text);
     let mut error = 0;
     if length < text.len() {
-        error = end_error(fd);
+        error = end_error(file);
     }
-    libc::close(fd);
     Input { error, length }
 }
 
-// Writes a new file's bytes, down to the device, and closes it.
-pub fn fill_file(fd: i32, bytes: &[u8]) -> i32 {
-    let mut error = 0;
-    if !io::write_all(fd, bytes) {
-        error = reason();
-    } else if libc::fsync(fd) < 0 {
-        error = reason();
-    }
-    if libc::close(fd) < 0 {
-        if error == 0 {
-            error = reason();
+// Reads the file, as much of it as fits.
+pub fn read_file(rt: &impl Files, path: &[u8], text: &mut [u8]) -> Input
+    ensures { IsPrefixLen result.length text.new }
+{
+    match open_file(rt, path) {
+        Ok(file) => {
+            let mut file = file;
+            read_open(&mut file, text)
         }
+        Err(error) => Input { error, length: 0 },
     }
-    error
 }
 
-// A file made under a new name: its descriptor and the number of its name, or why not.
-#[derive(Clone, Copy)]
-pub struct Made {
-    pub error: i32,
-    pub fd: i32,
+// Writes a new file's bytes, down to the device, and closes it.
+pub fn fill_file<F: Write + OpenFile + Drop>(file: F, bytes: &[u8]) -> i32 {
+    let mut file = file;
+    let error = reason(file.write_all(bytes));
+    if error != 0 {
+        return error;
+    }
+    reason(file.sync_all())
+}
+
+// A file made under a new name, and the number of its name.
+#[derive(Drop)]
+pub struct Made<F> {
+    pub file: F,
     pub k: usize,
 }
 
-// Makes a file under the first name of FILE.sheet.new, .new2 and so on that is not taken.
-pub fn make_file(name: &[u8], model: bool) -> Made
+// Makes a file under a name that is not taken, or answers why not.
+pub fn create_file<R: Files>(rt: &R, path: &[u8]) -> Result<R::File, i32> {
+    let text = path_of(path)?;
+    match OpenOptions::new()
+        .write(true)
+        .create_new(true)
+        .open(rt, text)
+    {
+        Ok(file) => Ok(file),
+        Err(error) => Err(saying::number_of(error)),
+    }
+}
+
+// Gives a file another name, the place of what had that.
+pub fn rename_file(rt: &impl Files, from: &[u8], to: &[u8]) -> i32 {
+    match path_of(from) {
+        Ok(old) => match path_of(to) {
+            Ok(new) => reason(fs::rename(rt, old, new)),
+            Err(error) => error,
+        },
+        Err(error) => error,
+    }
+}
+
+// Removes a file, as far as the system lets it.
+pub fn remove_file(rt: &impl Files, path: &[u8]) {
+    if let Ok(text) = path_of(path) {
+        let _ = fs::remove_file(rt, text);
+    }
+}
+
+// Makes a file under the first name of FILE.sheet.new, .new2 and so on that is not taken, or answers why not.
+pub fn make_file<R: Files>(rt: &R, name: &[u8], model: bool) -> Result<Made<R::File>, i32>
     requires { length name.now ≤ name_most }
 {
     let mut path = [0u8; PATH_ROOM];
     let mut k = 1;
     while k < NAMES_TRIED {
         let length = put_path(&mut path, name, model, b".new", k);
-        let fd = os::create(&path[..length]);
-        if fd >= 0 {
-            return Made { error: 0, fd, k };
-        }
-        let error = reason();
-        if error != libc::EEXIST {
-            return Made { error, fd, k };
+        match create_file(rt, &path[..length]) {
+            Ok(file) => return Ok(Made { file, k }),
+            Err(error) => {
+                if error != EEXIST {
+                    return Err(error);
+                }
+            }
         }
         k += 1;
     }
-    Made {
-        error: libc::EEXIST,
-        fd: -1,
-        k,
-    }
+    Err(EEXIST)
 }
 
 // Renames a file that was filled to FILE.sheet or FILE.blif. Where it was not filled or that fails, it is removed.
-pub fn settle_file(name: &[u8], model: bool, k: usize, filled: i32) -> i32
+pub fn settle_file(rt: &impl Files, name: &[u8], model: bool, k: usize, filled: i32) -> i32
     requires { length name.now ≤ name_most }
 {
     let mut new = [0u8; PATH_ROOM];
@@ -122,54 +148,56 @@ pub fn settle_file(name: &[u8], model: bool, k: usize, filled: i32) -> i32
     let to = put_path(&mut path, name, model, b"", 1);
     let mut error = filled;
     if error == 0 {
-        if os::rename(&new[..from], &path[..to]) < 0 {
-            error = reason();
-        }
+        error = rename_file(rt, &new[..from], &path[..to]);
     }
     if error != 0 {
-        os::unlink(&new[..from]);
+        remove_file(rt, &new[..from]);
     }
     error
 }
 
 // Writes a sheet beside its list as FILE.sheet, or a model as FILE.blif, with the list's permissions: to a new name first, then renamed.
-pub fn write_beside(name: &[u8], model: bool, bytes: &[u8], mode: u32) -> i32
+pub fn write_beside(rt: &impl Files, name: &[u8], model: bool, bytes: &[u8], mode: u32) -> i32
     requires { length name.now ≤ name_most }
 {
-    let made = make_file(name, model);
-    if made.error != 0 {
-        return made.error;
+    match make_file(rt, name, model) {
+        Ok(made) => {
+            let Made { file, k } = made;
+            // before there is anything in it to read; a file system that has no permissions keeps its own
+            let _ = file.set_permissions(Permissions::from_mode(mode & 0o777));
+            let filled = fill_file(file, bytes);
+            settle_file(rt, name, model, k, filled)
+        }
+        Err(error) => error,
     }
-    // before there is anything in it to read; a file system that has no permissions keeps its own
-    libc::fchmod(made.fd, mode & 0o777);
-    let filled = fill_file(made.fd, bytes);
-    settle_file(name, model, made.k, filled)
 }
 
 // Whether no file has this name, not even a link that leads nowhere. A name that is too long for the folder is no file's.
-pub fn is_free(path: &[u8; PATH_ROOM]) -> bool
-    requires { Ended path.now }
-{
-    let mut link = [0u8; 1];
-    if libc::readlink(path, &mut link) < 0 {
-        let error = os::errno();
-        return error == libc::ENOENT || error == libc::ENAMETOOLONG;
+pub fn is_free(rt: &impl Files, path: &[u8]) -> bool {
+    match path_of(path) {
+        Ok(text) => match fs::symlink_metadata(rt, text) {
+            Ok(_) => false,
+            Err(error) => {
+                let number = saying::number_of(error);
+                number == ENOENT || number == ENAMETOOLONG
+            }
+        },
+        Err(_) => false,
     }
-    false
 }
 
 // Whether something stands beside the list under this ending.
-pub fn is_there(name: &[u8], model: bool, ending: &[u8]) -> bool
+pub fn is_there(rt: &impl Files, name: &[u8], model: bool, ending: &[u8]) -> bool
     requires name_len_bound { length name.now ≤ name_most }
     requires ending_len_bound { length ending.now ≤ ending_most }
 {
     let mut path = [0u8; PATH_ROOM];
-    put_path(&mut path, name, model, ending, 1);
-    !is_free(&path)
+    let length = put_path(&mut path, name, model, ending, 1);
+    !is_free(rt, &path[..length])
 }
 
 // Gives what stands beside the list under one ending another. What stood there is replaced.
-pub fn rename_beside(name: &[u8], model: bool, from: &[u8], to: &[u8]) -> i32
+pub fn rename_beside(rt: &impl Files, name: &[u8], model: bool, from: &[u8], to: &[u8]) -> i32
     requires name_len_bound { length name.now ≤ name_most }
     requires from_len_bound { length from.now ≤ ending_most }
     requires to_len_bound { length to.now ≤ ending_most }
@@ -178,20 +206,17 @@ pub fn rename_beside(name: &[u8], model: bool, from: &[u8], to: &[u8]) -> i32
     let mut new = [0u8; PATH_ROOM];
     let m = put_path(&mut old, name, model, from, 1);
     let n = put_path(&mut new, name, model, to, 1);
-    if os::rename(&old[..m], &new[..n]) < 0 {
-        return reason();
-    }
-    0
+    rename_file(rt, &old[..m], &new[..n])
 }
 
 // Removes what stands beside the list under this ending, as far as the system lets it.
-pub fn remove_beside(name: &[u8], model: bool, ending: &[u8])
+pub fn remove_beside(rt: &impl Files, name: &[u8], model: bool, ending: &[u8])
     requires name_len_bound { length name.now ≤ name_most }
     requires ending_len_bound { length ending.now ≤ ending_most }
 {
     let mut path = [0u8; PATH_ROOM];
     let length = put_path(&mut path, name, model, ending, 1);
-    os::unlink(&path[..length]);
+    remove_file(rt, &path[..length]);
 }
 
 // An older sheet or model set aside: the number of its name now, 0 where there was none, or why it stands where it stood.
@@ -202,24 +227,18 @@ pub struct Aside {
 }
 
 // Gives an older sheet or model the first name of FILE.sheet.old, .old2 and so on that is not taken.
-pub fn rename_older(name: &[u8], model: bool, path: &[u8]) -> Aside
+pub fn rename_older(rt: &impl Files, name: &[u8], model: bool, path: &[u8]) -> Aside
     requires { length name.now ≤ name_most }
 {
     let mut older = [0u8; PATH_ROOM];
     let mut k = 1;
     while k < NAMES_TRIED {
         let length = put_path(&mut older, name, model, b".old", k);
-        if is_free(&older) {
-            let mut error = 0;
-            if os::rename(path, &older[..length]) < 0 {
-                error = reason();
-            }
+        if is_free(rt, &older[..length]) {
+            let error = rename_file(rt, path, &older[..length]);
             return Aside { error, k };
         }
         k += 1;
     }
-    Aside {
-        error: libc::EEXIST,
-        k,
-    }
+    Aside { error: EEXIST, k }
 }

@@ -11,52 +11,53 @@ use file_facts::Facts;
 use import_counts::{Done, UNMODELLED, only};
 use import_sheets::UNCHANGED;
 use saying::say;
+use std::fs::Files;
 
 // Sets an older sheet or model aside, which must not look current, and says what became of it.
-pub fn put_aside(name: &[u8], model: bool)
+pub fn put_aside(rt: &impl Files, name: &[u8], model: bool)
     requires { length name.now ≤ name_most }
 {
-    let aside = import_sheets::set_aside(name, model);
+    let aside = import_sheets::set_aside(rt, name, model);
     import_says::say_aside(name, model, aside.error, aside.k);
 }
 
 // Ends the line of a list that has no current sheet, and so no current model, with what became of an older model: it is set aside where
 // models are asked for, and else is left and told.
-pub fn end_model(name: &[u8], list: Facts, models: bool)
+pub fn end_model(rt: &impl Files, name: &[u8], list: Facts, models: bool)
     requires { length name.now ≤ name_most }
 {
     if !models {
-        import_says::say_older(name, true, list);
-    } else if !import_sheets::is_blocked(name, true, list) {
-        put_aside(name, true);
+        import_says::say_older(rt, name, true, list);
+    } else if !import_sheets::is_blocked(rt, name, true, list) {
+        put_aside(rt, name, true);
     }
     say(b"\n");
 }
 
 // Ends the line of a list whose sheet was refused or can't be written with what became of an older sheet and of an older model.
-pub fn end_older(name: &[u8], list: Facts, models: bool)
+pub fn end_older(rt: &impl Files, name: &[u8], list: Facts, models: bool)
     requires { length name.now ≤ name_most }
 {
-    put_aside(name, false);
-    end_model(name, list, models);
+    put_aside(rt, name, false);
+    end_model(rt, name, list, models);
 }
 
 // Ends the line of a list that can't be read: nothing is known of it, so its sheet and its model get their names back, and may be older
 // than the list.
-pub fn end_unread(name: &[u8], list: Facts, models: bool)
+pub fn end_unread(rt: &impl Files, name: &[u8], list: Facts, models: bool)
     requires { length name.now ≤ name_most }
 {
-    import_sheets::restore_before(name, false, list);
-    import_says::say_older(name, false, list);
+    import_sheets::restore_before(rt, name, false, list);
+    import_says::say_older(rt, name, false, list);
     if models {
-        import_sheets::restore_before(name, true, list);
+        import_sheets::restore_before(rt, name, true, list);
     }
-    import_says::say_older(name, true, list);
+    import_says::say_older(rt, name, true, list);
     say(b"\n");
 }
 
 // Writes the model of a list, whose sheet became what is given.
-pub fn write_model(name: &[u8], list: Facts, text: &[u8], became: usize) -> Done
+pub fn write_model(rt: &impl Files, name: &[u8], list: Facts, text: &[u8], became: usize) -> Done
     requires name_len_bound { length name.now ≤ name_most }
     requires became_bound { became ≤ 2 }
     ensures became_bound_2 { result.became ≤ 7 }
@@ -64,10 +65,10 @@ pub fn write_model(name: &[u8], list: Facts, text: &[u8], became: usize) -> Done
 {
     let mut model = [0u8; MODEL_ROOM];
     let count = printing::print_model(text, &mut model);
-    let put = import_sheets::put_beside(name, true, &model[..count], list.mode);
+    let put = import_sheets::put_beside(rt, name, true, &model[..count], list.mode);
     if put.error != 0 {
         import_says::say_unwritten(name, true, put.error);
-        put_aside(name, true);
+        put_aside(rt, name, true);
         return only(UNMODELLED);
     }
     say(b", model");
@@ -79,32 +80,39 @@ pub fn write_model(name: &[u8], list: Facts, text: &[u8], became: usize) -> Done
 }
 
 // Writes the model that is asked for, unless its place is taken.
-pub fn import_model(name: &[u8], list: Facts, text: &[u8], became: usize) -> Done
+pub fn import_model(rt: &impl Files, name: &[u8], list: Facts, text: &[u8], became: usize) -> Done
     requires name_len_bound { length name.now ≤ name_most }
     requires became_bound { became ≤ 2 }
     ensures became_bound_2 { result.became ≤ 7 }
     ensures model_bound { result.model ≤ 3 }
 {
-    if import_says::say_block(name, true, list) {
+    if import_says::say_block(rt, name, true, list) {
         return only(UNMODELLED);
     }
-    write_model(name, list, text, became)
+    write_model(rt, name, list, text, became)
 }
 
 // Ends the line of a list whose sheet is there, and became what is given. A model that was not asked for is older than a new sheet.
-pub fn end_written(name: &[u8], list: Facts, text: &[u8], became: usize, models: bool) -> Done
+pub fn end_written(
+    rt: &impl Files,
+    name: &[u8],
+    list: Facts,
+    text: &[u8],
+    became: usize,
+    models: bool,
+) -> Done
     requires name_len_bound { length name.now ≤ name_most }
     requires became_bound { became ≤ 2 }
     ensures became_bound_2 { result.became ≤ 7 }
     ensures model_bound { result.model ≤ 3 }
 {
     if models {
-        let done = import_model(name, list, text, became);
+        let done = import_model(rt, name, list, text, became);
         say(b"\n");
         return done;
     }
     if became != UNCHANGED {
-        import_says::say_older(name, true, list);
+        import_says::say_older(rt, name, true, list);
     }
     say(b"\n");
     only(became)

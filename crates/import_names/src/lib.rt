@@ -5,6 +5,7 @@ ghost use Rattle.std.specs.Prelude.{◌≤◌};
 ghost use Rattle.io.specs.Counts.{IsPrefixLen};
 
 use saying::is_same;
+use std::env::Env;
 
 // Whether a name ends in these bytes.
 pub fn ends_in(name: &[u8], ending: &[u8]) -> bool {
@@ -57,15 +58,15 @@ pub fn is_model_name(name: &[u8]) -> bool {
 }
 
 // Whether the program was called for models too: its first argument is --blif, and no list.
-pub fn asks_models() -> bool {
+pub fn asks_models(rt: &impl Env) -> bool {
     let mut word = io::buffer();
-    let length = os::arg(1, &mut word);
-    os::errno() == 0 && is_same(&word[..length], b"--blif")
+    let first = saying::argument(rt, 1, &mut word);
+    first.error == 0 && is_same(&word[..first.length], b"--blif")
 }
 
 // The first argument that names a list.
-pub fn first_list() -> usize
+pub fn first_list(rt: &impl Env) -> usize
     ensures { 1 ≤ result }
 {
-    if asks_models() { 2 } else { 1 }
+    if asks_models(rt) { 2 } else { 1 }
 }

@@ -1,10 +1,10 @@
--- A name that is put, with a 0 after it and in the last place, is a name: libc asks for a 0 in the last of 4,096 places. Assumes nothing.
+-- A name that is put, with a 0 after it and in the last place, is a name that ends within its room of 4,096 places. Assumes nothing.
 use Rattle.std.specs.Prelude.{◌≡◌, List, ℕ, ◌<◌, length, set, take, drop}
 use Rattle.std.proofs.Common.{sym, ap, ◌∙◌, zero-add, le_refl, arith, length-set, take_at, get_or-set_same}
 use Rattle.std.proofs.lemmas.List.{take-set-le}
 use Rattle.std.proofs.Math.Seq.{length-sets}
 use Rattle.io.specs.Counts.{IsPrefixLen}
-use Rattle.libc.specs.Io.{Ended}
+use Rattle.import_paths.specs.Ended.{Ended}
 use Rattle.import_paths.specs.Room.{path_room}
 use Rattle.put_bytes.specs.Puts.{Put, put-over}
 

@@ -5,7 +5,7 @@
 
 ghost use Rattle.std.specs.Prelude.{◌≡◌, ◌+◌, ◌≤◌, length, take};
 ghost use Rattle.io.specs.Counts.{IsPrefixLen};
-ghost use Rattle.libc.specs.Io.{Ended};
+ghost use Rattle.import_paths.specs.Ended.{Ended};
 ghost use Rattle.put_bytes.specs.Puts.{Put};
 ghost use Rattle.import_paths.specs.Path.{kind_of, counted, path_of};
 ghost use Rattle.import_paths.specs.Room.{name_most, ending_most};

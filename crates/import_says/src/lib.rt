@@ -8,7 +8,8 @@ ghost use Rattle.import_paths.specs.Room.{name_most, ending_most};
 use file_facts::Facts;
 use import_paths::PATH_ROOM;
 use import_sheets::{Standing, standing_at};
-use saying::say;
+use saying::{errors, say};
+use std::fs::Files;
 
 // Says a name, as it is shown; of a longer one the first 4,096 bytes.
 pub fn say_name(name: &[u8]) {
@@ -20,22 +21,23 @@ pub fn say_name(name: &[u8]) {
 // The system's words for an error.
 pub fn say_error(error: i32) {
     match error {
-        libc::ENOENT => say(b"No such file or directory"),
-        libc::EACCES => say(b"Permission denied"),
-        libc::EISDIR => say(b"Is a directory"),
-        libc::ENOTDIR => say(b"Not a directory"),
-        libc::EEXIST => say(b"File exists"),
-        libc::ENAMETOOLONG => say(b"File name too long"),
-        libc::ELOOP => say(b"Too many levels of symbolic links"),
-        libc::ENOSPC => say(b"No space left on device"),
-        122 => say(b"Disk quota exceeded"),
-        libc::EFBIG => say(b"File too large"),
-        libc::EIO => say(b"Input/output error"),
-        libc::EROFS => say(b"Read-only file system"),
-        libc::EMFILE => say(b"Too many open files"),
-        libc::EPERM => say(b"Operation not permitted"),
-        libc::EINVAL => say(b"Invalid argument"),
-        libc::ENOMEM => say(b"Cannot allocate memory"),
+        errors::ENOENT => say(b"No such file or directory"),
+        errors::EACCES => say(b"Permission denied"),
+        errors::EISDIR => say(b"Is a directory"),
+        errors::ENOTDIR => say(b"Not a directory"),
+        errors::EEXIST => say(b"File exists"),
+        errors::ENAMETOOLONG => say(b"File name too long"),
+        errors::ELOOP => say(b"Too many levels of symbolic links"),
+        errors::ENOSPC => say(b"No space left on device"),
+        errors::EILSEQ => say(b"Invalid or incomplete multibyte or wide character"),
+        errors::EDQUOT => say(b"Disk quota exceeded"),
+        errors::EFBIG => say(b"File too large"),
+        errors::EIO => say(b"Input/output error"),
+        errors::EROFS => say(b"Read-only file system"),
+        errors::EMFILE => say(b"Too many open files"),
+        errors::EPERM => say(b"Operation not permitted"),
+        errors::EINVAL => say(b"Invalid argument"),
+        errors::ENOMEM => say(b"Cannot allocate memory"),
         _ => say(b"Another error"),
     }
 }
@@ -95,10 +97,10 @@ pub fn say_aside(name: &[u8], model: bool, error: i32, k: usize)
 }
 
 // Says that an older sheet or model has its name, where it has.
-pub fn say_older(name: &[u8], model: bool, list: Facts)
+pub fn say_older(rt: &impl Files, name: &[u8], model: bool, list: Facts)
     requires { length name.now ≤ name_most }
 {
-    if import_sheets::is_older(name, model, list) {
+    if import_sheets::is_older(rt, name, model, list) {
         say(b"; its ");
         say_kind(model);
         say(b" is an older one");
@@ -161,15 +163,15 @@ pub fn say_kept(name: &[u8], model: bool, ending: &[u8], what: Standing)
 }
 
 // Says what keeps a list's sheet or model from being written, where something does.
-pub fn say_block(name: &[u8], model: bool, list: Facts) -> bool
+pub fn say_block(rt: &impl Files, name: &[u8], model: bool, list: Facts) -> bool
     requires { length name.now ≤ name_most }
 {
-    let own = standing_at(name, model, list, b"");
+    let own = standing_at(rt, name, model, list, b"");
     if import_sheets::is_kept(own.kind) {
         say_kept(name, model, b"", own);
         return true;
     }
-    let before = standing_at(name, model, list, b".before");
+    let before = standing_at(rt, name, model, list, b".before");
     if import_sheets::is_kept(before.kind) {
         say_kept(name, model, b".before", before);
         return true;

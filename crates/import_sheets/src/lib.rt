@@ -11,6 +11,7 @@ use block::MODEL_ROOM;
 use file_facts::{Facts, look};
 use import_files::{Aside, is_free, is_there, read_file, rename_beside};
 use import_paths::{PATH_ROOM, put_path};
+use std::fs::Files;
 
 pub const NOTHING: usize = 0;
 
@@ -64,9 +65,9 @@ pub fn is_due_text(model: bool, text: &[u8]) -> bool {
 }
 
 // Whether a file is a sheet or a model, by its first line.
-pub fn read_standing(model: bool, path: &[u8]) -> Standing {
+pub fn read_standing(rt: &impl Files, model: bool, path: &[u8]) -> Standing {
     let mut text = [0u8; 32];
-    let input = read_file(path, &mut text);
+    let input = read_file(rt, path, &mut text);
     if input.error != 0 {
         return Standing {
             kind: UNREADABLE,
@@ -82,19 +83,25 @@ pub fn read_standing(model: bool, path: &[u8]) -> Standing {
 }
 
 // What stands beside a list under this ending. A pipe in its place is not opened, since it would be waited for.
-pub fn standing_at(name: &[u8], model: bool, list: Facts, ending: &[u8]) -> Standing
+pub fn standing_at(
+    rt: &impl Files,
+    name: &[u8],
+    model: bool,
+    list: Facts,
+    ending: &[u8],
+) -> Standing
     requires name_len_bound { length name.now ≤ name_most }
     requires ending_len_bound { length ending.now ≤ ending_most }
 {
     let mut path = [0u8; PATH_ROOM];
     let length = put_path(&mut path, name, model, ending, 1);
-    if is_free(&path) {
+    if is_free(rt, &path[..length]) {
         return Standing {
             kind: NOTHING,
             error: 0,
         };
     }
-    let facts = look(&path);
+    let facts = look(rt, &path[..length]);
     if file_facts::is_one(facts, list) {
         return Standing {
             kind: ITSELF,
@@ -107,7 +114,7 @@ pub fn standing_at(name: &[u8], model: bool, list: Facts, ending: &[u8]) -> Stan
             error: 0,
         };
     }
-    read_standing(model, &path[..length])
+    read_standing(rt, model, &path[..length])
 }
 
 // Whether what stands there is neither overwritten nor renamed.
@@ -116,61 +123,61 @@ pub fn is_kept(kind: usize) -> bool {
 }
 
 // Whether a list's sheet or model can't be touched: what stands under its name, or under the one where an older one waits, is none.
-pub fn is_blocked(name: &[u8], model: bool, list: Facts) -> bool
+pub fn is_blocked(rt: &impl Files, name: &[u8], model: bool, list: Facts) -> bool
     requires { length name.now ≤ name_most }
 {
-    is_kept(standing_at(name, model, list, b"").kind)
-        || is_kept(standing_at(name, model, list, b".before").kind)
+    is_kept(standing_at(rt, name, model, list, b"").kind)
+        || is_kept(standing_at(rt, name, model, list, b".before").kind)
 }
 
 // Whether an older sheet or model has its name.
-pub fn is_older(name: &[u8], model: bool, list: Facts) -> bool
+pub fn is_older(rt: &impl Files, name: &[u8], model: bool, list: Facts) -> bool
     requires { length name.now ≤ name_most }
 {
-    standing_at(name, model, list, b"").kind == AN_OLDER
+    standing_at(rt, name, model, list, b"").kind == AN_OLDER
 }
 
 // Has an older FILE.sheet wait as FILE.sheet.before. A still older one that waits there is replaced.
-pub fn set_before(name: &[u8], model: bool) -> i32
+pub fn set_before(rt: &impl Files, name: &[u8], model: bool) -> i32
     requires { length name.now ≤ name_most }
 {
-    if is_there(name, model, b"") {
-        return rename_beside(name, model, b"", b".before");
+    if is_there(rt, name, model, b"") {
+        return rename_beside(rt, name, model, b"", b".before");
     }
     0
 }
 
 // Gives the older sheet or model of a list of which nothing is known its name back.
-pub fn restore_before(name: &[u8], model: bool, list: Facts)
+pub fn restore_before(rt: &impl Files, name: &[u8], model: bool, list: Facts)
     requires { length name.now ≤ name_most }
 {
-    if !is_blocked(name, model, list) && !is_there(name, model, b"") {
-        rename_beside(name, model, b".before", b"");
+    if !is_blocked(rt, name, model, list) && !is_there(rt, name, model, b"") {
+        rename_beside(rt, name, model, b".before", b"");
     }
 }
 
 // Sets aside the older sheet or model that stands under this ending.
-pub fn set_aside_from(name: &[u8], model: bool, ending: &[u8]) -> Aside
+pub fn set_aside_from(rt: &impl Files, name: &[u8], model: bool, ending: &[u8]) -> Aside
     requires name_len_bound { length name.now ≤ name_most }
     requires ending_len_bound { length ending.now ≤ ending_most }
 {
     let mut path = [0u8; PATH_ROOM];
     let length = put_path(&mut path, name, model, ending, 1);
-    if is_free(&path) {
+    if is_free(rt, &path[..length]) {
         return Aside { error: 0, k: 0 };
     }
-    import_files::rename_older(name, model, &path[..length])
+    import_files::rename_older(rt, name, model, &path[..length])
 }
 
 // Sets an older sheet or model of the list aside, so that it does not look current. It still has its name where the system did not let it
 // wait under the other.
-pub fn set_aside(name: &[u8], model: bool) -> Aside
+pub fn set_aside(rt: &impl Files, name: &[u8], model: bool) -> Aside
     requires { length name.now ≤ name_most }
 {
-    if is_there(name, model, b"") {
-        return set_aside_from(name, model, b"");
+    if is_there(rt, name, model, b"") {
+        return set_aside_from(rt, name, model, b"");
     }
-    set_aside_from(name, model, b".before")
+    set_aside_from(rt, name, model, b".before")
 }
 
 // What a list's sheet or model became beside the one before it: there was none, one of other bytes, or one of the same.
@@ -188,29 +195,29 @@ pub struct Written {
 }
 
 // Whether what stands under this ending has these bytes. A sheet is shorter than the longest model.
-pub fn is_unchanged(name: &[u8], model: bool, ending: &[u8], bytes: &[u8]) -> bool
+pub fn is_unchanged(rt: &impl Files, name: &[u8], model: bool, ending: &[u8], bytes: &[u8]) -> bool
     requires name_len_bound { length name.now ≤ name_most }
     requires ending_len_bound { length ending.now ≤ ending_most }
 {
     let mut path = [0u8; PATH_ROOM];
     let length = put_path(&mut path, name, model, ending, 1);
     let mut older = [0u8; MODEL_ROOM + 1];
-    let input = read_file(&path[..length], &mut older);
+    let input = read_file(rt, &path[..length], &mut older);
     let count = input.length;
     input.error == 0 && saying::is_same(&older[..count], bytes)
 }
 
 // Writes the sheet or model, and removes the one that waited once it is there.
-pub fn replace_older(name: &[u8], model: bool, bytes: &[u8], mode: u32) -> Written
+pub fn replace_older(rt: &impl Files, name: &[u8], model: bool, bytes: &[u8], mode: u32) -> Written
     requires { length name.now ≤ name_most }
     ensures { result.became ≤ 2 }
 {
-    let error = import_files::write_beside(name, model, bytes, mode);
-    if !is_there(name, model, b".before") {
+    let error = import_files::write_beside(rt, name, model, bytes, mode);
+    if !is_there(rt, name, model, b".before") {
         return Written { error, became: NEW };
     }
     if error == 0 {
-        import_files::remove_beside(name, model, b".before");
+        import_files::remove_beside(rt, name, model, b".before");
     }
     Written {
         error,
@@ -219,11 +226,11 @@ pub fn replace_older(name: &[u8], model: bool, bytes: &[u8], mode: u32) -> Writt
 }
 
 // What became of the sheet or model of a list whose older one has its name yet, since the system does not let it be renamed.
-pub fn leave_older(name: &[u8], model: bool, bytes: &[u8], error: i32) -> Written
+pub fn leave_older(rt: &impl Files, name: &[u8], model: bool, bytes: &[u8], error: i32) -> Written
     requires { length name.now ≤ name_most }
     ensures { result.became ≤ 2 }
 {
-    if is_unchanged(name, model, b"", bytes) {
+    if is_unchanged(rt, name, model, b"", bytes) {
         return Written {
             error: 0,
             became: UNCHANGED,
@@ -236,20 +243,20 @@ pub fn leave_older(name: &[u8], model: bool, bytes: &[u8], error: i32) -> Writte
 }
 
 // Puts the sheet or model beside its list. Where the one that waited has the same bytes, it gets its name back and nothing is written.
-pub fn put_beside(name: &[u8], model: bool, bytes: &[u8], mode: u32) -> Written
+pub fn put_beside(rt: &impl Files, name: &[u8], model: bool, bytes: &[u8], mode: u32) -> Written
     requires { length name.now ≤ name_most }
     ensures { result.became ≤ 2 }
 {
-    let kept = set_before(name, model);
+    let kept = set_before(rt, name, model);
     if kept != 0 {
-        return leave_older(name, model, bytes, kept);
+        return leave_older(rt, name, model, bytes, kept);
     }
-    if is_unchanged(name, model, b".before", bytes) {
-        let error = rename_beside(name, model, b".before", b"");
+    if is_unchanged(rt, name, model, b".before", bytes) {
+        let error = rename_beside(rt, name, model, b".before", b"");
         return Written {
             error,
             became: UNCHANGED,
         };
     }
-    replace_older(name, model, bytes, mode)
+    replace_older(rt, name, model, bytes, mode)
 }

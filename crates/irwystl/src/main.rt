@@ -16,8 +16,11 @@ use arguments::{WhyCall, is_given};
 use block::{
     LIST_INPUTS, MODEL_ROOM, ModelAnswer, OUTPUTS, READ_BYTES, SHEET_ROOM, TABLE_INPUTS, TEXT_ROOM,
 };
-use libc::{STDERR_FILENO, STDIN_FILENO, STDOUT_FILENO};
-use saying::{part16, part32, say, say_bits, say_number, say_refused};
+use saying::{
+    STANDARD_ERROR, STANDARD_OUTPUT, part16, part32, say, say_bits, say_number, say_refused,
+};
+use std::env::Env;
+use std::io::{Input, Read};
 
 // The bytes of a model that are read, which are more than any model that is written has, and the patterns that they can hold: a line of one
 // has four bytes.
@@ -25,44 +28,42 @@ const MODEL_BYTES: usize = 262144;
 
 const MODEL_PATTERNS: usize = MODEL_BYTES / 4;
 
-// What was read: how many bytes, and whether a read failed.
+// What was read: how many bytes, and 0, or why a read failed.
 #[derive(Drop)]
-struct Input {
-    failed: bool,
+struct TextRead {
+    error: i32,
     length: usize,
 }
 
-// Reads until the text ends, as much of it as fits. `io::read_full` does not tell an end from a read that failed, and to ask by one read
+// Reads until the text ends, as much of it as fits. `saying::read_full` does not tell an end from a read that failed, and to ask by one read
 // more would have a person at a terminal end the text twice.
-fn read_input(text: &mut [u8]) -> Input
+fn read_input(from: &mut impl Read, text: &mut [u8]) -> TextRead
     ensures { IsPrefixLen result.length text.new }
 {
     let mut done = 0;
     while done < text.len() {
-        let got = libc::read(STDIN_FILENO, &mut text[done..]);
-        if got < 0 {
-            return Input {
-                failed: true,
-                length: done,
-            };
+        match from.read(&mut text[done..]) {
+            Ok(0) => break,
+            Ok(more) => done += more,
+            Err(error) => {
+                return TextRead {
+                    error: saying::number_of(error),
+                    length: done,
+                };
+            }
         }
-        let more = io::count(got, &text[done..]);
-        if more == 0 {
-            break;
-        }
-        done += more;
     }
-    Input {
-        failed: false,
+    TextRead {
+        error: 0,
         length: done,
     }
 }
 
 // Writes what is printed.
 fn print_bytes(bytes: &[u8]) {
-    if !io::write_all(STDOUT_FILENO, bytes) {
+    if !io::write_all(STANDARD_OUTPUT, bytes) {
         io::write_all(
-            STDERR_FILENO,
+            STANDARD_ERROR,
             b"irwystl: standard output did not take all that was printed\n",
         );
     }
@@ -122,11 +123,11 @@ fn print_due(due: Due, text: &[u8]) {
 }
 
 // Prints what is due of the list on standard input.
-fn answer_list(due: Due) {
+fn answer_list(rt: &impl Input, due: Due) {
     let mut text = [0u8; READ_BYTES];
-    let input = read_input(&mut text);
-    if input.failed {
-        os::fail(b"irwystl: standard input can't be read");
+    let input = read_input(&mut rt.reader(), &mut text);
+    if input.error != 0 {
+        saying::fail(b"irwystl: standard input can't be read", input.error);
         return;
     }
     let length = input.length;
@@ -157,11 +158,11 @@ struct Point {
 }
 
 // The point that the second argument names.
-fn asked_point() -> Point {
-    if os::arg_count() < 3 {
+fn asked_point(rt: &impl Env) -> Point {
+    if saying::argument_count(rt) < 3 {
         return Point { kind: 0, x: 0 };
     }
-    let asked = arguments::number_at(2);
+    let asked = arguments::number_at(rt, 2);
     if !asked.known {
         return Point { kind: 2, x: 0 };
     }
@@ -212,22 +213,22 @@ fn answer_text(text: &[u8], point: Point) {
 }
 
 // Answers the model on standard input. One that is longer than what is read is not known, and so not answered.
-fn answer_model() {
-    let point = asked_point();
+fn answer_model(rt: &(impl Env + Input)) {
+    let point = asked_point(rt);
     if point.kind == 2 {
-        io::write_all(STDERR_FILENO, b"irwystl: the point is no decimal number\n");
+        io::write_all(STANDARD_ERROR, b"irwystl: the point is no decimal number\n");
         return;
     }
     let mut text = [0u8; MODEL_BYTES];
-    let input = read_input(&mut text);
-    if input.failed {
-        os::fail(b"irwystl: standard input can't be read");
+    let input = read_input(&mut rt.reader(), &mut text);
+    if input.error != 0 {
+        saying::fail(b"irwystl: standard input can't be read", input.error);
         return;
     }
     let length = input.length;
     if length == MODEL_BYTES {
         io::write_all(
-            STDERR_FILENO,
+            STANDARD_ERROR,
             b"irwystl: the model has 262,144 bytes or more, and is not read\n",
         );
         return;
@@ -236,12 +237,12 @@ fn answer_model() {
 }
 
 // Says the symmetric block of the words that were given.
-fn answer_words() {
+fn answer_words(rt: &impl Env) {
     let mut words = [0u16; TABLE_INPUTS + 1];
-    let call = arguments::symmetric_call(&mut words);
+    let call = arguments::symmetric_call(rt, &mut words);
     if !call.known {
         io::write_all(
-            STDERR_FILENO,
+            STANDARD_ERROR,
             b"irwystl: --symmetric takes fr or fd or neither, the number of outputs, and a word for each count: decimal numbers, or - for no output\n",
         );
         return;
@@ -255,64 +256,69 @@ fn answer_words() {
 }
 
 // Answers --symmetric, of the words that were given, or of the list on standard input where none were.
-fn answer_symmetric() {
-    if os::arg_count() < 3 {
-        answer_list(Due::Symmetry);
+fn answer_symmetric(rt: &(impl Env + Input)) {
+    if saying::argument_count(rt) < 3 {
+        answer_list(rt, Due::Symmetry);
         return;
     }
-    answer_words();
+    answer_words(rt);
 }
 
 // Answers --why, of the list on standard input.
-fn answer_why() {
-    let call = arguments::why_call();
+fn answer_why(rt: &(impl Env + Input)) {
+    let call = arguments::why_call(rt);
     if !call.known {
         io::write_all(
-            STDERR_FILENO,
+            STANDARD_ERROR,
             b"irwystl: --why takes a number and may take a weight limit, decimal numbers both\n",
         );
         return;
     }
-    answer_list(Due::Why(call));
+    answer_list(rt, Due::Why(call));
 }
 
 // Answers an option of a list, or of words.
-fn answer_option() {
-    if is_given(1, b"--blif") {
-        answer_list(Due::Model);
+fn answer_option(rt: &(impl Env + Input)) {
+    if is_given(rt, 1, b"--blif") {
+        answer_list(rt, Due::Model);
         return;
     }
-    if is_given(1, b"--join") {
-        answer_list(Due::Joined);
+    if is_given(rt, 1, b"--join") {
+        answer_list(rt, Due::Joined);
         return;
     }
-    if is_given(1, b"--disjoint") {
-        answer_list(Due::Disjoint);
+    if is_given(rt, 1, b"--disjoint") {
+        answer_list(rt, Due::Disjoint);
         return;
     }
-    if is_given(1, b"--shifts") {
-        answer_list(Due::Shifts);
+    if is_given(rt, 1, b"--shifts") {
+        answer_list(rt, Due::Shifts);
         return;
     }
-    if is_given(1, b"--symmetric") {
-        answer_symmetric();
+    if is_given(rt, 1, b"--symmetric") {
+        answer_symmetric(rt);
         return;
     }
-    if is_given(1, b"--why") {
-        answer_why();
+    if is_given(rt, 1, b"--why") {
+        answer_why(rt);
         return;
     }
-    io::write_all(STDERR_FILENO, b"irwystl: there is no such option\n");
+    io::write_all(STANDARD_ERROR, b"irwystl: there is no such option\n");
 }
 
-fn main() {
-    if os::arg_count() < 2 {
-        answer_list(Due::Sheet);
+// Answers what the arguments ask.
+fn answer(rt: &(impl Env + Input)) {
+    if saying::argument_count(rt) < 2 {
+        answer_list(rt, Due::Sheet);
         return;
     }
-    if is_given(1, b"--model") {
-        answer_model();
+    if is_given(rt, 1, b"--model") {
+        answer_model(rt);
         return;
     }
-    answer_option();
+    answer_option(rt);
+}
+
+fn main(rt: HostRuntime) {
+    answer(&rt);
 }

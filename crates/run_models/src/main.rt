@@ -7,8 +7,9 @@ ghost use Rattle.std.specs.Prelude.{◌≡◌, ◌≤◌, length};
 ghost use Rattle.block.specs.Limits.{model_room};
 
 use block::{LIST_INPUTS, MODEL_ROOM, OUTPUTS};
-use libc::STDOUT_FILENO;
-use saying::{is_same, read_argument, say, say_argument};
+use saying::{STANDARD_OUTPUT, is_same, read_argument, say, say_argument};
+use std::env::Env;
+use std::fs::Files;
 
 // The bytes of a text, and room for its patterns.
 const TEXT_BYTES: usize = 65536;
@@ -42,48 +43,48 @@ fn is_refused(text: &[u8], due: &[u8]) -> bool {
 }
 
 // Whether argument i names a list.
-fn is_list(i: usize) -> bool {
+fn is_list(rt: &impl Env, i: usize) -> bool {
     let mut name = io::buffer();
-    let length = os::arg(i, &mut name);
+    let length = saying::argument(rt, i, &mut name).length;
     import_names::ends_in(&name[..length], b".list")
 }
 
 // Whether the list or text of argument i is answered as argument j has it.
-fn is_right(i: usize, j: usize) -> bool {
+fn is_right(rt: &(impl Env + Files), i: usize, j: usize) -> bool {
     let mut text = [0u8; TEXT_BYTES];
-    let length = read_argument(i, &mut text);
+    let length = read_argument(rt, i, &mut text);
     let mut due = [0u8; MODEL_ROOM];
-    let size = read_argument(j, &mut due);
-    if is_list(i) {
+    let size = read_argument(rt, j, &mut due);
+    if is_list(rt, i) {
         return is_printed(&text[..length], &due[..size]);
     }
     is_refused(&text[..length], &due[..size])
 }
 
 // The same as 1 or 0; one that is not is named.
-fn compare(i: usize, j: usize) -> usize
+fn compare(rt: &(impl Env + Files), i: usize, j: usize) -> usize
     ensures { result ≤ 1 }
 {
-    if is_right(i, j) {
+    if is_right(rt, i, j) {
         return 1;
     }
-    say_argument(i);
+    say_argument(rt, i);
     say(b" is answered otherwise\n");
     0
 }
 
-fn compare_all() -> usize {
-    let pairs = os::arg_count() / 2;
+fn compare_all(rt: &(impl Env + Files)) -> usize {
+    let pairs = saying::argument_count(rt) / 2;
     let mut equal = 0;
     let mut i = 0;
     while i < pairs {
-        equal += compare(2 * i + 1, 2 * i + 2);
+        equal += compare(rt, 2 * i + 1, 2 * i + 2);
         i += 1;
     }
     equal
 }
 
-fn main() {
-    io::print_decimal(STDOUT_FILENO, compare_all() as u64);
+fn main(rt: HostRuntime) {
+    io::print_decimal(STANDARD_OUTPUT, compare_all(&rt) as u64);
     say(b" lists and texts are answered as is due\n");
 }

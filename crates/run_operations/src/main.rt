@@ -14,8 +14,9 @@ use case_lines::{
     put_number, put_rows, put_table, read_given, read_numbers, read_rooms, read_sizes, read_word,
     result_size,
 };
-use libc::STDOUT_FILENO;
-use saying::{is_same, part16, part32, room_signed, room16, room32, say};
+use saying::{STANDARD_OUTPUT, is_same, part16, part32, room_signed, room16, room32, say};
+use std::env::Env;
+use std::fs::Files;
 
 // 2^n, for the n of a table.
 fn points(n: usize) -> usize {
@@ -493,17 +494,17 @@ fn compare_all(text: &[u8]) -> usize
 }
 
 // The cases of the file that argument i names.
-fn run_file(i: usize) {
+fn run_file(rt: &(impl Env + Files), i: usize) {
     let mut text = io::large_buffer();
-    let count = saying::read_argument(i, &mut text);
-    io::print_decimal(STDOUT_FILENO, compare_all(&text[..count]) as u64);
+    let count = saying::read_argument(rt, i, &mut text);
+    io::print_decimal(STANDARD_OUTPUT, compare_all(&text[..count]) as u64);
     say(b" cases of ");
-    saying::say_argument(i);
+    saying::say_argument(rt, i);
     say(b" have the answers due\n");
 }
 
-fn main() {
-    for i in 1..os::arg_count() {
-        run_file(i);
+fn main(rt: HostRuntime) {
+    for i in 1..saying::argument_count(&rt) {
+        run_file(&rt, i);
     }
 }

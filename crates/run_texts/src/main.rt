@@ -6,14 +6,15 @@
 ghost use Rattle.std.specs.Prelude.{◌≤◌};
 
 use block::{READ_BYTES, SHEET_ROOM};
-use libc::STDOUT_FILENO;
-use saying::{read_argument, say, say_argument};
+use saying::{STANDARD_OUTPUT, read_argument, say, say_argument};
+use std::env::Env;
+use std::fs::Files;
 
 // What is printed for the first bytes of a text.
 fn say_cut(text: &[u8], length: usize) {
     let mut out = [0u8; SHEET_ROOM];
     let count = printing::print_text(read_bytes::first_bytes(text, length), &mut out);
-    io::print_decimal(STDOUT_FILENO, length as u64);
+    io::print_decimal(STANDARD_OUTPUT, length as u64);
     say(b" ");
     say(&out[..count]);
 }
@@ -25,41 +26,41 @@ fn say_cuts(text: &[u8]) {
 }
 
 // Says which text is printed otherwise than its sheet has it.
-fn say_differs(i: usize) {
-    say_argument(i);
+fn say_differs(rt: &impl Env, i: usize) {
+    say_argument(rt, i);
     say(b" is printed otherwise\n");
 }
 
 // Whether what is printed for the text of argument i is the sheet of argument j: 1 or 0.
-fn compare(i: usize, j: usize) -> usize
+fn compare(rt: &(impl Env + Files), i: usize, j: usize) -> usize
     ensures { result ≤ 1 }
 {
     let mut text = [0u8; 2 * READ_BYTES];
-    let length = read_argument(i, &mut text);
+    let length = read_argument(rt, i, &mut text);
     let mut due = [0u8; SHEET_ROOM + 1];
-    let size = read_argument(j, &mut due);
+    let size = read_argument(rt, j, &mut due);
     let mut out = [0u8; SHEET_ROOM];
     let count = printing::print_text(&text[..length], &mut out);
     if saying::is_same(&out[..count], &due[..size]) {
         return 1;
     }
-    say_differs(i);
+    say_differs(rt, i);
     0
 }
 
-fn compare_all() -> usize {
-    let pairs = os::arg_count() / 2;
+fn compare_all(rt: &(impl Env + Files)) -> usize {
+    let pairs = saying::argument_count(rt) / 2;
     let mut equal = 0;
     let mut i = 0;
     while i < pairs {
-        equal += compare(2 * i + 1, 2 * i + 2);
+        equal += compare(rt, 2 * i + 1, 2 * i + 2);
         i += 1;
     }
     equal
 }
 
-fn main() {
+fn main(rt: HostRuntime) {
     say_cuts(b".i 3\n.o 2\n.p 4\n00- 01\n11- 01\n01- 10\n10- 10\n.e\n");
-    io::print_decimal(STDOUT_FILENO, compare_all() as u64);
+    io::print_decimal(STANDARD_OUTPUT, compare_all(&rt) as u64);
     say(b" texts are printed as their sheets have them\n");
 }

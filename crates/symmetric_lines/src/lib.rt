@@ -7,8 +7,7 @@ ghost use Rattle.std.specs.Prelude.{◌≤◌};
 ghost use Rattle.block.specs.Limits.{table_inputs};
 
 use block::{FR, TABLE_INPUTS, TABLE_POINTS, TableMethodAnswer};
-use libc::STDOUT_FILENO;
-use saying::{part16, say, say_bits, say_number, say_refused};
+use saying::{STANDARD_OUTPUT, part16, say, say_bits, say_number, say_refused};
 
 // The entry of a point without an output.
 const NO_OUTPUT: u16 = 65535;
@@ -24,7 +23,7 @@ fn say_section(name: &[u8], count: usize) {
 
 // Says a number on a line of its own.
 fn say_number_line(x: u64) {
-    io::print_decimal(STDOUT_FILENO, x);
+    io::print_decimal(STANDARD_OUTPUT, x);
     say(b"\n");
 }
 
