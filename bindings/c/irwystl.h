@@ -1,7 +1,7 @@
 /*
  * Irwystl from C: the sheet of a logic block, its model in BLIF, and every operation behind them.
  *
- * Link target/staticlib/libexports.a, which `rt staticlib exports` makes for x86-64; it asks for nothing but memcpy and memset. The
+ * Link target/staticlib/libexports.a, which outside/programs makes for x86-64; it asks for nothing but memcpy and memset. The
  * shortest uses are irwystl_print_text, irwystl_print_model, irwystl_print_joined and irwystl_print_disjoint, at the end: row text in, and
  * out its sheet, its model, or row text with its rows joined or made disjoint.
  *

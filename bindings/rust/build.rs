@@ -1,4 +1,4 @@
-//! Where the static library is: IRWYSTL_LIB_DIR, the folder that `rt staticlib exports` writes to.
+//! Where the static library is: IRWYSTL_LIB_DIR, the folder target/staticlib that outside/programs fills.
 
 use std::env;
 

@@ -287,6 +287,8 @@ class Function:
             if kind[0] == "clauses":
                 if fields:
                     fields = clause(fields, kind[2]) or fields
+                else:
+                    return ("term", "(" + ", ".join(f"{name}.{n}" for n in kind[2]) + ")")
                 return ("term", ".".join([name] + fields))
             return None
 
@@ -323,6 +325,9 @@ class Function:
                         out.append(m[0])
                     elif got[0] == "place":
                         out.append(root)
+                    elif got[0] == "clauses":
+                        # all of them at once were pairs
+                        out.append("(" + ", ".join(f"{got[1]}.{n}" for n in got[2]) + ")")
                     else:
                         out.append(got[1])
                 else:

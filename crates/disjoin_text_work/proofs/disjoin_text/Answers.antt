@@ -46,11 +46,9 @@ slice_bounds-disjoin_list-end-in-Accepted-2 c =
 pub returns-in-Refused : goal.returns-in-Refused
 returns-in-Refused c =
     let a = c.args in
-    let whole =
-    rw c.kind_number.ensures
-    (text-refused a.input.now _ _ c.first_bytes-text.ensures c.read_text-reading.ensures.answer _ a.out.now
-    c.in-Refused.is) in
-    record { value = whole.0; out_after = whole.1 }
+    let whole = text-refused a.input.now _ _ c.first_bytes-text.ensures c.read_text-reading.ensures.answer _ a.out.now
+    c.in-Refused.is in
+    record { value = rw c.kind_number.ensures whole.0; out_after = whole.1 }
 
 pub returns-in-Accepted : goal.returns-in-Accepted
 returns-in-Accepted c =
@@ -58,5 +56,5 @@ returns-in-Accepted c =
     let whole =
     text-accepted c.args.input.now _ _ c.first_bytes-text.ensures r.answer _ c.in-Accepted.is
     _ _ _ _ _ _ r.rows.masks r.rows.values r.rows.words
-    c.args.out.now _ _ c.disjoin_list.ensures in
+    c.args.out.now _ _ (c.disjoin_list.ensures.result_value, c.disjoin_list.ensures.out_after) in
     record { value = whole.0; out_after = whole.1 }
