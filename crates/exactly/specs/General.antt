@@ -80,6 +80,8 @@ number_of e = ap (λ (a : Answer). a.number) e
 pub refused-only : (cs : List Check) (rs : List Reason) → Decided cs rs → (m a b : ℕ) → (m ≡ 0 → ⊥) → verdict cs ≡ answer m a b
     → (i : ℕ) × Earliest rs i m a b
 refused-only [] [] done m a b h e = absurd (h (sym (number_of e) ∙ number_of verdict-none))
+refused-only [] (r ∷ rs) x m a b h e = elim x [ ]
+refused-only (c ∷ cs) [] x m a b h e = elim x [ ]
 refused-only (c ∷ cs) (r ∷ rs) (d also ds) m a b h e = go (λ f. refused-only cs rs ds m a b h f) c.holds refl
   where
     here : answer c.number c.a c.b ≡ answer m a b → r.when c.a c.b → Earliest (r ∷ rs) 0 m a b
@@ -101,6 +103,8 @@ refused-only (c ∷ cs) (r ∷ rs) (d also ds) m a b h e = go (λ f. refused-onl
 
 pub refused-when : (cs : List Check) (rs : List Reason) → Decided cs rs → (i m a b : ℕ) → Earliest rs i m a b → verdict cs ≡ answer m a b
 refused-when [] [] done i m a b f = absurd f.holds
+refused-when [] (r ∷ rs) x i m a b f = elim x [ ]
+refused-when (c ∷ cs) [] x i m a b f = elim x [ ]
 refused-when (c ∷ cs) (r ∷ rs) (d also ds) zero m a b f =
     let w = d.only a b f.holds in
     verdict-hit c cs w.0 ∙ rw (d.same, f.number, w.1, w.2)
@@ -110,6 +114,8 @@ refused-when (c ∷ cs) (r ∷ rs) (d also ds) (suc i) m a b f =
 
 pub answered-only : (cs : List Check) (rs : List Reason) → Decided cs rs → (verdict cs).number ≡ 0 → (i : ℕ) → Never (reason_at rs i)
 answered-only [] [] done e i = λ a b w. w
+answered-only [] (r ∷ rs) x e i = elim x [ ]
+answered-only (c ∷ cs) [] x e i = elim x [ ]
 answered-only (c ∷ cs) (r ∷ rs) (d also ds) e i = go (answered-only cs rs ds) c.holds refl i
   where
     go : ((verdict cs).number ≡ 0 → (i : ℕ) → Never (reason_at rs i)) → (p : Bool) → c.holds ≡ p → (i : ℕ) → Never (reason_at (r ∷ rs) i)
@@ -119,6 +125,8 @@ answered-only (c ∷ cs) (r ∷ rs) (d also ds) e i = go (answered-only cs rs ds
 
 pub answered-when : (cs : List Check) (rs : List Reason) → Decided cs rs → ((i : ℕ) → Never (reason_at rs i)) → verdict cs ≡ answer 0 0 0
 answered-when [] [] done w = verdict-none
+answered-when [] (r ∷ rs) x w = elim x [ ]
+answered-when (c ∷ cs) [] x w = elim x [ ]
 answered-when (c ∷ cs) (r ∷ rs) (d also ds) w = verdict-miss c cs (passed c r d (w 0)) ∙ answered-when cs rs ds (λ i. w (suc i))
 
 pub decided-exactly : (cs : List Check) (rs : List Reason) → Decided cs rs → Exactly rs (verdict cs)

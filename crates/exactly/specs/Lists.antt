@@ -5,7 +5,7 @@ use Rattle.std.proofs.Common.{arith}
 use Rattle.block.specs.Limits.{list_inputs, table_inputs, given_rows, smaller_rows, sheet_room}
 use Rattle.block.specs.Words.{missing}
 use Rattle.block.specs.Refusals.{Check, verdict, row_at}
-use Rattle.block.specs.Lists.{row_checks, row_value_verdict, method_checks, row_method_verdict, fill_verdict}
+use Rattle.block.specs.Lists.{row_checks, passing_check, row_value_verdict, method_checks, row_method_verdict, fill_verdict}
 use Rattle.block.specs.Sheet.{sheet_verdict}
 use Rattle.block.specs.declared.Row.{Row}
 use Rattle.exactly.specs.General.{Reason, placed, plain, Decided, done, ◌also◌, Exactly, decided-exactly}
@@ -61,7 +61,7 @@ row-value-exactly n k y t rs =
     (typed-decided list_inputs n k y
     (plain-decided 3 (λ e. omega arith) (ge-says t (2 ^ n))
     also range-decided 4 1 given_rows (length rs) (λ e. omega arith)
-    also rows-decided n k rs done))
+    also bad-row-decided n k rs also pair-decided n rs also undriven-decided k rs also done))
 
 -- ---- the row method and the sheet, which differ in the room: `Short` says that it is too short
 
@@ -75,26 +75,31 @@ method_reasons n k y w rs Short =
     (placed 9 (λ a b. FirstPassing (missing y) n w rs a × (b ≡ 0))
     ∷ []))
 
+-- what is asked of the rows is decided by those who cite this
 method-exactly : (n k y w : ℕ) (rs : List Row) (short : Bool) (Short : Type 0) → Says short Short
+    → Decided (row_checks n k rs ++ (passing_check (missing y) n w rs ∷ [])) (row_reasons n k rs (placed 9 (λ a b. FirstPassing (missing y) n w rs a × (b ≡ 0)) ∷ []))
     → Exactly (method_reasons n k y w rs Short) (verdict (method_checks n k y w rs short))
 unfolding method_reasons method_checks
-method-exactly n k y w rs short Short s =
+method-exactly n k y w rs short Short s d =
     decided-exactly _ _
     (typed-decided list_inputs n k y
     (range-decided 3 1 n w (λ e. omega arith)
     also range-decided 4 1 given_rows (length rs) (λ e. omega arith)
     also plain-decided 5 (λ e. omega arith) s
-    also rows-decided n k rs (passing-decided (missing y) n w rs also done)))
+    also d))
 
 pub row-method-exactly : (n k y w : ℕ) (rs : List Row) (roomT roomSigma roomRows : ℕ)
     → Exactly (method_reasons n k y w rs ((roomT < n) ⊎ ((roomSigma < n) ⊎ (roomRows < smaller_rows)))) (row_method_verdict n k y w rs roomT roomSigma roomRows)
 unfolding row_method_verdict
 row-method-exactly n k y w rs roomT roomSigma roomRows =
     method-exactly n k y w rs _ _ (or-says (lt-says roomT n) (or-says (lt-says roomSigma n) (lt-says roomRows smaller_rows)))
+    (bad-row-decided n k rs also pair-decided n rs also undriven-decided k rs also passing-decided (missing y) n w rs also done)
 
 pub sheet-exactly : (n k y w : ℕ) (rs : List Row) (room : ℕ) → Exactly (method_reasons n k y w rs (room < sheet_room)) (sheet_verdict n k y w rs room)
 unfolding sheet_verdict
-sheet-exactly n k y w rs room = method-exactly n k y w rs _ _ (lt-says room sheet_room)
+sheet-exactly n k y w rs room =
+    method-exactly n k y w rs _ _ (lt-says room sheet_room)
+    (bad-row-decided n k rs also pair-decided n rs also undriven-decided k rs also passing-decided (missing y) n w rs also done)
 
 -- ---- filling a table
 
@@ -112,4 +117,4 @@ fill-exactly n k y rs room =
     (typed-decided table_inputs n k y
     (range-decided 4 1 smaller_rows (length rs) (λ e. omega arith)
     also plain-decided 5 (λ e. omega arith) (lt-says room (2 ^ n))
-    also rows-decided n k rs done))
+    also bad-row-decided n k rs also pair-decided n rs also undriven-decided k rs also done))

@@ -36,29 +36,8 @@ use Rattle.refusal_laws.specs.Verdicts.{verdict-parts}
 use Rattle.model_laws.specs.Endings.{good-within}
 use Rattle.model_theorems.specs.Refused.{begins, begins-none}
 use Rattle.exactly.specs.General.{Reason, placed, plain, Decides, done, ◌also◌, Exactly, decided-exactly}
-use Rattle.exactly.specs.Conditions.{
-  Says,
-  lt-says,
-  ge-says,
-  ne-says,
-  or-says,
-  plain-decided,
-  OutOfRange,
-  range-decided,
-  typed_reasons,
-  typed-decided,
-  Least,
-  mask-says,
-  least-decided,
-  MalformedNumber,
-  number-says,
-  malformed-decided,
-  FirstPassing,
-  passing-decided,
-  XorOfEarlier,
-  dependent-decided,
-}
-use Rattle.exactly.specs.Lists.{row_reasons, rows-decided}
+use Rattle.exactly.specs.Conditions.{Says, lt-says, ge-says, ne-says, or-says, plain-decided, OutOfRange, range-decided, typed_reasons, typed-decided, Least, mask-says, least-decided, MalformedNumber, number-says, malformed-decided, FirstPassing, passing-decided, XorOfEarlier, dependent-decided, bad-row-decided, pair-decided, undriven-decided}
+use Rattle.exactly.specs.Lists.{row_reasons}
 
 -- ---- writing: the row method's reasons, and then room below this model's length
 
@@ -106,10 +85,10 @@ write-model-exactly n k y w rs room =
     (typed-decided list_inputs n k y
     (range-decided 3 1 n w (λ e. omega arith)
     also range-decided 4 1 given_rows (length rs) (λ e. omega arith)
-    also rows-decided n k rs
-    (passing-decided (missing y) n w rs
+    also bad-row-decided n k rs also pair-decided n rs also undriven-decided k rs
+    also passing-decided (missing y) n w rs
     also plain-decided 5 (λ e. omega arith) (lt-says room (length (model_text (missing y) n k w rs)))
-    also done))))
+    also done)))
 
 -- ---- reading: 10 at the first line outside the subset, over the whole text; then 5, and then 8
 

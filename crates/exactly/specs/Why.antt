@@ -7,8 +7,8 @@ use Rattle.block.specs.Limits.{list_inputs, given_rows}
 use Rattle.block.specs.Reasons.{why_verdict}
 use Rattle.block.specs.declared.Row.{Row}
 use Rattle.exactly.specs.General.{Reason, plain, done, ◌also◌, Exactly, decided-exactly}
-use Rattle.exactly.specs.Conditions.{ge-says, plain-decided, OutOfRange, range-decided, typed_reasons, typed-decided}
-use Rattle.exactly.specs.Lists.{row_reasons, rows-decided}
+use Rattle.exactly.specs.Conditions.{ge-says, plain-decided, OutOfRange, range-decided, typed_reasons, typed-decided, bad-row-decided, pair-decided, undriven-decided}
+use Rattle.exactly.specs.Lists.{row_reasons}
 
 unfoldable pub why_lines : ℕ → ℕ → ℕ → ℕ → ℕ → List Row → List Reason
 why_lines n k y w t rs =
@@ -26,4 +26,4 @@ why-exactly n k y w t rs =
     (range-decided 3 1 n w (λ e. omega arith)
     also plain-decided 3 (λ e. omega arith) (ge-says t (2 ^ n))
     also range-decided 4 1 given_rows (length rs) (λ e. omega arith)
-    also rows-decided n k rs done))
+    also bad-row-decided n k rs also pair-decided n rs also undriven-decided k rs also done))

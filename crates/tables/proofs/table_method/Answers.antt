@@ -14,36 +14,29 @@ use Rattle.table_words.specs.Matching.{hole}
 use Rattle.table_shifts.specs.Blocks.{good-unmarked}
 use Rattle.table_checks.specs.Passed.{method-passed, method-sizes, method-entries}
 use Rattle.refusal_laws.specs.Verdicts.{measures-refused, measures-answered, kept, given}
-use borrow.Author.Rules.{rules}
-use Rattle.tables.proofs.table_method.Statement.{statement}
-use Rattle.tables.proofs.table_method.Tie as tie
+use Rattle.tables.proofs.table_method.Goals as goal
 
-table-method-verdict-requires : tie.Need-table-method-verdict-requires
-table-method-verdict-requires c κs = search rules
-
-returns : tie.Need-returns
+pub returns-then-v-ne0 : goal.returns-then-v-ne0
 unfolding table_method
-returns c =
-    let checked = c.before.before in
-    let a = checked.before.before.before.before.before.args in
+returns-then-v-ne0 c =
+    let a = c.args in
     let f = of_table a.table.now in
-    let v = checked.table-method-verdict.result in
-    let e = checked.table-method-verdict.ensures in
+    let v = c.table_method_verdict-v.result in
+    let e = c.table_method_verdict-v.ensures in
     let x = measure f a.n in
     let y = measure (smaller_of f a.n a.w) a.n in
     record {
-      answer = measures-refused v x y c.if1.true ∙ ap (λ (v : Answer). with_measures v x y) e;
-      basis = kept v _ (basis_of f a.n a.w) a.basis.now e c.if1.true;
-      sigma = kept v _ (sigma_of f a.n a.w) a.sigma.now e c.if1.true;
-      smaller = kept v _ (smaller_table f a.n a.w) a.smaller.now e c.if1.true;
+      answer = measures-refused v x y c.if-v-ne0.true ∙ ap (λ (v : Answer). with_measures v x y) e;
+      basis = kept v _ (basis_of f a.n a.w) a.basis.now e c.if-v-ne0.true;
+      sigma = kept v _ (sigma_of f a.n a.w) a.sigma.now e c.if-v-ne0.true;
+      smaller = kept v _ (smaller_table f a.n a.w) a.smaller.now e c.if-v-ne0.true;
     }
 
-linearize-requires : tie.Need-linearize-requires
-linearize-requires c κs =
-    let checked = c.before.before.before.before.before in
-    let a = checked.before.before.before.before.before.args in
-    let e = checked.table-method-verdict.ensures in
-    let l = c.before.before.before.if1.false in
+pub linearize-measures-requires : goal.linearize-measures-requires
+linearize-measures-requires c =
+    let a = c.args in
+    let e = c.table_method_verdict-v.ensures in
+    let l = c.if-v-ne0.false in
     let b = length a.basis.now in
     let s = length a.sigma.now in
     let m = length a.smaller.now in
@@ -60,29 +53,17 @@ linearize-requires c κs =
       λ i h. good-unmarked _ a.k _ (either-word (λ m. m ≡ hole → ⊥) (λ e. omega arith) (λ e. omega arith) a.block_type) (inside 1 outputs a.k sizes.1).1 (good i (omega (arith, p.entries))),
     )
 
-same_length : tie.Need-same-length
-same_length c = search rules
-
-same-length-2 : tie.Need-same-length-2
-same-length-2 c = search rules
-
-same-length-3 : tie.Need-same-length-3
-same-length-3 c = search rules
-
-returns-2 : tie.Need-returns-2
+pub returns : goal.returns
 unfolding table_method
-returns-2 c =
-    let worked = c.before.before.before.before.before.before in
-    let passed = worked.before.before.before.before in
-    let checked = passed.before.before in
-    let a = checked.before.before.before.before.before.args in
+returns c =
+    let a = c.args in
     let f = of_table a.table.now in
-    let v = checked.table-method-verdict.result in
-    let e = checked.table-method-verdict.ensures in
-    let l = passed.if1.false in
+    let v = c.table_method_verdict-v.result in
+    let e = c.table_method_verdict-v.ensures in
+    let l = c.if-v-ne0.false in
     let x = measure f a.n in
     let y = measure (smaller_of f a.n a.w) a.n in
-    let done = worked.linearize.ensures in
+    let done = c.linearize-measures.ensures in
     record {
       answer = ap₂ (λ (x y : ℕ). record { number = v.number; a = v.a; b = v.b; before = x; after = y }) done.earlier done.later
           ∙ measures-answered v x y l ∙ ap (λ (v : Answer). with_measures v x y) e;
@@ -90,15 +71,3 @@ returns-2 c =
       sigma = done.sigma ∙ given v _ (sigma_of f a.n a.w) a.sigma.now e l;
       smaller = done.smaller ∙ given v _ (smaller_table f a.n a.w) a.smaller.now e l;
     }
-
-pub table-method-spec : {M : Type 1} → statement M
-table-method-spec =
-    tie.close
-    (tie.spec
-    table-method-verdict-requires
-    returns
-    linearize-requires
-    same_length
-    same-length-2
-    same-length-3
-    returns-2)
