@@ -75,12 +75,12 @@ method_reasons n k y w rs Short =
     (placed 9 (λ a b. FirstPassing (missing y) n w rs a × (b ≡ 0))
     ∷ []))
 
--- what is asked of the rows is decided by those who cite this
-method-exactly : (n k y w : ℕ) (rs : List Row) (short : Bool) (Short : Type 0) → Says short Short
+-- where it is decided what is asked of the rows: each theorem below decides it itself, so that a wrong table is refused there
+method-given : (n k y w : ℕ) (rs : List Row) (short : Bool) (Short : Type 0) → Says short Short
     → Decided (row_checks n k rs ++ (passing_check (missing y) n w rs ∷ [])) (row_reasons n k rs (placed 9 (λ a b. FirstPassing (missing y) n w rs a × (b ≡ 0)) ∷ []))
     → Exactly (method_reasons n k y w rs Short) (verdict (method_checks n k y w rs short))
 unfolding method_reasons method_checks
-method-exactly n k y w rs short Short s d =
+method-given n k y w rs short Short s d =
     decided-exactly _ _
     (typed-decided list_inputs n k y
     (range-decided 3 1 n w (λ e. omega arith)
@@ -88,17 +88,23 @@ method-exactly n k y w rs short Short s d =
     also plain-decided 5 (λ e. omega arith) s
     also d))
 
+method-exactly : (n k y w : ℕ) (rs : List Row) (short : Bool) (Short : Type 0) → Says short Short
+    → Exactly (method_reasons n k y w rs Short) (verdict (method_checks n k y w rs short))
+method-exactly n k y w rs short Short s =
+    method-given n k y w rs short Short s
+    (bad-row-decided n k rs also pair-decided n rs also undriven-decided k rs also passing-decided (missing y) n w rs also done)
+
 pub row-method-exactly : (n k y w : ℕ) (rs : List Row) (roomT roomSigma roomRows : ℕ)
     → Exactly (method_reasons n k y w rs ((roomT < n) ⊎ ((roomSigma < n) ⊎ (roomRows < smaller_rows)))) (row_method_verdict n k y w rs roomT roomSigma roomRows)
 unfolding row_method_verdict
 row-method-exactly n k y w rs roomT roomSigma roomRows =
-    method-exactly n k y w rs _ _ (or-says (lt-says roomT n) (or-says (lt-says roomSigma n) (lt-says roomRows smaller_rows)))
+    method-given n k y w rs _ _ (or-says (lt-says roomT n) (or-says (lt-says roomSigma n) (lt-says roomRows smaller_rows)))
     (bad-row-decided n k rs also pair-decided n rs also undriven-decided k rs also passing-decided (missing y) n w rs also done)
 
 pub sheet-exactly : (n k y w : ℕ) (rs : List Row) (room : ℕ) → Exactly (method_reasons n k y w rs (room < sheet_room)) (sheet_verdict n k y w rs room)
 unfolding sheet_verdict
 sheet-exactly n k y w rs room =
-    method-exactly n k y w rs _ _ (lt-says room sheet_room)
+    method-given n k y w rs _ _ (lt-says room sheet_room)
     (bad-row-decided n k rs also pair-decided n rs also undriven-decided k rs also passing-decided (missing y) n w rs also done)
 
 -- ---- filling a table

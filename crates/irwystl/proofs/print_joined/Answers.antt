@@ -1,0 +1,13 @@
+-- `irwystl::print_joined` is safe: what is printed lies at the front of the room, so that its count is within it. Assumes nothing.
+use mathlib.Core.Path.{ap}
+use native.Mathlib.Omega.{arith}
+use lib.ListN.{length, length-append, length-take}
+use Rattle.irwystl.proofs.print_joined.Goals as goal
+
+pub slice_bounds-out-end : goal.slice_bounds-out-end
+slice_bounds-out-end c =
+    omega (arith, c.print_joined-count.ensures.bytes, simp length-append at (ap length c.print_joined-count.ensures.text))
+
+pub slice_bounds-print_bytes-end : goal.slice_bounds-print_bytes-end
+slice_bounds-print_bytes-end c =
+    simp length-take (omega (arith, c.print_joined-count.ensures.bytes, simp length-append at (ap length c.print_joined-count.ensures.text)))

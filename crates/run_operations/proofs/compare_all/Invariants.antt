@@ -1,0 +1,12 @@
+-- `run_operations::compare_all` is safe and ends: the place goes up to the length, and no more cases are equal than bytes were passed.
+-- Assumes nothing.
+-- Assumes nothing.
+use lib.ListN.{length}
+use Prim.Native.Nat.{◌-◌, ◌≤◌}
+use Rattle.run_operations.proofs.compare_all.Given as goal
+
+abbrev pub invariant-loop-at : goal.invariant-loop-at
+invariant-loop-at l = (l.at ≤ length l.text) × (l.equal ≤ l.at)
+
+abbrev pub decreases-loop-at : goal.decreases-loop-at
+decreases-loop-at l = length l.text - l.at
