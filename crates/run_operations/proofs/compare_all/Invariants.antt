@@ -1,8 +1,5 @@
--- `run_operations::compare_all` is safe and ends: the place goes up to the length, and no more cases are equal than bytes were passed.
--- Assumes nothing.
--- Assumes nothing.
-use lib.ListN.{length}
-use Prim.Native.Nat.{◌-◌, ◌≤◌}
+-- The place goes up to the length, and no more cases are equal than bytes were passed. Assumes nothing.
+use Rattle.std.proofs.Common.{◌-◌, ◌≤◌, length}
 use Rattle.run_operations.proofs.compare_all.Given as goal
 
 abbrev pub invariant-loop-at : goal.invariant-loop-at

@@ -1,6 +1,5 @@
--- `run_operations::line_end` ends within the text, after the place it began at. Assumes nothing.
-use lib.ListN.{length}
-use Prim.Native.Nat.{◌-◌, ◌≤◌, ◌<◌}
+-- The place stays before the end of the text, and the measure is what is left of it. Assumes nothing.
+use Rattle.std.proofs.Common.{◌-◌, ◌≤◌, ◌<◌, length}
 use Rattle.run_operations.proofs.line_end.Given as goal
 
 abbrev pub invariant-loop-at : goal.invariant-loop-at
