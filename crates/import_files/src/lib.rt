@@ -4,7 +4,7 @@
 // functions here are inner. An error is the system's number for it, 0 for none.
 #![tactic(auto)]
 
-ghost use Rattle.std.specs.Prelude.{◌≤◌, length};
+ghost use Rattle.std.specs.Prelude.{◌≡◌, ◌≤◌, length, pos, OnErr};
 ghost use Rattle.io.specs.Counts.{IsPrefixLen};
 ghost use Rattle.import_paths.specs.Room.{name_most, ending_most};
 
@@ -20,7 +20,9 @@ use std::os::unix::fs::PermissionsExt;
 pub const NAMES_TRIED: usize = 1000;
 
 // Why a call failed: some error, even where the system names none; 0 where it did not fail.
-pub fn reason(done: system::Result<()>) -> i32 {
+pub fn reason(done: system::Result<()>) -> i32
+    ensures { OnErr done (result ≡ pos 0 → ⊥) }
+{
     match done {
         Ok(()) => 0,
         Err(error) => saying::number_of(error),
@@ -69,7 +71,7 @@ pub fn read_file(rt: &impl Files, path: &[u8], text: &mut [u8]) -> Input
     }
 }
 
-// Writes a new file's bytes, down to the device, and closes it.
+// Writes a new file's bytes, down to the device. The file is closed at the end; what a failed close would tell is not told by std.
 pub fn fill_file<F: Write + OpenFile + Drop>(file: F, bytes: &[u8]) -> i32 {
     let mut file = file;
     let error = reason(file.write_all(bytes));

@@ -1,7 +1,7 @@
 // What the programs share: lines on standard output, the files that arguments name, texts compared, and parts of slices. Every function here is inner.
 #![tactic(auto)]
 
-ghost use Rattle.std.specs.Prelude.{◌≡◌, true};
+ghost use Rattle.std.specs.Prelude.{◌≡◌, true, pos, IfOk};
 ghost use Rattle.io.specs.Counts.{IsPrefixLen};
 
 use std::env::{Env, FillError};
@@ -35,7 +35,9 @@ pub fn fail(what: &[u8], error: i32) {
 }
 
 // The system's number for an error: some number, even where the system names none.
-pub fn number_of(error: Error) -> i32 {
+pub fn number_of(error: Error) -> i32
+    ensures { result ≡ pos 0 → ⊥ }
+{
     let number = error.raw_os_error().unwrap_or(0);
     if number == 0 {
         return errors::EIO;
@@ -44,7 +46,9 @@ pub fn number_of(error: Error) -> i32 {
 }
 
 // A path as the system's calls take it, or the error of one that is no text.
-pub fn path_of(bytes: &[u8]) -> Result<&str, i32> {
+pub fn path_of(bytes: &[u8]) -> Result<&str, i32>
+    ensures { IfOk result (λ path. path.now ≡ bytes.now) }
+{
     match std::str::from_utf8(bytes) {
         Ok(path) => Ok(path),
         Err(_) => Err(errors::EILSEQ),
