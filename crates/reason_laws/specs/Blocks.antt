@@ -31,7 +31,7 @@ module _ (f : ℕ → ℕ) (n w : ℕ) (hw : 1 ≤ w) where
   -- the set that is found is sigma t
   pub set-sigma : (t : ℕ) → t < 2 ^ n → set_of n (at (basis_of f n w)) t ≡ apply (at (sigma_of f n w)) n t
   unfolding sigma_of
-  set-sigma = sets.set-sigma (at (basis_of f n w)) n (basis-independent f n w hw)
+  set-sigma = sets.set-inverse (at (basis_of f n w)) n (basis-independent f n w hw)
 
   -- it is the only set of taken numbers with the XOR t
   pub set-only : (t z : ℕ) → z < 2 ^ n → columns (at (basis_of f n w)) n z ≡ t → z ≡ apply (at (sigma_of f n w)) n t

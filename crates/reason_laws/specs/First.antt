@@ -24,7 +24,7 @@ use Rattle.matrix_laws.specs.Linear.{columns-unit, apply-lt}
 use Rattle.matrix_laws.specs.Reached.{Independent}
 use Rattle.matrix_laws.specs.Inverse.{sigma-columns, columns-sigma}
 use Rattle.matrix_laws.specs.Ordered.{TakenBy, taken-independent, candidate-when}
-use Rattle.reason_laws.specs.Sets.{set-once, set-sigma, place_is, set-fresh}
+use Rattle.reason_laws.specs.Sets.{set-once, set-inverse, place_is, set-fresh}
 
 -- step j + 1 took number j
 one_less : (j : ℕ) → suc j - 1 ≡ j
@@ -34,20 +34,24 @@ module _ (order : ℕ → ℕ → Bool) (n w : ℕ) (c : ℕ → ℕ) (g : Taken
   all : Independent c n n
   all = taken-independent order n w c n g
 
-  -- any other number within the weight limit that is no XOR of those before step k + 1 stands behind the number of that step
-  step-leads : (k t : ℕ) → k < n → t < 2 ^ n → (t ≡ 0 → ⊥) → ones t ≤ w → span c k t ≡ false → (t ≡ c k → ⊥) → order (c k) t ≡ true
-  step-leads k t l h d u e m =
+  -- who is no XOR of those before step k + 1 stands behind the number of that step; what rests on it cites this
+  step-first : (k t : ℕ) → k < n → t < 2 ^ n → (t ≡ 0 → ⊥) → ones t ≤ w → span c k t ≡ false → (t ≡ c k → ⊥) → order (c k) t ≡ true
+  step-first k t l h d u e m =
       let some : 0 < t = omega arith in
       (g k l).leads t h (candidate-when w c k t (ones-some t some) u e) m
+
+  -- any other number within the weight limit that is no XOR of those before step k + 1 stands behind the number of that step
+  step-leads : (k t : ℕ) → k < n → t < 2 ^ n → (t ≡ 0 → ⊥) → ones t ≤ w → span c k t ≡ false → (t ≡ c k → ⊥) → order (c k) t ≡ true
+  step-leads = step-first
 
   -- a number that is not 0, within the weight limit and not taken is the XOR of the set that is found, and each number of it stands before it
   pub untaken-xor : (t : ℕ) → t < 2 ^ n → (t ≡ 0 → ⊥) → ones t ≤ w → ((j : ℕ) → j < n → c j ≡ t → ⊥) → XorOf order n c t (set_of n c t)
   untaken-xor t h d u m =
-      rw (set-sigma c n all t h)
+      rw (set-inverse c n all t h)
       (record {
         below = apply-lt (at (inverse c n)) n t;
         gives = columns-sigma c n all t h;
-        before = λ j l b. step-leads j t l h d u (set-fresh c n all j t l h b) (λ e. m j l (sym e));
+        before = λ j l b. step-first j t l h d u (set-fresh c n all j t l h b) (λ e. m j l (sym e));
       })
 
   -- no other set of taken numbers has that XOR
@@ -106,4 +110,4 @@ module _ (order : ℕ → ℕ → Bool) (n w : ℕ) (c : ℕ → ℕ) (g : Taken
       (λ l. absurd (omega arith))
       in
       rw (ne_eqb t 0 a.0, le-ltb w (ones t) (omega (arith, a.1)), e, le-ltb n n (omega arith))
-      (ap Xor (set-sigma c n all t h ∙ ap (apply (at (inverse c n)) n) (sym a.3.gives) ∙ sigma-columns c n all z a.3.below))
+      (ap Xor (set-inverse c n all t h ∙ ap (apply (at (inverse c n)) n) (sym a.3.gives) ∙ sigma-columns c n all z a.3.below))

@@ -29,9 +29,9 @@ module _ (c : ℕ → ℕ) (n : ℕ) (i : Independent c n n) where
   set-once t y z hy hz a b =
       sym (sigma-columns c n i y hy) ∙ ap (apply (at (inverse c n)) n) (a ∙ sym b) ∙ sigma-columns c n i z hz
 
-  -- the set that is found is what sigma sends t to
-  pub set-sigma : (t : ℕ) → t < 2 ^ n → set_of n c t ≡ apply (at (inverse c n)) n t
-  set-sigma t h =
+  -- the set that is found, by the inverse; what rests on it cites this
+  pub set-inverse : (t : ℕ) → t < 2 ^ n → set_of n c t ≡ apply (at (inverse c n)) n t
+  set-inverse t h =
       first-is (2 ^ n) (λ z. eqb (columns c n z) t) s (omega (arith, apply-lt (at (inverse c n)) n t))
       (λ z l. ne_eqb (columns c n z) t (λ e. omega (arith, set-once t z s (omega (arith, apply-lt (at (inverse c n)) n t)) (apply-lt (at (inverse c n)) n t) e gives)))
       (λ l. eq-eqb (columns c n s) t gives)
@@ -41,6 +41,10 @@ module _ (c : ℕ → ℕ) (n : ℕ) (i : Independent c n n) where
 
       gives : columns c n s ≡ t
       gives = columns-sigma c n i t h
+
+  -- the set that is found is what sigma sends t to
+  pub set-sigma : (t : ℕ) → t < 2 ^ n → set_of n c t ≡ apply (at (inverse c n)) n t
+  set-sigma = set-inverse
 
   -- two of the numbers are not the same
   pub place-once : (j k : ℕ) → j < n → k < n → c j ≡ c k → j ≡ k

@@ -35,12 +35,16 @@ code-unit (suc j) =
     let d : 1 * 2 ^ suc j + 2 ^ j ≡ 3 * 2 ^ j = omega arith in
     ap₂ bit_xor e h ∙ xor_shifted 1 (suc j) (2 ^ j) (pow-lt (omega arith)) ∙ d
 
--- T z is the Gray code of z
-pub gray-code : (n z : ℕ) → z < 2 ^ n → columns gray_column n z ≡ gray_code z
-gray-code n z h =
+-- the columns make the Gray code; what rests on it cites this
+columns-code : (n z : ℕ) → z < 2 ^ n → columns gray_column n z ≡ gray_code z
+columns-code n z h =
     columns-cong gray_column (λ j. gray_code (2 ^ j)) n z (λ j l. sym (code-unit j))
     ∙ sym (linear-columns gray_code code-linear (λ j. 2 ^ j) n z)
     ∙ ap gray_code (columns-units n z ∙ mod-eq_of_lt h)
+
+-- T z is the Gray code of z
+pub gray-code : (n z : ℕ) → z < 2 ^ n → columns gray_column n z ≡ gray_code z
+gray-code = columns-code
 
 -- ---- independence
 
@@ -132,16 +136,20 @@ decode-code n z h =
 row_lt : (n j : ℕ) → gray_row n j < 2 ^ n
 row_lt n j = omega (arith, pow_pos n, pow_pos j)
 
--- row j of the inverse of the Gray matrix has all inputs from j up
-pub gray-row : (n j : ℕ) → j < n → at (inverse gray_column n) j ≡ gray_row n j
-gray-row n j l =
+-- row j of the inverse by its definition; what rests on it cites this
+inverse-row : (n j : ℕ) → j < n → at (inverse gray_column n) j ≡ gray_row n j
+inverse-row n j l =
     sym
     (inverse-unique gray_column n (gray-independent n) (gray_row n) (λ j l. row_lt n j)
-    (λ z h. ap (apply (gray_row n) n) (gray-code n z h) ∙ decode-code n z h) j l)
+    (λ z h. ap (apply (gray_row n) n) (columns-code n z h) ∙ decode-code n z h) j l)
+
+-- row j of the inverse of the Gray matrix has all inputs from j up
+pub gray-row : (n j : ℕ) → j < n → at (inverse gray_column n) j ≡ gray_row n j
+gray-row = inverse-row
 
 -- the inverse as a list
 pub gray-inverse : (n : ℕ) → inverse gray_column n ≡ tab n (gray_row n)
 gray-inverse n =
     sym (tab-list 0 (inverse gray_column n))
     ∙ ap (λ (m : ℕ). tab m (at (inverse gray_column n))) (length-inverse gray_column n)
-    ∙ tab-cong n _ _ (gray-row n)
+    ∙ tab-cong n _ _ (inverse-row n)
