@@ -1,66 +1,41 @@
-// What the arguments of a call say: whether one is a certain text, the decimal number that one is, the words of a symmetric block with what
-// stands before them (02, Ticket 6), and the number and the weight limit of a call for why the number was not taken (Ticket 7). Every function
-// here is inner.
+// What the arguments of a call say: the decimal number that one is, the words of a symmetric block with what stands before them (02, Ticket
+// 6), and the number and the weight limit of a call for why the number was not taken (Ticket 7). Every function here is inner.
 #![tactic(auto)]
 
-ghost use Rattle.std.specs.Prelude.{◌≤◌};
+ghost use Rattle.std.specs.Prelude.{◌≤◌, IfSome};
 
 use block::{FD, FR, LIST_POINTS};
+use saying::is_given;
 use std::env::Env;
 
-// A decimal number, where an argument is one.
-#[derive(Clone, Copy)]
-pub struct Number {
-    pub known: bool,
-    pub value: usize,
-}
-
-// Where it is none.
-fn no_number() -> Number {
-    Number {
-        known: false,
-        value: 0,
-    }
-}
-
 // A number with one digit more. It stays above every point, and every word, once it is.
-fn grown(x: usize, digit: usize) -> usize {
+fn grown(x: usize, digit: u8) -> usize {
     if LIST_POINTS < x {
         return x;
     }
-    std::num::wrapping_add_usize(x * 10, digit)
+    x * 10 + usize::from(digit)
 }
 
-// The number that digits are.
-fn number_of(digits: &[u8]) -> Number {
-    if digits.len() == 0 {
-        return no_number();
+// The decimal number that digits are.
+fn number_of(digits: &[u8]) -> Option<usize> {
+    if digits.is_empty() {
+        return None;
     }
-    let mut value: usize = 0;
-    let mut i = 0;
-    while i < digits.len() {
-        let b = read_bytes::byte(digits, i);
-        if !read_bytes::is_digit(b) {
-            return no_number();
+    let mut value = 0;
+    for b in digits {
+        match *b {
+            digit @ b'0'..=b'9' => value = grown(value, digit - b'0'),
+            _ => return None,
         }
-        value = grown(value, b % 48);
-        i += 1;
     }
-    Number { known: true, value }
+    Some(value)
 }
 
-// The number that argument i is.
-pub fn number_at(rt: &impl Env, i: usize) -> Number {
+// The decimal number that argument i is.
+pub fn number_at(rt: &impl Env, i: usize) -> Option<usize> {
     let mut name = io::buffer();
-    let length = saying::argument(rt, i, &mut name).length;
+    let length = saying::argument(rt, i, &mut name).ok()?;
     number_of(&name[..length])
-}
-
-// Whether argument i is this one.
-pub fn is_given(rt: &impl Env, i: usize, text: &[u8]) -> bool {
-    let mut name = io::buffer();
-    let length = saying::argument(rt, i, &mut name).length;
-    saying::is_same(&name[..length], text)
 }
 
 // ---- a symmetric block
@@ -70,122 +45,97 @@ const NO_OUTPUT: u16 = 65535;
 
 const NO_WORD: u16 = 65534;
 
-// A number as an entry.
-fn entry_of(x: usize) -> u16 {
-    if 65535 < x { NO_WORD } else { x as u16 }
-}
-
-// The number, or the - of no output, that argument i is.
-fn word_at(rt: &impl Env, i: usize) -> Number {
+// The number, or the - of no output, that argument i is, as an entry.
+fn word_at(rt: &impl Env, i: usize) -> Option<u16> {
     if is_given(rt, i, b"-") {
-        return Number {
-            known: true,
-            value: NO_OUTPUT as usize,
-        };
+        return Some(NO_OUTPUT);
     }
-    number_at(rt, i)
+    let number = number_at(rt, i)?;
+    Some(u16::try_from(number).unwrap_or(NO_WORD))
 }
 
-// Stores a word, where there is room for it.
-fn put_word(words: &mut [u16], c: usize, word: u16) {
-    if c < words.len() {
-        words[c] = word;
-    }
-}
-
-// Reads the words from argument `from` on, as many as there is room for. False where one of them all is none.
-fn read_words(rt: &impl Env, from: usize, words: &mut [u16]) -> bool {
-    let count = saying::argument_count(rt);
-    let mut c: usize = 0;
-    let mut i = from;
-    while i < count {
-        let word = word_at(rt, i);
-        if !word.known {
-            return false;
+// Reads the words from argument `from` on, as many as there is room for. None where one of them all is none.
+fn read_words(rt: &impl Env, from: usize, words: &mut [u16]) -> Option<()> {
+    for i in from..saying::argument_count(rt) {
+        let word = word_at(rt, i)?;
+        if let Some(entry) = words.get_mut(i - from) {
+            *entry = word;
         }
-        put_word(words, c, entry_of(word.value));
-        c += 1;
-        i += 1;
     }
-    true
+    Some(())
 }
 
-// The type that argument 2 is: none is 0.
-fn given_type(rt: &impl Env) -> usize {
+// The type that argument 2 is, where it is one.
+fn given_type(rt: &impl Env) -> Option<usize> {
     if is_given(rt, 2, b"fr") {
-        return FR;
+        return Some(FR);
     }
     if is_given(rt, 2, b"fd") {
-        return FD;
+        return Some(FD);
     }
-    0
+    None
 }
 
-// A call for a symmetric block, where it has the form: the number of outputs, the type and the number of words, at least 1.
+// A call for a symmetric block: the number of outputs, the type and the number of words, at least 1.
 #[derive(Clone, Copy)]
 pub struct SymmetricCall {
-    pub known: bool,
     pub k: usize,
     pub block_type: usize,
     pub count: usize,
 }
 
-// A call whose number of outputs is argument `at`. Its words are stored as far as there is room.
-fn call_from(rt: &impl Env, at: usize, block_type: usize, words: &mut [u16]) -> SymmetricCall
+// A call whose number of outputs is argument `at`, where it has the form. Its words are stored as far as there is room.
+fn call_from(
+    rt: &impl Env,
+    at: usize,
+    block_type: usize,
+    words: &mut [u16],
+) -> Option<SymmetricCall>
     requires { at ≤ 3 }
-    ensures { 1 ≤ result.count }
+    ensures { IfSome result (λ call. 1 ≤ call.count) }
 {
     let given = saying::argument_count(rt);
-    let k = number_at(rt, at);
-    let read = read_words(rt, at + 1, words);
-    if given < at + 2 || !k.known || !read {
-        return SymmetricCall {
-            known: false,
-            k: 0,
-            block_type: 0,
-            count: 1,
-        };
+    let k = number_at(rt, at)?;
+    read_words(rt, at + 1, words)?;
+    if given < at + 2 {
+        return None;
     }
-    SymmetricCall {
-        known: true,
-        k: k.value,
+    Some(SymmetricCall {
+        k,
         block_type,
         count: given - at - 1,
-    }
+    })
 }
 
 // [fr|fd] K WORD.., after the option. The type is fd where none is said.
-pub fn symmetric_call(rt: &impl Env, words: &mut [u16]) -> SymmetricCall
-    ensures { 1 ≤ result.count }
+pub fn symmetric_call(rt: &impl Env, words: &mut [u16]) -> Option<SymmetricCall>
+    ensures { IfSome result (λ call. 1 ≤ call.count) }
 {
-    let block_type = given_type(rt);
-    if block_type == 0 {
-        return call_from(rt, 2, FD, words);
+    match given_type(rt) {
+        Some(block_type) => call_from(rt, 3, block_type, words),
+        None => call_from(rt, 2, FD, words),
     }
-    call_from(rt, 3, block_type, words)
 }
 
 // ---- why a number was not taken
 
-// A call for why t was not taken, where it has the form: t, and the weight limit w where it names one.
+// A call for why t was not taken: t, and the weight limit where it names one.
 #[derive(Clone, Copy)]
 pub struct WhyCall {
-    pub known: bool,
     pub t: usize,
-    pub limited: bool,
-    pub w: usize,
+    pub limit: Option<usize>,
 }
 
-// T [W], after the option.
-pub fn why_call(rt: &impl Env) -> WhyCall {
+// T [W], after the option, where the call has the form.
+pub fn why_call(rt: &impl Env) -> Option<WhyCall> {
     let given = saying::argument_count(rt);
-    let t = number_at(rt, 2);
-    let w = number_at(rt, 3);
-    let limited = 3 < given;
-    WhyCall {
-        known: given <= 4 && t.known && (w.known || !limited),
-        t: t.value,
-        limited,
-        w: w.value,
+    if 4 < given {
+        return None;
     }
+    let t = number_at(rt, 2)?;
+    if given < 4 {
+        return Some(WhyCall { t, limit: None });
+    }
+    let w = number_at(rt, 3)?;
+    Some(WhyCall { t, limit: Some(w) })
 }

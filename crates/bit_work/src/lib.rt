@@ -11,7 +11,7 @@ pub fn power(k: usize) -> u32
     requires { k < 32 }
     ensures { result ≡ 2 ^ k }
 {
-    1u32 << k
+    1 << k
 }
 
 // The same as a size.
@@ -19,14 +19,15 @@ pub fn size(k: usize) -> usize
     requires { k < 64 }
     ensures { result ≡ 2 ^ k }
 {
-    1usize << k
+    1 << k
 }
 
 // 1 where a has an odd number of one-bits, and else 0.
+#[tactic(auto, unfolding(bits::specs::Digits::parity))]
 pub fn parity_of(a: u32) -> u32
     ensures { result ≡ parity a }
 {
-    u32::count_ones(a) % 2
+    a.count_ones() % 2
 }
 
 // Bit j of a.

@@ -1,7 +1,7 @@
 -- Why a number was not taken (02, Ticket 7: "Given a block as a list, a weight limit and a number t, answer the first of these that holds"):
 -- what each reason says, the reason as it is found, and the operation with its answer. Not here: that the reason found is the first that
 -- holds, and the only one, which are laws. Assumes nothing.
-use Rattle.std.specs.Prelude.{◌≡◌, Bool, true, not, cond, List, ◌∷◌, ℕ, suc, ◌-◌, ◌^◌, ◌≤◌, ◌<◌, eqb, ltb}
+use Rattle.std.specs.Prelude.{◌≡◌, Bool, true, not, cond, List, ◌∷◌, ℕ, suc, ◌-◌, ◌^◌, ◌≤◌, ◌<◌, eqb, ltb, Result, Ok, Err}
 use Rattle.std.specs.Int.Count.{ones}
 use Rattle.bits.specs.Digits.{bit}
 use Rattle.slices.specs.Places.{at, first}
@@ -14,8 +14,6 @@ use Rattle.block.specs.declared.Row.{Row}
 use Rattle.block.specs.declared.Answer.{Answer}
 use Rattle.block.specs.declared.Reason.{Reason}
 use Rattle.block.specs.declared.Reason.TheVariants.{Zero, Over, Taken, Xor}
-use Rattle.block.specs.declared.Why.{Why}
-use Rattle.block.specs.declared.Why.TheVariants.{Given, Refused}
 use Rattle.block.specs.declared.WhyAnswer.{WhyAnswer}
 
 -- ---- what a reason says of t, where c 0 .. c (n - 1) were taken, under an order and with the weight limit w
@@ -74,18 +72,18 @@ why_verdict n k y w t rs =
     ∷ count_check given_rows rs
     ∷ row_checks n k rs))
 
-unfoldable pub why_not : ℕ → ℕ → ℕ → ℕ → ℕ → List Row → Why
+unfoldable pub why_not : ℕ → ℕ → ℕ → ℕ → ℕ → List Row → Result Reason Answer
 why_not n k y w t rs =
-    cond (answered (why_verdict n k y w t rs)) (Given (reason_of (of_rows (missing y) rs) n w t)) (Refused (why_verdict n k y w t rs))
+    cond (answered (why_verdict n k y w t rs)) (Ok (reason_of (of_rows (missing y) rs) n w t)) (Err (why_verdict n k y w t rs))
 
 -- ---- its answer in numbers: 1 to 4 for the reason and 0 with a refusal; a step, or a set, where the reason has one, and else 0
 
 abbrev pub given : ℕ → ℕ → ℕ → WhyAnswer
 given reason step set = record { number = 0; a = 0; b = 0; reason = reason; step = step; set = set }
 
-abbrev pub why_numbers : Why → WhyAnswer
-why_numbers (Given Zero) = given 1 0 0
-why_numbers (Given Over) = given 2 0 0
-why_numbers (Given (Taken step)) = given 3 step 0
-why_numbers (Given (Xor z)) = given 4 0 z
-why_numbers (Refused v) = record { number = v.number; a = v.a; b = v.b; reason = 0; step = 0; set = 0 }
+abbrev pub why_numbers : Result Reason Answer → WhyAnswer
+why_numbers (Ok Zero) = given 1 0 0
+why_numbers (Ok Over) = given 2 0 0
+why_numbers (Ok (Taken step)) = given 3 step 0
+why_numbers (Ok (Xor z)) = given 4 0 z
+why_numbers (Err v) = record { number = v.number; a = v.a; b = v.b; reason = 0; step = 0; set = 0 }

@@ -1,6 +1,6 @@
 -- Row text (01, the section of that name): what is written, the form of each line, and what a text says. A text is the list of its
 -- bytes, cut at LF. Not here: that reading and writing undo each other, which are laws. Assumes nothing.
-use Rattle.std.specs.Prelude.{Bool, true, false, not, cond, ◌&&◌, ◌||◌, List, [], ◌∷◌, ◌++◌, ℕ, zero, suc, ◌+◌, ◌-◌, ◌*◌, ◌/◌, ◌%◌, eqb, ltb, leb, length, get_or, take, drop}
+use Rattle.std.specs.Prelude.{Bool, true, false, not, cond, ◌&&◌, ◌||◌, List, [], ◌∷◌, ◌++◌, ℕ, zero, suc, ◌+◌, ◌-◌, ◌*◌, ◌/◌, ◌%◌, eqb, ltb, leb, length, get_or, take, drop, Result, Ok, Err}
 use Rattle.bits.specs.Digits.{bit}
 use Rattle.slices.specs.Places.{tab, first}
 use Rattle.sums.specs.Sums.{one}
@@ -16,8 +16,6 @@ use Rattle.block.specs.declared.Headings.{Headings}
 use Rattle.block.specs.declared.Refusal.{Refusal}
 use Rattle.block.specs.declared.Kind.{Kind}
 use Rattle.block.specs.declared.Kind.TheVariants.{Inputs, Outputs, Count, Room, Form}
-use Rattle.block.specs.declared.Reading.{Reading}
-use Rattle.block.specs.declared.Reading.TheVariants.{Accepted, Refused}
 
 -- ---- what is written
 
@@ -286,8 +284,8 @@ kind_number Count = 4
 kind_number Room = 5
 kind_number Form = 10
 
-abbrev pub numbers : Reading → ReadAnswer
-numbers (Accepted h) =
+abbrev pub numbers : Result Headings Refusal → ReadAnswer
+numbers (Ok h) =
     record {
       number = 0;
       a = 0;
@@ -298,7 +296,7 @@ numbers (Accepted h) =
       type_line = h.type_line;
       count = h.count;
     }
-numbers (Refused r) =
+numbers (Err r) =
     record {
       number = kind_number r.kind;
       a = r.a;

@@ -1,6 +1,9 @@
 // The meaning of 01: the types that callers and answers share, and in specs/ every definition that a contract cites, one file for
-// each section of 01. This crate has no functions. What is proved about the definitions stands in the crates above it.
+// each section of 01. This crate has no functions but the conversions of a refusal into each answer. What is proved about the definitions
+// stands in the crates above it.
 #![tactic(auto)]
+
+ghost use Rattle.std.specs.Prelude.{◌≡◌};
 
 // ---- the limits of specs/Limits.antt, for code: arrays have these lengths, and a proof holds each beside the limit that a contract cites
 
@@ -28,7 +31,8 @@ pub const MODEL_ROOM: usize = 156420;
 // the bytes that the program reads
 pub const READ_BYTES: usize = 8192;
 
-// ---- the types of a block, those of specs/Words.antt: what a point under no row means
+// ---- the types of a block, those of specs/Words.antt: what a point under no row means. They are 01's numbers and no enum: callers give any
+// number, and one that is neither is refused with 3 (`sizes`, crates/shared_checks).
 
 // it has no output
 pub const FR: usize = 1;
@@ -36,7 +40,8 @@ pub const FR: usize = 1;
 // it has word 0
 pub const FD: usize = 2;
 
-// ---- rows and answers
+// ---- rows and answers. An answer has 01's number, 0 where all is well, and its places beside what more it gives: C reads these structs, and the
+// theorems of crates/exactly and crates/once speak of `number`, `a` and `b`.
 
 // A row: the mask of its fixed inputs, their values, and its output word.
 #[repr(C)]
@@ -106,7 +111,7 @@ pub struct TextAnswer {
     pub count: usize,
 }
 
-// The answer of joining: the number of rows that are left.
+// The answer of joining: the number of rows that are left. It has the shape of TextAnswer, and so has the next; C names each.
 #[repr(C)]
 #[derive(Clone, Copy)]
 pub struct JoinAnswer {
@@ -124,6 +129,89 @@ pub struct DisjoinAnswer {
     pub a: usize,
     pub b: usize,
     pub count: usize,
+}
+
+// A refusal as the answer of an operation that gives more than a number and two places: all else is 0. The conversions are written out one by
+// one, since no macro of a repository may write an impl.
+impl From<Answer> for ValueAnswer {
+    ghost from_gives = { λ v r. r ≡ record { number = v.number; a = v.a; b = v.b; value = 0 } };
+
+    fn from(v: Answer) -> ValueAnswer {
+        ValueAnswer {
+            number: v.number,
+            a: v.a,
+            b: v.b,
+            value: 0,
+        }
+    }
+}
+
+impl From<Answer> for TableMethodAnswer {
+    ghost from_gives = { λ v r. r ≡ record { number = v.number; a = v.a; b = v.b; before = 0; after = 0 } };
+
+    fn from(v: Answer) -> TableMethodAnswer {
+        TableMethodAnswer {
+            number: v.number,
+            a: v.a,
+            b: v.b,
+            before: 0,
+            after: 0,
+        }
+    }
+}
+
+impl From<Answer> for RowMethodAnswer {
+    ghost from_gives = { λ v r. r ≡ record { number = v.number; a = v.a; b = v.b; before = 0; after = 0; count = 0 } };
+
+    fn from(v: Answer) -> RowMethodAnswer {
+        RowMethodAnswer {
+            number: v.number,
+            a: v.a,
+            b: v.b,
+            before: 0,
+            after: 0,
+            count: 0,
+        }
+    }
+}
+
+impl From<Answer> for TextAnswer {
+    ghost from_gives = { λ v r. r ≡ record { number = v.number; a = v.a; b = v.b; count = 0 } };
+
+    fn from(v: Answer) -> TextAnswer {
+        TextAnswer {
+            number: v.number,
+            a: v.a,
+            b: v.b,
+            count: 0,
+        }
+    }
+}
+
+impl From<Answer> for JoinAnswer {
+    ghost from_gives = { λ v r. r ≡ record { number = v.number; a = v.a; b = v.b; count = 0 } };
+
+    fn from(v: Answer) -> JoinAnswer {
+        JoinAnswer {
+            number: v.number,
+            a: v.a,
+            b: v.b,
+            count: 0,
+        }
+    }
+}
+
+impl From<Answer> for DisjoinAnswer {
+    ghost from_gives = { λ v r. r ≡ record { number = v.number; a = v.a; b = v.b; count = 0 } };
+
+    fn from(v: Answer) -> DisjoinAnswer {
+        DisjoinAnswer {
+            number: v.number,
+            a: v.a,
+            b: v.b,
+            count: 0,
+        }
+    }
 }
 
 // What the work of a sheet comes to: beside the number of bytes the measures and the number of smaller rows, for the line of an import.
@@ -201,13 +289,6 @@ pub struct Headings {
     pub count: usize,
 }
 
-// The text reader's answer.
-#[derive(Clone, Copy)]
-pub enum Reading {
-    Accepted(Headings),
-    Refused(Refusal),
-}
-
 // Why a number t was not taken (02, Ticket 7): t is 0; t has more one-bits than the weight limit; t was taken, at this step, from 1; or t is
 // the XOR of the numbers taken at the steps of this set, each of which stands before t: bit j - 1 stands for step j.
 #[derive(Clone, Copy)]
@@ -218,14 +299,7 @@ pub enum Reason {
     Xor(u32),
 }
 
-// The answer to why a number was not taken.
-#[derive(Clone, Copy)]
-pub enum Why {
-    Given(Reason),
-    Refused(Answer),
-}
-
-// The same in numbers: the reason is 1 to 4 in the order above, and 0 with a refusal; the step and the set are 0 where the reason has none.
+// The answer to why a number was not taken, in numbers: the reason is 1 to 4 in the order above, and 0 with a refusal; the step and the set are 0 where the reason has none.
 #[repr(C)]
 #[derive(Clone, Copy)]
 pub struct WhyAnswer {

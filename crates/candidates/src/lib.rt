@@ -11,15 +11,13 @@ ghost use Rattle.candidates.specs.Light.{light};
 ghost use Rattle.candidates.specs.Stride.{Skips};
 
 // Whether t has 1 to w one-bits.
+#[tactic(auto, unfolding(crate::specs::Light::light))]
 pub fn is_light(w: usize, t: u32) -> bool
     requires { w ≤ list_inputs }
     ensures { result ≡ light w t }
 {
-    let ones = u32::count_ones(t);
-    if ones < 1 {
-        return false;
-    }
-    ones <= w as u32
+    let ones = t.count_ones();
+    1 <= ones && ones <= w as u32
 }
 
 // How many numbers from t on, which does not have 1 to w one-bits, do not have them either, seen from t alone: where t is a multiple of 16
@@ -28,24 +26,24 @@ pub fn stride(w: usize, t: u32) -> usize
     requires { (w ≤ list_inputs) × (light w t ≡ false) }
     ensures { Skips w t result }
 {
-    if t % 16 == 0 {
-        if u32::count_ones(t) > w as u32 {
-            return 16;
-        }
+    if t % 16 == 0 && t.count_ones() > w as u32 {
+        16
+    } else {
+        1
     }
-    1
 }
 
 // Whether a stands before b in the order of candidates, by the values of the two: the greater value, at equal values fewer one-bits, at
 // as many the smaller number.
+#[tactic(auto, unfolding(block::specs::Basis::before))]
 pub fn is_before(value: u32, a: u32, other: u32, b: u32) -> bool
     ensures { (r : ℕ → ℕ) → r a ≡ value → r b ≡ other → result ≡ before r a b }
 {
     if value != other {
         return other < value;
     }
-    let ones = u32::count_ones(a);
-    let others = u32::count_ones(b);
+    let ones = a.count_ones();
+    let others = b.count_ones();
     if ones != others {
         return ones < others;
     }
@@ -57,14 +55,7 @@ pub fn is_fresh(s: &[u32], n: usize, k: usize, t: u32) -> bool
     requires { (n ≤ length s.now) × (n ≤ list_inputs) × (k ≤ n) }
     ensures { result ≡ leb (2 ^ k) (apply (at s.now) n t) }
 {
-    let mut j = k;
-    while j < n {
-        if bit_work::parity_of(s[j] & t) == 1 {
-            return true;
-        }
-        j += 1;
-    }
-    false
+    s[k..n].iter().any(|row| bit_work::parity_of(*row & t) == 1)
 }
 
 // Whether t, of the walk, takes the place of b, the best so far or 0 for none. The order is asked first, since most numbers fail it.
@@ -72,11 +63,5 @@ pub fn is_better(s: &[u32], n: usize, k: usize, t: u32, value: u32, b: u32, top:
     requires { (n ≤ length s.now) × (n ≤ list_inputs) × (k ≤ n) }
     ensures { (r : ℕ → ℕ) → r t ≡ value → ((b ≡ 0 → ⊥) → r b ≡ top) → result ≡ (leb (2 ^ k) (apply (at s.now) n t) && (eqb b 0 || before r t b)) }
 {
-    if b == 0 {
-        return is_fresh(s, n, k, t);
-    }
-    if is_before(value, t, top, b) {
-        return is_fresh(s, n, k, t);
-    }
-    false
+    (b == 0 || is_before(value, t, top, b)) && is_fresh(s, n, k, t)
 }

@@ -1,2 +1,2 @@
--- The room for the numbers of a case.
+-- The room for the rows of a case.
 pub mod Room

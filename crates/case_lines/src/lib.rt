@@ -4,8 +4,8 @@
 // the order of the line, and compared with those due. All functions here are inner: a program that runs cases calls them.
 #![tactic(auto)]
 
-ghost use Rattle.std.specs.Prelude.{◌≡◌, ◌≤◌, ◌<◌, length};
-ghost use Rattle.case_lines.specs.Room.{numbers_most, rows_most};
+ghost use Rattle.std.specs.Prelude.{◌≡◌, ◌≤◌, length};
+ghost use Rattle.case_lines.specs.Room.{rows_most};
 
 // Room for the numbers of a line: those of a table of 13 inputs, and of 600 rows.
 pub const NUMBERS: usize = 8300;
@@ -26,45 +26,31 @@ pub struct Numeral {
     pub next: usize,
 }
 
-// Numbers read or gathered: how many, and the place in the line after them.
-#[derive(Drop)]
-pub struct Part {
-    pub count: usize,
-    pub next: usize,
-}
-
-pub fn is_digit(b: u8) -> bool {
-    b'0' <= b && b <= b'9'
-}
-
-pub fn is_letter(b: u8) -> bool {
-    b'a' <= b && b <= b'z'
-}
-
-// The value of a digit; of another byte, a remainder.
-pub fn digit_of(b: u8) -> u64
-    ensures { result < 10 }
-{
-    ((b % 10 + 2) % 10) as u64
-}
-
 // Reads the digits from a place on, after a number's first; 18 of them count.
 pub fn read_number(text: &[u8], from: usize, first: u64) -> Numeral
     requires { from ≤ length text.now }
     ensures { (from ≤ result.next) × (result.next ≤ length text.now) }
 {
     let mut value = first;
-    let mut next = from;
-    while next < text.len() {
-        if !is_digit(text[next]) {
-            break;
+    for (i, b) in text[from..].iter().enumerate() {
+        match *b {
+            digit @ b'0'..=b'9' => {
+                if value < 100000000000000000 {
+                    value = value * 10 + u64::from(digit - b'0');
+                }
+            }
+            _ => {
+                return Numeral {
+                    value,
+                    next: from + i,
+                };
+            }
         }
-        if value < 100000000000000000 {
-            value = value * 10 + digit_of(text[next]);
-        }
-        next += 1;
     }
-    Numeral { value, next }
+    Numeral {
+        value,
+        next: text.len(),
+    }
 }
 
 // The place after a word that ends at a place: over the space there.
@@ -72,10 +58,7 @@ pub fn after_word(text: &[u8], stop: usize) -> usize
     requires { stop ≤ length text.now }
     ensures { result ≤ length text.now }
 {
-    if stop < text.len() {
-        return stop + 1;
-    }
-    stop
+    text.len().min(stop + 1)
 }
 
 // Reads a number that is a word of its own, and passes over the space after it.
@@ -95,28 +78,20 @@ pub fn word_end(text: &[u8], from: usize) -> usize
     requires { from ≤ length text.now }
     ensures { (from ≤ result) × (result ≤ length text.now) }
 {
-    let mut at = from;
-    while at < text.len() {
-        if text[at] == b' ' || text[at] == b'\n' {
-            break;
-        }
-        at += 1;
+    match text[from..].iter().position(|b| matches!(*b, b' ' | b'\n')) {
+        Some(i) => from + i,
+        None => text.len(),
     }
-    at
 }
 
 // The number of a type: that of fr, of fd, or one that is neither's. A number stands for itself.
 pub fn type_of(word: &[u8]) -> usize {
-    if saying::is_same(word, b"fr") {
-        return 1;
+    match word {
+        b"fr" => 1,
+        b"fd" => 2,
+        b"other" => 3,
+        _ => read_number(word, 0, 0).value as usize,
     }
-    if saying::is_same(word, b"fd") {
-        return 2;
-    }
-    if saying::is_same(word, b"other") {
-        return 3;
-    }
-    read_number(word, 0, 0).value as usize
 }
 
 // What a case begins with: n, k, the type, and t, w or a room, 0 where there is none of these; and the place after them.
@@ -156,11 +131,9 @@ pub fn read_given(text: &[u8], from: usize) -> Given
     let sizes = read_sizes(text, from);
     let last = read_word(text, sizes.next);
     Given {
-        n: sizes.n,
-        k: sizes.k,
-        block_type: sizes.block_type,
         last: last.value as usize,
         next: last.next,
+        ..sizes
     }
 }
 
@@ -188,22 +161,44 @@ pub fn read_rooms(text: &[u8], from: usize) -> Rooms
     }
 }
 
-// Stores a number so many times from a place on, as far as there is room.
-pub fn put_times(out: &mut [u64; NUMBERS], at: usize, v: u64, times: u64) -> usize
-    requires { at ≤ numbers_most }
-    ensures { result ≤ numbers_most }
-{
-    let mut to = at;
-    let mut left = times;
-    while 0 < left {
-        if NUMBERS <= to {
-            break;
+// ---- lists of numbers
+
+// Numbers read or gathered, and how many there are: as many as there is room for.
+#[derive(Drop)]
+pub struct Numbers {
+    room: [u64; NUMBERS],
+    count: usize,
+}
+
+impl Numbers {
+    // None yet.
+    pub fn new() -> Numbers {
+        Numbers {
+            room: [0; NUMBERS],
+            count: 0,
         }
-        out[to] = v;
-        to += 1;
-        left -= 1;
     }
-    to
+
+    pub fn as_slice(&self) -> &[u64] {
+        saying::part(&self.room, self.count)
+    }
+
+    // One number more.
+    pub fn put(&mut self, v: u64) {
+        if self.count < NUMBERS {
+            self.room[self.count] = v;
+            self.count += 1;
+        }
+    }
+
+    // A number so many times more.
+    pub fn put_times(&mut self, v: u64, times: u64) {
+        if let Some(left) = self.room.get_mut(self.count..) {
+            let put = left.len().min(times as usize);
+            left[..put].fill(v);
+            self.count += put;
+        }
+    }
 }
 
 // How often a number is repeated, where it is, and the place after that.
@@ -211,14 +206,12 @@ pub fn read_times(text: &[u8], from: usize) -> Numeral
     requires { from ≤ length text.now }
     ensures { (from ≤ result.next) × (result.next ≤ length text.now) }
 {
-    if from < text.len() {
-        if text[from] == b'*' {
-            return read_number(text, from + 1, 0);
-        }
-    }
-    Numeral {
-        value: 1,
-        next: from,
+    match text.get(from) {
+        Some(b'*') => read_number(text, from + 1, 0),
+        _ => Numeral {
+            value: 1,
+            next: from,
+        },
     }
 }
 
@@ -247,80 +240,69 @@ pub fn read_repeated(text: &[u8], first: u8, from: usize) -> Repeated
     requires { from ≤ length text.now }
     ensures { (from ≤ result.next) × (result.next ≤ length text.now) }
 {
-    if is_digit(first) {
-        let number = read_number(text, from, digit_of(first));
-        let times = read_times(text, number.next);
-        return Repeated {
-            value: number.value,
-            times: times.value,
-            next: times.next,
-        };
-    }
-    if is_letter(first) {
-        return Repeated {
+    match first {
+        b'0'..=b'9' => {
+            let number = read_number(text, from, u64::from(first - b'0'));
+            let times = read_times(text, number.next);
+            Repeated {
+                value: number.value,
+                times: times.value,
+                next: times.next,
+            }
+        }
+        b'a'..=b'z' => Repeated {
             value: lettered(first),
             times: 1,
             next: word_end(text, from),
-        };
-    }
-    Repeated {
-        value: 0,
-        times: 0,
-        next: from,
+        },
+        _ => Repeated {
+            value: 0,
+            times: 0,
+            next: from,
+        },
     }
 }
 
-// Reads the numbers from a place on, up to the byte that ends them and over it. Any other byte stands between numbers.
-pub fn read_numbers(text: &[u8], from: usize, end: u8, out: &mut [u64; NUMBERS]) -> Part
+// Reads the numbers from a place on, up to the byte that ends them, and answers the place after that. Any other byte stands between numbers.
+pub fn read_numbers(text: &[u8], from: usize, end: u8, out: &mut Numbers) -> usize
     requires { from ≤ length text.now }
-    ensures { (result.next ≤ length text.now) × (result.count ≤ numbers_most) }
+    ensures { result ≤ length text.now }
 {
     let mut at = from;
-    let mut count = 0;
-    while at < text.len() {
-        let b = text[at];
+    // a while: the step is the length of the number
+    while let Some(b) = text.get(at) {
         at += 1;
-        if b == end {
+        if *b == end {
             break;
         }
-        let one = read_repeated(text, b, at);
+        let one = read_repeated(text, *b, at);
         at = one.next;
-        count = put_times(out, count, one.value, one.times);
+        out.put_times(one.value, one.times);
     }
-    Part { count, next: at }
+    at
 }
 
 // ---- what an operation is lent
 
-// Every number from a place on, some steps apart, of the first count: the masks of rows, say.
-pub fn every(numbers: &[u64; NUMBERS], count: usize, from: usize, step: usize) -> [u32; ROWS]
-    requires { (from ≤ 3) × (step ≤ 3) × (count ≤ numbers_most) }
+// Every number from a place on, some steps apart: the masks of rows, say.
+pub fn every(numbers: &[u64], from: usize, step: usize) -> [u32; ROWS]
+    requires { (from ≤ 3) × (step ≤ 3) }
     ensures { rows_most ≡ length result }
 {
     let mut out = [0u32; ROWS];
-    let mut at = from;
-    let mut i = 0;
-    while i < ROWS {
-        if count <= at {
-            break;
+    for (i, number) in out.iter_mut().enumerate() {
+        if let Some(given) = numbers.get(from + step * i) {
+            *number = (*given % 4294967296) as u32;
         }
-        out[i] = (numbers[at] % 4294967296) as u32;
-        at += step;
-        i += 1;
     }
     out
 }
 
-// The first count numbers as entries of a table.
-pub fn entries(numbers: &[u64; NUMBERS], count: usize) -> [u16; NUMBERS]
-    requires { count ≤ numbers_most }
-    ensures { numbers_most ≡ length result }
-{
+// The numbers as entries of a table.
+pub fn entries(numbers: &[u64]) -> [u16; NUMBERS] {
     let mut out = [0u16; NUMBERS];
-    let mut i = 0;
-    while i < count {
-        out[i] = (numbers[i] % 65536) as u16;
-        i += 1;
+    for (entry, number) in out.iter_mut().zip(numbers) {
+        *entry = (*number % 65536) as u16;
     }
     out
 }
@@ -335,113 +317,56 @@ pub fn result_size(number: u32, size: usize) -> usize {
     size
 }
 
-// One number more.
-pub fn put(out: &mut [u64; NUMBERS], at: usize, v: u64) -> usize
-    requires { at ≤ numbers_most }
-    ensures { result ≤ numbers_most }
-{
-    if at < NUMBERS {
-        out[at] = v;
-        return at + 1;
-    }
-    at
-}
-
 // Number, A and B.
-pub fn put_answer(out: &mut [u64; NUMBERS], number: u32, a: usize, b: usize) -> usize
-    ensures { result ≤ numbers_most }
-{
-    let x = put(out, 0, number as u64);
-    let y = put(out, x, a as u64);
-    put(out, y, b as u64)
+pub fn put_answer(out: &mut Numbers, number: u32, a: usize, b: usize) {
+    out.put(number as u64);
+    out.put(a as u64);
+    out.put(b as u64);
 }
 
-// A number of a lent list: one of the result, or one beyond it that does not hold what it held.
-pub fn put_number(out: &mut [u64; NUMBERS], at: usize, res: bool, v: u32) -> usize
-    requires { at ≤ numbers_most }
-    ensures { result ≤ numbers_most }
-{
-    if !res && v == HELD {
-        return at;
+// A number of storage that was lent: one of the result, or one beyond it that does not hold what it held.
+pub fn put_lent(out: &mut Numbers, of_result: bool, now: u64, held: u64) {
+    if of_result || now != held {
+        out.put(now);
     }
-    put(out, at, v as u64)
+}
+
+pub fn put_number(out: &mut Numbers, of_result: bool, v: u32) {
+    put_lent(out, of_result, u64::from(v), u64::from(HELD));
 }
 
 // The first n numbers of a lent list, and any beyond them that does not hold what it held.
-pub fn put_list(out: &mut [u64; NUMBERS], at: usize, list: &[u32; ROWS], n: usize) -> usize
-    requires { at ≤ numbers_most }
-    ensures { result ≤ numbers_most }
-{
-    let mut to = at;
-    for i in 0..ROWS {
-        to = put_number(out, to, i < n, list[i]);
+pub fn put_list(out: &mut Numbers, list: &[u32], n: usize) {
+    for (i, v) in list.iter().enumerate() {
+        put_number(out, i < n, *v);
     }
-    to
-}
-
-pub fn put_entry(out: &mut [u64; NUMBERS], at: usize, res: bool, v: u16) -> usize
-    requires { at ≤ numbers_most }
-    ensures { result ≤ numbers_most }
-{
-    if !res && v == HELD_ENTRY {
-        return at;
-    }
-    put(out, at, v as u64)
 }
 
 // The same of a table.
-pub fn put_table(out: &mut [u64; NUMBERS], at: usize, table: &[u16; NUMBERS], n: usize) -> usize
-    requires { at ≤ numbers_most }
-    ensures { result ≤ numbers_most }
-{
-    let mut to = at;
-    for i in 0..NUMBERS {
-        to = put_entry(out, to, i < n, table[i]);
+pub fn put_table(out: &mut Numbers, table: &[u16], n: usize) {
+    for (i, v) in table.iter().enumerate() {
+        put_lent(out, i < n, u64::from(*v), u64::from(HELD_ENTRY));
     }
-    to
 }
 
 // The same of rows, which lie in three lists.
 pub fn put_rows(
-    out: &mut [u64; NUMBERS],
-    at: usize,
+    out: &mut Numbers,
     masks: &[u32; ROWS],
     values: &[u32; ROWS],
     words: &[u32; ROWS],
     n: usize,
-) -> usize
-    requires { at ≤ numbers_most }
-    ensures { result ≤ numbers_most }
-{
-    let mut to = at;
+) {
     for i in 0..ROWS {
-        let mask = put_number(out, to, i < n, masks[i]);
-        let value = put_number(out, mask, i < n, values[i]);
-        to = put_number(out, value, i < n, words[i]);
+        put_number(out, i < n, masks[i]);
+        put_number(out, i < n, values[i]);
+        put_number(out, i < n, words[i]);
     }
-    to
 }
 
-// Whether the first numbers of two lists are the same, and as many.
-pub fn is_equal(a: &[u64; NUMBERS], m: usize, b: &[u64; NUMBERS], n: usize) -> bool
-    requires { (m ≤ numbers_most) × (n ≤ numbers_most) }
-{
-    if m != n {
-        return false;
-    }
-    for i in 0..m {
-        if a[i] != b[i] {
-            return false;
-        }
-    }
-    true
-}
-
-// Says the first numbers of a list.
-pub fn say_numbers(a: &[u64; NUMBERS], n: usize)
-    requires { n ≤ numbers_most }
-{
-    for i in 0..n {
-        saying::say_number(a[i]);
+// Says numbers.
+pub fn say_numbers(numbers: &[u64]) {
+    for x in numbers {
+        saying::say_number(*x);
     }
 }

@@ -31,6 +31,7 @@ pub fn choose(
     let mut b: u32 = 0;
     let mut top: u32 = 0;
     let mut place: usize = 0;
+    // A while: the places of smaller values are passed over, so the step is no number known before.
     while place < count {
         let t = walk[place];
         let value = values[place];
@@ -59,12 +60,10 @@ pub fn choose_all(
     ensures sigma_after { sigma.new ≡ over (tab n (reach_rows n (pick (value_at walk.now values.now count) n w) n)) sigma.old }
 {
     matrix_work::put_units(sigma, n);
-    let mut k: usize = 0;
-    while k < n {
+    for k in 0..n {
         let t = choose(walk, values, count, sigma, n, k, w);
         basis[k] = t;
         matrix_steps::advance(sigma, n, k, t);
-        k += 1;
     }
 }
 

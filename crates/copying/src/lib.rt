@@ -10,11 +10,7 @@ pub fn copy_first(from: &[u32], p: usize, to: &mut [u32])
     requires { (p ≤ length from.now) × (p ≤ length to.old) }
     ensures { to.new ≡ over (tab p (at from.now)) to.old }
 {
-    let mut i: usize = 0;
-    while i < p {
-        to[i] = from[i];
-        i += 1;
-    }
+    to[..p].copy_from_slice(&from[..p]);
 }
 
 // The values at the numbers of a list, by their places there.
@@ -22,9 +18,7 @@ pub fn put_values(by_t: &[u32], walk: &[u32], count: usize, out: &mut [u32])
     requires { (count ≤ length walk.now) × (count ≤ length out.old) × ((i : ℕ) → i < count → at walk.now i < length by_t.now) }
     ensures { out.new ≡ over (tab count (λ i. at by_t.now (at walk.now i))) out.old }
 {
-    let mut i: usize = 0;
-    while i < count {
+    for i in 0..count {
         out[i] = by_t[walk[i] as usize];
-        i += 1;
     }
 }

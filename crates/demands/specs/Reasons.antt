@@ -2,7 +2,7 @@
 -- such set." Each reason is given exactly where it is the first of the four that holds, and one always is; the set named is the only set of
 -- taken numbers with the XOR t, and each number of it has no smaller R than t; and a list that the row method refuses with 9 is answered.
 -- The laws of any block stand in crate reason_laws. Assumes nothing.
-use Rattle.std.specs.Prelude.{◌≡◌, refl, Bool, true, false, not, cond, List, ◌↔◌, ℕ, ◌-◌, ◌^◌, ◌<◌}
+use Rattle.std.specs.Prelude.{◌≡◌, refl, Bool, true, false, not, cond, List, ◌↔◌, ℕ, ◌-◌, ◌^◌, ◌<◌, Result, Ok, Err}
 use Rattle.std.proofs.Common.{sym, ap, ◌∙◌, arith, eq-eqb, eqb-true, lt-ltb}
 use Rattle.std.proofs.lemmas.Bool.{false≢true}
 use Rattle.bits.specs.Digits.{bit}
@@ -17,8 +17,6 @@ use Rattle.block.specs.declared.Row.{Row}
 use Rattle.block.specs.declared.Answer.{Answer}
 use Rattle.block.specs.declared.Reason.{Reason}
 use Rattle.block.specs.declared.Reason.TheVariants.{Zero, Taken, Xor}
-use Rattle.block.specs.declared.Why.{Why}
-use Rattle.block.specs.declared.Why.TheVariants.{Given, Refused}
 use Rattle.refusal_laws.specs.Verdicts.{verdict-miss, verdict-none, passed_over}
 use Rattle.choice_laws.specs.Order.{Ahead}
 use Rattle.answered_laws.specs.Passed.{WhyPassed, why-passed}
@@ -26,20 +24,20 @@ use Rattle.reason_laws.specs.Blocks.{reason-first, reason-only, set-only, taken-
 
 -- ---- what an answer says of itself
 
-is_given : Why → Bool
-is_given (Given r) = true
-is_given (Refused v) = false
+is_given : Result Reason Answer → Bool
+is_given (Ok r) = true
+is_given (Err v) = false
 
-reason_in : Why → Reason
-reason_in (Given r) = r
-reason_in (Refused v) = Zero
+reason_in : Result Reason Answer → Reason
+reason_in (Ok r) = r
+reason_in (Err v) = Zero
 
 -- a reason was given: the verdict is 0, and that is the reason
-given-when : (v : Answer) (r p : Reason) → cond (answered v) (Given r) (Refused v) ≡ Given p → (v.number ≡ 0) × (r ≡ p)
+given-when : (v : Answer) (r p : Reason) → cond (answered v) (Ok r) (Err v) ≡ Ok p → (v.number ≡ 0) × (r ≡ p)
 unfolding is_given reason_in
 given-when v r p e = go (answered v) refl e
   where
-    go : (b : Bool) → answered v ≡ b → cond b (Given r) (Refused v) ≡ Given p → (v.number ≡ 0) × (r ≡ p)
+    go : (b : Bool) → answered v ≡ b → cond b (Ok r) (Err v) ≡ Ok p → (v.number ≡ 0) × (r ≡ p)
     go true d e = (eqb-true v.number 0 d, ap reason_in e)
     go false d e = absurd (false≢true (ap is_given e))
 
@@ -51,49 +49,49 @@ module _ (n k y w t : ℕ) (rs : List Row) where
   abbrev c : ℕ → ℕ
   c = at (basis_of f n w)
 
-  told : (p : Reason) → why_not n k y w t rs ≡ Given p → WhyPassed n k y w t rs × (reason_of f n w t ≡ p)
+  told : (p : Reason) → why_not n k y w t rs ≡ Ok p → WhyPassed n k y w t rs × (reason_of f n w t ≡ p)
   unfolding why_not
   told p e =
       let g = given-when (why_verdict n k y w t rs) (reason_of f n w t) p e in
       (why-passed n k y w t rs g.0, g.1)
 
   -- always one of the four: where nothing is refused a reason is given
-  pub reason-given : (why_verdict n k y w t rs).number ≡ 0 → why_not n k y w t rs ≡ Given (reason_of f n w t)
+  pub reason-given : (why_verdict n k y w t rs).number ≡ 0 → why_not n k y w t rs ≡ Ok (reason_of f n w t)
   unfolding why_not
   reason-given h = rw (eq-eqb (why_verdict n k y w t rs).number 0 h)
 
   -- the reason given is the true one: it holds, and none before it does
-  pub given-first : (p : Reason) → why_not n k y w t rs ≡ Given p → FirstToHold (before (shift f n)) n w c t p
+  pub given-first : (p : Reason) → why_not n k y w t rs ≡ Ok p → FirstToHold (before (shift f n)) n w c t p
   given-first p e =
       let g = told p e in
       rw g.1 at (reason-first f n w g.0.weight.0 t g.0.number)
 
   -- each reason exactly when
   pub given-exactly : (why_verdict n k y w t rs).number ≡ 0 → (p : Reason)
-      → (why_not n k y w t rs ≡ Given p) ↔ FirstToHold (before (shift f n)) n w c t p
+      → (why_not n k y w t rs ≡ Ok p) ↔ FirstToHold (before (shift f n)) n w c t p
   given-exactly h p =
       let q = why-passed n k y w t rs h in
-      (given-first p, λ held. reason-given h ∙ ap Given (reason-only f n w q.weight.0 t q.number p held))
+      (given-first p, λ held. reason-given h ∙ ap Ok (reason-only f n w q.weight.0 t q.number p held))
 
   -- the set named is what sigma sends t to ..
-  pub given-sigma : (z : ℕ) → why_not n k y w t rs ≡ Given (Xor z) → z ≡ apply (at (sigma_of f n w)) n t
+  pub given-sigma : (z : ℕ) → why_not n k y w t rs ≡ Ok (Xor z) → z ≡ apply (at (sigma_of f n w)) n t
   given-sigma z e =
       let g = told (Xor z) e in
       let q = (given-first (Xor z) e).3 in
       set-only f n w g.0.weight.0 t z q.below q.gives
 
   -- .. and the only set of taken numbers with that XOR
-  pub given-only : (z : ℕ) → why_not n k y w t rs ≡ Given (Xor z) → (u : ℕ) → u < 2 ^ n → columns c n u ≡ t → u ≡ z
+  pub given-only : (z : ℕ) → why_not n k y w t rs ≡ Ok (Xor z) → (u : ℕ) → u < 2 ^ n → columns c n u ≡ t → u ≡ z
   given-only z e u h d =
       let g = told (Xor z) e in
       set-only f n w g.0.weight.0 t u h d ∙ sym (given-sigma z e)
 
   -- each number of it has no smaller R than t; at equal R it has no more one-bits, and with as many it is the smaller number
-  pub given-ahead : (z : ℕ) → why_not n k y w t rs ≡ Given (Xor z) → (j : ℕ) → j < n → bit z j ≡ 1 → Ahead (shift f n) (c j) t
+  pub given-ahead : (z : ℕ) → why_not n k y w t rs ≡ Ok (Xor z) → (j : ℕ) → j < n → bit z j ≡ 1 → Ahead (shift f n) (c j) t
   given-ahead z e = xor-ahead f n w t z (given-first (Xor z) e).3
 
   -- the step named is the one whose bit alone is in sigma t
-  pub given-step : (step : ℕ) → why_not n k y w t rs ≡ Given (Taken step) → apply (at (sigma_of f n w)) n t ≡ 2 ^ (step - 1)
+  pub given-step : (step : ℕ) → why_not n k y w t rs ≡ Ok (Taken step) → apply (at (sigma_of f n w)) n t ≡ 2 ^ (step - 1)
   given-step step e =
       let g = told (Taken step) e in
       let held = (given-first (Taken step) e).2 in

@@ -1,6 +1,6 @@
 -- The disjoint list of a text, by the reader's answer: its refusal, or what disjoining the rows that the text says, which lie in working storage,
 -- comes to. Assumes nothing.
-use Rattle.std.specs.Prelude.{◌≡◌, List, map, ℕ, take}
+use Rattle.std.specs.Prelude.{◌≡◌, List, map, ℕ, take, Result, Ok, Err}
 use Rattle.std.proofs.Common.{sym, ap, ◌∙◌}
 use borrow.Author.Tests.{eq-eqb}
 use Rattle.block.specs.Limits.{given_rows, read_bytes}
@@ -13,20 +13,18 @@ use Rattle.block.specs.declared.Answer.{Answer}
 use Rattle.block.specs.declared.TextAnswer.{TextAnswer}
 use Rattle.block.specs.declared.Headings.{Headings}
 use Rattle.block.specs.declared.Refusal.{Refusal}
-use Rattle.block.specs.declared.Reading.{Reading}
-use Rattle.block.specs.declared.Reading.TheVariants.{Accepted, Refused}
 use Rattle.refusal_laws.specs.Verdicts.{then-refused, Written, not_written}
 use Rattle.text_work.specs.Work.{first_rows}
 use Rattle.text_work.specs.Reader.{reader-said, reader-some, reader-zero, reader-inputs, reader-outputs, reader-type, reader-rows}
 use Rattle.disjoin_text_work.specs.Work.{disjoin_in_verdict, disjoin_in}
 
-module _ (input text : List ℕ) (reading : Reading) (cut : text ≡ take read_bytes input)
+module _ (input text : List ℕ) (reading : Result Headings Refusal) (cut : text ≡ take read_bytes input)
     (answers : numbers reading ≡ read_text text given_rows) where
   abbrev u : Answer
   u = read_verdict text given_rows
 
   -- the reader refuses
-  pub text-refused : (f : Refusal) (l : List ℕ) → reading ≡ Refused f
+  pub text-refused : (f : Refusal) (l : List ℕ) → reading ≡ Err f
       → Written (disjoin_in_verdict input) (disjoin_in input) l (record { number = kind_number f.kind; a = f.a; b = f.b; count = 0 }) l
   unfolding disjoin_in_verdict
   text-refused f l e =
@@ -36,7 +34,7 @@ module _ (input text : List ℕ) (reading : Reading) (cut : text ≡ take read_b
       not_written (answer (kind_number f.kind) f.a f.b) (disjoin_in_verdict input) (disjoin_in input) l (said ∙ t)
       (λ z. some (sym (ap (λ (v : Answer). v.number) said) ∙ z))
 
-  module _ (h : Headings) (e : reading ≡ Accepted h) where
+  module _ (h : Headings) (e : reading ≡ Ok h) where
     -- the disjoint list, of the rows in storage
     pub text-accepted : (m v d m' v' d' : List ℕ) → m' ≡ stored u (map mask_part (rows_in text)) m
         → v' ≡ stored u (map values_part (rows_in text)) v → d' ≡ stored u (map word_part (rows_in text)) d

@@ -12,7 +12,7 @@ ghost use Rattle.block.specs.Text.{text_of, with_bytes};
 ghost use Rattle.block.specs.Overlaps.{disjoined, disjoin_typed_verdict};
 ghost use Rattle.disjoin_text_work.specs.Work.{disjoin_in_verdict, disjoin_in};
 
-use block::{FD, FR, GIVEN_ROWS, READ_BYTES, Reading, TextAnswer};
+use block::{FD, FR, GIVEN_ROWS, READ_BYTES, TextAnswer};
 
 // Writes the disjoint list of a list as row text to the front of out, or refuses.
 pub fn disjoin_list(
@@ -84,7 +84,7 @@ pub fn disjoin_text(input: &[u8], out: &mut [u8]) -> TextAnswer
     let mut words = [0u32; GIVEN_ROWS];
     let reading = reading::read_text(text, &mut masks, &mut values, &mut words);
     match reading {
-        Reading::Refused(r) => {
+        Err(r) => {
             let kind = r.kind;
             TextAnswer {
                 number: read_kinds::kind_number(kind),
@@ -93,7 +93,7 @@ pub fn disjoin_text(input: &[u8], out: &mut [u8]) -> TextAnswer
                 count: 0,
             }
         }
-        Reading::Accepted(h) => {
+        Ok(h) => {
             let count = h.count;
             disjoin_list(
                 h.n,

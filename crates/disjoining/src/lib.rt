@@ -32,12 +32,7 @@ pub fn disjoin_rows(
     );
     let v = row_checks::disjoin_checked(n, k, masks, values, words, room);
     if v.number != 0 {
-        return DisjoinAnswer {
-            number: v.number,
-            a: v.a,
-            b: v.b,
-            count: 0,
-        };
+        return DisjoinAnswer::from(v);
     }
     let count = region_work::put_disjoint(
         n,

@@ -13,12 +13,9 @@ use block::Answer;
 pub fn driven_in(words: &[u32]) -> u32
     ensures { Gathered words.now result }
 {
-    let p = words.len();
     let mut all: u32 = 0;
-    let mut rows = p;
-    while 0 < rows {
-        all |= words[p - rows];
-        rows -= 1;
+    for word in words {
+        all |= *word;
     }
     all
 }
@@ -29,13 +26,10 @@ pub fn undriven_in(k: usize, words: &[u32]) -> usize
     ensures { result ≡ undriven k words.now }
 {
     let all = driven_in(words);
-    let mut left = k;
-    while 0 < left {
-        let j = k - left;
+    for j in 0..k {
         if bit_work::bit_of(all, j) == 0 {
             return j;
         }
-        left -= 1;
     }
     k
 }

@@ -12,10 +12,10 @@ pub fn is_as_due(rt: &impl Files, path: &[u8], due: &[u8]) -> bool {
     let written = import_files::read_file(rt, path, &mut text);
     let mut other = [0u8; MODEL_ROOM + 1];
     let expected = import_files::read_file(rt, due, &mut other);
-    if written.error != 0 || expected.error != 0 {
-        return false;
+    match (written, expected) {
+        (Ok(m), Ok(n)) => text[..m] == other[..n],
+        _ => false,
     }
-    saying::is_same(&text[..written.length], &other[..expected.length])
 }
 
 // Says whether the file has the bytes of the other.
@@ -32,9 +32,8 @@ pub fn say_as_due(rt: &impl Files, path: &[u8], due: &[u8]) {
 pub fn say_gone(rt: &impl Files, path: &[u8]) {
     let mut text = [0u8; 1];
     say(path);
-    if import_files::read_file(rt, path, &mut text).error == ENOENT {
-        say(b" is not there\n");
-    } else {
-        say(b" is there\n");
+    match import_files::read_file(rt, path, &mut text) {
+        Err(ENOENT) => say(b" is not there\n"),
+        _ => say(b" is there\n"),
     }
 }

@@ -12,9 +12,7 @@ pub fn highest_bit(n: usize, y: u32) -> usize
     requires { n ≤ list_inputs }
     ensures { result ≡ highest n y }
 {
-    let mut m = n;
-    while 0 < m {
-        m -= 1;
+    for m in (0..n).rev() {
         if bit_work::bit_of(y, m) == 1 {
             return m;
         }
@@ -23,6 +21,7 @@ pub fn highest_bit(n: usize, y: u32) -> usize
 }
 
 // The position that is exchanged with k, for the chosen number y in the coordinates reached.
+#[tactic(auto, unfolding(block::specs::Rows::partner))]
 pub fn partner_of(n: usize, k: usize, y: u32) -> usize
     requires { (k < n) × (n ≤ list_inputs) }
     ensures { result ≡ partner n k y }
@@ -34,6 +33,7 @@ pub fn partner_of(n: usize, k: usize, y: u32) -> usize
 }
 
 // y with positions k and h exchanged.
+#[tactic(auto, unfolding(block::specs::Rows::exchange))]
 pub fn exchange_bits(k: usize, h: usize, y: u32) -> u32
     requires { (k < list_inputs) × (h < list_inputs) }
     ensures { result ≡ exchange k h y }

@@ -17,48 +17,32 @@ pub const FILE_KIND: u32 = 0o100000;
 
 pub const FOLDER_KIND: u32 = 0o040000;
 
-// What is known of a file: 0 or else why nothing is, the numbers by which the system tells files apart, its kind and permissions.
+// What is known of a file: the numbers by which the system tells files apart, its kind and permissions.
 #[derive(Clone, Copy)]
 pub struct Facts {
-    pub status: i32,
     pub device: u64,
     pub inode: u64,
     pub mode: u32,
 }
 
-// Where nothing is known, why.
-pub fn blank(status: i32) -> Facts {
-    Facts {
-        status,
-        device: 0,
-        inode: 0,
-        mode: 0,
-    }
-}
-
 // Of what the system says, what an import asks.
 pub fn taken(said: Metadata) -> Facts {
     Facts {
-        status: 0,
         device: said.dev(),
         inode: said.ino(),
         mode: said.mode(),
     }
 }
 
-// What the system knows of the file that a path leads to.
-pub fn look(rt: &impl Files, path: &[u8]) -> Facts {
-    match saying::path_of(path) {
-        Ok(text) => match fs::metadata(rt, text) {
-            Ok(said) => taken(said),
-            Err(error) => blank(saying::number_of(error)),
-        },
-        Err(status) => blank(status),
-    }
+// What the system knows of the file that a path leads to, where it knows anything.
+pub fn look(rt: &impl Files, path: &[u8]) -> Option<Facts> {
+    let text = saying::path_of(path).ok()?;
+    let said = fs::metadata(rt, text).ok()?;
+    Some(taken(said))
 }
 
 // What the system knows of the file of this name.
-pub fn facts_of(rt: &impl Files, name: &[u8]) -> Facts
+pub fn facts_of(rt: &impl Files, name: &[u8]) -> Option<Facts>
     requires { length name.now ≤ name_most }
 {
     let mut path = [0u8; PATH_ROOM];
@@ -67,26 +51,33 @@ pub fn facts_of(rt: &impl Files, name: &[u8]) -> Facts
 }
 
 // Whether there is a file at all, and it is no folder, pipe, device or socket.
-pub fn is_file(facts: Facts) -> bool {
-    if facts.status != 0 {
-        return false;
+pub fn is_file(facts: Option<Facts>) -> bool {
+    match facts {
+        Some(known) => known.mode & KIND_BITS == FILE_KIND,
+        None => false,
     }
-    facts.mode & KIND_BITS == FILE_KIND
 }
 
 // Whether a reader could wait for ever: neither a file nor a folder is there, but a pipe, a device or a socket.
-pub fn is_waited_for(facts: Facts) -> bool {
-    if facts.status != 0 {
-        return false;
+pub fn is_waited_for(facts: Option<Facts>) -> bool {
+    match facts {
+        Some(known) => !matches!(known.mode & KIND_BITS, FILE_KIND | FOLDER_KIND),
+        None => false,
     }
-    let kind = facts.mode & KIND_BITS;
-    kind != FILE_KIND && kind != FOLDER_KIND
 }
 
 // Whether two names lead to one file.
-pub fn is_one(a: Facts, b: Facts) -> bool {
-    if a.status != 0 || b.status != 0 {
-        return false;
+pub fn is_one(a: Option<Facts>, b: Option<Facts>) -> bool {
+    match (a, b) {
+        (Some(a), Some(b)) => a.device == b.device && a.inode == b.inode,
+        _ => false,
     }
-    a.device == b.device && a.inode == b.inode
+}
+
+// The permissions of a file with its kind; none where nothing is known of it.
+pub fn mode_of(facts: Option<Facts>) -> u32 {
+    match facts {
+        Some(known) => known.mode,
+        None => 0,
+    }
 }

@@ -17,11 +17,7 @@ fn clear(size: usize, missing: u16, out: &mut [u16])
     requires { size ≤ length out.old }
     ensures { out.new ≡ over (tab size (λ _. missing)) out.old }
 {
-    let mut x: usize = 0;
-    while x < size {
-        out[x] = missing;
-        x += 1;
-    }
+    out[..size].fill(missing);
 }
 
 // The row's word at each point under the row: its values at the fixed inputs, and at the free ones each part of them in turn, from the
@@ -32,6 +28,7 @@ fn put_row(n: usize, mask: u32, values: u32, word: u16, out: &mut [u16])
 {
     let free = (bit_work::power(n) - 1) ^ mask;
     let mut part = free;
+    // A while: the next part is the greatest below this one, and mostly not one less.
     while 0 < part {
         out[(values ^ part) as usize] = word;
         part = free & (part - 1);
@@ -54,9 +51,7 @@ pub fn fill_rows(
     ensures { out.new ≡ over (filled missing n (rows_of masks.now values.now words.now)) out.old }
 {
     clear(bit_work::size(n), missing as u16, out);
-    let mut i = masks.len();
-    while 0 < i {
-        i -= 1;
+    for i in (0..masks.len()).rev() {
         put_row(n, masks[i], values[i], words[i] as u16, out);
     }
 }

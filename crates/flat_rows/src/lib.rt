@@ -29,16 +29,7 @@ pub fn row_count(masks: &[u32], values: &[u32], words: &[u32]) -> usize
 pub fn least_room(masks: usize, values: usize, words: usize) -> usize
     ensures { result ≡ min masks (min values words) }
 {
-    if values < words {
-        if masks < values {
-            return masks;
-        }
-        return values;
-    }
-    if masks < words {
-        return masks;
-    }
-    words
+    masks.min(values.min(words))
 }
 
 // Whether x is below 2^n.
@@ -50,20 +41,12 @@ pub fn is_below(x: u32, n: usize) -> bool
 }
 
 // Whether a row is malformed.
+#[tactic(auto, unfolding(block::specs::Refusals::bad_row))]
 pub fn is_bad_row(n: usize, k: usize, mask: u32, values: u32, word: u32) -> bool
     requires { (n ≤ list_inputs) × (k ≤ outputs) }
     ensures { result ≡ bad_row n k (row mask values word) }
 {
-    if !is_below(mask, n) {
-        return true;
-    }
-    if !is_below(values, n) {
-        return true;
-    }
-    if !is_below(word, k) {
-        return true;
-    }
-    mask & values != values
+    !is_below(mask, n) || !is_below(values, n) || !is_below(word, k) || mask & values != values
 }
 
 // The least malformed row, or the number of rows where there is none.
@@ -72,14 +55,12 @@ pub fn first_bad_row(n: usize, k: usize, masks: &[u32], values: &[u32], words: &
     requires values_len { (length values.now ≡ length masks.now) × (length words.now ≡ length masks.now) }
     ensures { result ≡ first (length (rows_of masks.now values.now words.now)) (λ i. bad_row n k (row_at (rows_of masks.now values.now words.now) i)) }
 {
-    let mut i = 0;
-    while i < masks.len() {
+    for i in 0..masks.len() {
         if is_bad_row(n, k, masks[i], values[i], words[i]) {
             return i;
         }
-        i += 1;
     }
-    i
+    masks.len()
 }
 
 // 6: no row is malformed.

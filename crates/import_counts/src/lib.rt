@@ -1,59 +1,56 @@
 // The counts of a bulk import: what became of each file, how far the import is, and what is said at its end. All functions here are inner.
-// What became of a file is a number: 0, 1 and 2 for a sheet, as the crate import_sheets counts them, and then those below. What became of
-// its model is a number too, which counts from 8: 0, 1 and 2 in the same way, and 3 where there is none.
 #![tactic(auto)]
 
-ghost use Rattle.std.specs.Prelude.{◌<◌, ◌≤◌};
-
 use import_says::{say_kind, say_name};
+use import_sheets::Became;
 use saying::{STANDARD_ERROR, STANDARD_OUTPUT, say};
 use std::env::Env;
 use std::io::IsTerminal;
 
-pub const REFUSED: usize = 3;
-
-pub const UNREAD: usize = 4;
-
-pub const UNWRITTEN: usize = 5;
-
-pub const PASSED: usize = 6;
-
-// A sheet is there, and the model that was asked for can't be written.
-pub const UNMODELLED: usize = 7;
-
-pub const NO_MODEL: usize = 3;
-
-// How many counts there are: of each of these numbers.
-pub const COUNTS: usize = 12;
-
-// What became of a file.
-#[derive(Drop)]
-pub struct Done {
-    pub became: usize,
-    pub model: usize,
+// What became of a file: its sheet is there, and its model where that was asked for, or it was refused, not read, not written or passed over,
+// or its sheet is there and the model that was asked for can't be written.
+#[derive(Clone, Copy)]
+pub enum Done {
+    Written {
+        sheet: Became,
+        model: Option<Became>,
+    },
+    Refused,
+    Unread,
+    Unwritten,
+    Passed,
+    Unmodelled,
 }
 
-// Of a file that gets no model.
-pub fn only(became: usize) -> Done
-    requires { became ≤ 7 }
-    ensures became_bound { result.became ≤ 7 }
-    ensures model_bound { result.model ≤ 3 }
-{
-    Done {
-        became,
-        model: NO_MODEL,
-    }
+// How many sheets or models became what.
+#[derive(Clone, Copy, Default)]
+pub struct Kinds {
+    pub new: usize,
+    pub changed: usize,
+    pub unchanged: usize,
+}
+
+// How many files became what.
+#[derive(Clone, Copy, Default)]
+pub struct Counts {
+    pub sheets: Kinds,
+    pub models: Kinds,
+    pub refused: usize,
+    pub unread: usize,
+    pub unwritten: usize,
+    pub passed: usize,
+    pub unmodelled: usize,
 }
 
 // How many of the lists without a current sheet, and of those without a current model, are named at the end.
 pub const LEFT_NAMED: usize = 1000;
 
 // Says what a sheet or model became.
-pub fn say_became(became: usize) {
+pub fn say_became(became: Became) {
     match became {
-        import_sheets::NEW => say(b" new"),
-        import_sheets::CHANGED => say(b" changed"),
-        _ => say(b" unchanged"),
+        Became::New => say(b" new"),
+        Became::Changed => say(b" changed"),
+        Became::Unchanged => say(b" unchanged"),
     }
 }
 
@@ -75,11 +72,6 @@ pub fn show_progress(watched: bool, done: usize, all: usize) {
     }
 }
 
-// Whether a list has no sheet of its present bytes.
-pub fn is_left(became: usize) -> bool {
-    became == REFUSED || became == UNREAD || became == UNWRITTEN
-}
-
 // Says that there is none that is current.
 pub fn say_none(model: bool) {
     say(b"no current ");
@@ -95,67 +87,74 @@ pub fn keep_left(left: &mut [usize; LEFT_NAMED], count: usize, i: usize) {
 }
 
 // How many lists have no sheet of their present bytes.
-pub fn left_of(counts: &[usize; COUNTS]) -> usize {
-    let unread = std::num::wrapping_add_usize(counts[UNREAD], counts[UNWRITTEN]);
-    std::num::wrapping_add_usize(counts[REFUSED], unread)
+pub fn left_of(counts: &Counts) -> usize {
+    counts
+        .refused
+        .wrapping_add(counts.unread)
+        .wrapping_add(counts.unwritten)
 }
 
 // Counts one more.
-pub fn add_one(counts: &mut [usize; COUNTS], what: usize)
-    requires { what < 12 }
-{
-    counts[what] = std::num::wrapping_add_usize(counts[what], 1);
+pub fn add_one(count: &mut usize) {
+    *count = count.wrapping_add(1);
+}
+
+pub fn add_kind(kinds: &mut Kinds, became: Became) {
+    match became {
+        Became::New => add_one(&mut kinds.new),
+        Became::Changed => add_one(&mut kinds.changed),
+        Became::Unchanged => add_one(&mut kinds.unchanged),
+    }
+}
+
+// Counts what became of a file.
+pub fn count_done(counts: &mut Counts, done: Done) {
+    match done {
+        Done::Written { sheet, model } => {
+            add_kind(&mut counts.sheets, sheet);
+            if let Some(became) = model {
+                add_kind(&mut counts.models, became);
+            }
+        }
+        Done::Refused => add_one(&mut counts.refused),
+        Done::Unread => add_one(&mut counts.unread),
+        Done::Unwritten => add_one(&mut counts.unwritten),
+        Done::Passed => add_one(&mut counts.passed),
+        Done::Unmodelled => add_one(&mut counts.unmodelled),
+    }
 }
 
 // Counts what became of the file that argument i names, and keeps its number where it has no sheet, or no model that was asked for.
 pub fn keep_done(
     i: usize,
     done: Done,
-    counts: &mut [usize; COUNTS],
+    counts: &mut Counts,
     left: &mut [usize; LEFT_NAMED],
     lacking: &mut [usize; LEFT_NAMED],
-)
-    requires became_bound { done.became ≤ 7 }
-    requires model_bound { done.model ≤ 3 }
-{
-    if is_left(done.became) {
-        keep_left(left, left_of(counts), i);
+) {
+    match done {
+        Done::Refused | Done::Unread | Done::Unwritten => keep_left(left, left_of(counts), i),
+        Done::Unmodelled => keep_left(lacking, counts.unmodelled, i),
+        Done::Written { .. } | Done::Passed => (),
     }
-    if done.became == UNMODELLED {
-        keep_left(lacking, counts[UNMODELLED], i);
-    }
-    add_one(counts, done.became);
-    add_one(counts, 8 + done.model);
+    count_done(counts, done);
 }
 
 // Names a list that has no current sheet or model.
 pub fn name_left(rt: &impl Env, i: usize, model: bool) {
     let mut name = io::buffer();
-    let length = saying::argument(rt, i, &mut name).length;
+    let length = saying::argument(rt, i, &mut name).unwrap_or(0);
     say_none(model);
     say_name(&name[..length]);
     say(b"\n");
 }
 
-// How many of them are named: as many as there was room to keep.
-pub fn kept_of(count: usize) -> usize
-    ensures upper_bound { result ≤ 1000 }
-    ensures upper_bound_2 { result ≤ count }
-{
-    if count < LEFT_NAMED {
-        count
-    } else {
-        LEFT_NAMED
-    }
-}
-
-// Names the lists that have no current sheet or model, so that they need not be searched for among many lines.
+// Names the lists that have no current sheet or model, so that they need not be searched for among many lines: as many as there was room to
+// keep.
 pub fn say_left(rt: &impl Env, model: bool, left: &[usize; LEFT_NAMED], count: usize) {
-    let kept = kept_of(count);
-    let mut j = 0;
-    while j < kept {
-        name_left(rt, left[j], model);
-        j += 1;
+    let kept = LEFT_NAMED.min(count);
+    for i in &left[..kept] {
+        name_left(rt, *i, model);
     }
     if kept < count {
         say_none(model);
@@ -172,28 +171,33 @@ pub fn say_count(what: &[u8], count: usize) {
 }
 
 // Says how many sheets or models there are, and how many of them became what.
-pub fn say_kinds(what: &[u8], new: usize, changed: usize, unchanged: usize) {
-    let older = std::num::wrapping_add_usize(changed, unchanged);
-    say_count(what, std::num::wrapping_add_usize(new, older));
-    say_count(b" (new ", new);
-    say_count(b", changed ", changed);
-    say_count(b", unchanged ", unchanged);
+pub fn say_kinds(what: &[u8], kinds: &Kinds) {
+    let all = kinds
+        .new
+        .wrapping_add(kinds.changed)
+        .wrapping_add(kinds.unchanged);
+    say_count(what, all);
+    say_count(b" (new ", kinds.new);
+    say_count(b", changed ", kinds.changed);
+    say_count(b", unchanged ", kinds.unchanged);
     say(b")");
 }
 
 // Says how many models became what.
-pub fn say_models(counts: &[usize; COUNTS]) {
-    say_kinds(b"models ", counts[8], counts[9], counts[10]);
+pub fn say_models(counts: &Counts) {
+    say_kinds(b"models ", &counts.models);
     say(b"\n");
 }
 
 // Says how many files became what, and whether that was taken. Where it was not, an earlier line may be missing too.
-pub fn say_counts(counts: &[usize; COUNTS]) -> bool {
-    say_kinds(b"sheets ", counts[0], counts[1], counts[2]);
-    say_count(b", refused ", counts[REFUSED]);
-    say_count(b", not read ", counts[UNREAD]);
-    let unwritten = std::num::wrapping_add_usize(counts[UNWRITTEN], counts[UNMODELLED]);
-    say_count(b", not written ", unwritten);
-    say_count(b", passed over ", counts[PASSED]);
+pub fn say_counts(counts: &Counts) -> bool {
+    say_kinds(b"sheets ", &counts.sheets);
+    say_count(b", refused ", counts.refused);
+    say_count(b", not read ", counts.unread);
+    say_count(
+        b", not written ",
+        counts.unwritten.wrapping_add(counts.unmodelled),
+    );
+    say_count(b", passed over ", counts.passed);
     io::write_all(STANDARD_OUTPUT, b"\n")
 }

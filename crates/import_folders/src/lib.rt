@@ -3,39 +3,27 @@
 #![tactic(auto)]
 
 ghost use Rattle.std.specs.Prelude.{◌≤◌, length};
-ghost use Rattle.io.specs.Counts.{IsPrefixLen};
 ghost use Rattle.import_paths.specs.Room.{name_most};
 
-use file_facts::facts_of;
+use file_facts::{Facts, facts_of};
 use import_paths::NAME_MOST;
-use saying::{argument, is_same, open_file};
+use saying::{argument, open_file};
 use std::env::Env;
 use std::fs::{Files, OpenFile};
 
-// Where the last part of a name begins, after the name of its folder.
-pub fn last_part(name: &[u8]) -> usize
-    ensures { IsPrefixLen result name.now }
-{
-    let mut start = name.len();
-    while 0 < start {
-        if name[start - 1] == b'/' {
-            break;
-        }
-        start -= 1;
+// The name of the folder, with the "/" at its end, and the last part of a name, after it.
+pub fn split_name(name: &[u8]) -> (&[u8], &[u8]) {
+    match name.iter().rposition(|b| *b == b'/') {
+        Some(slash) => name.split_at(slash + 1),
+        None => (b"", name),
     }
-    start
-}
-
-// The name of the folder, with the "/" at its end.
-pub fn folder_of(name: &[u8]) -> &[u8] {
-    &name[..last_part(name)]
 }
 
 // What the system knows of a folder; without a name it is the one that the program runs in.
-pub fn folder_facts(rt: &impl Files, folder: &[u8]) -> file_facts::Facts
+pub fn folder_facts(rt: &impl Files, folder: &[u8]) -> Option<Facts>
     requires { length folder.now ≤ name_most }
 {
-    if folder.len() == 0 {
+    if folder.is_empty() {
         return facts_of(rt, b".");
     }
     facts_of(rt, folder)
@@ -43,7 +31,7 @@ pub fn folder_facts(rt: &impl Files, folder: &[u8]) -> file_facts::Facts
 
 // Whether two names are of one folder. The system is asked only where they differ.
 pub fn is_one_folder(rt: &impl Files, a: &[u8], b: &[u8]) -> bool {
-    if is_same(a, b) {
+    if a == b {
         return true;
     }
     if a.len() > NAME_MOST || b.len() > NAME_MOST {
@@ -54,31 +42,27 @@ pub fn is_one_folder(rt: &impl Files, a: &[u8], b: &[u8]) -> bool {
 
 // Whether two names, as a.pla and ./a.pla, are one: the same last part in one folder. A link of another name is another list.
 pub fn is_one_name(rt: &impl Files, a: &[u8], b: &[u8]) -> bool {
-    let x = last_part(a);
-    let y = last_part(b);
-    if !is_same(&a[x..], &b[y..]) {
-        return false;
-    }
-    is_one_folder(rt, &a[..x], &b[..y])
+    let (a_folder, a_last) = split_name(a);
+    let (b_folder, b_last) = split_name(b);
+    a_last == b_last && is_one_folder(rt, a_folder, b_folder)
 }
 
 // Whether an earlier list is the same name.
 pub fn is_repeated(rt: &(impl Env + Files), i: usize, name: &[u8]) -> bool {
     let mut earlier = io::buffer();
-    let mut j = import_names::first_list(rt);
-    while j < i {
-        let given = argument(rt, j, &mut earlier);
-        if given.error == 0 && is_one_name(rt, &earlier[..given.length], name) {
-            return true;
+    for j in import_names::first_list(rt)..i {
+        if let Ok(length) = argument(rt, j, &mut earlier) {
+            if is_one_name(rt, &earlier[..length], name) {
+                return true;
+            }
         }
-        j += 1;
     }
     false
 }
 
 // Opens a folder to read, or answers why not.
 pub fn open_folder<R: Files>(rt: &R, folder: &[u8]) -> Result<R::File, i32> {
-    if folder.len() == 0 {
+    if folder.is_empty() {
         return open_file(rt, b".");
     }
     open_file(rt, folder)
@@ -94,19 +78,17 @@ pub fn sync_folder(rt: &impl Files, folder: &[u8]) {
 // Whether the argument after this one has the same folder, in the same words. After the last there is none.
 pub fn is_folder_next(rt: &impl Env, i: usize, folder: &[u8]) -> bool {
     let mut name = io::buffer();
-    let next = argument(rt, std::num::wrapping_add_usize(i, 1), &mut name);
-    if next.error != 0 {
-        return false;
+    match argument(rt, i.wrapping_add(1), &mut name) {
+        Ok(length) => split_name(&name[..length]).0 == folder,
+        Err(_) => false,
     }
-    is_same(folder_of(&name[..next.length]), folder)
 }
 
 // Syncs the folder of argument i where the next argument's is another: once for many lists of one folder.
 pub fn sync_after(rt: &(impl Env + Files), i: usize) {
     let mut name = io::buffer();
-    let given = argument(rt, i, &mut name);
-    if given.error == 0 {
-        let folder = folder_of(&name[..given.length]);
+    if let Ok(length) = argument(rt, i, &mut name) {
+        let (folder, _) = split_name(&name[..length]);
         if !is_folder_next(rt, i, folder) {
             sync_folder(rt, folder);
         }

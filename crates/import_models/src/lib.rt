@@ -8,8 +8,8 @@ ghost use Rattle.import_paths.specs.Room.{name_most};
 
 use block::MODEL_ROOM;
 use file_facts::Facts;
-use import_counts::{Done, UNMODELLED, only};
-use import_sheets::UNCHANGED;
+use import_counts::Done;
+use import_sheets::Became;
 use saying::say;
 use std::fs::Files;
 
@@ -17,13 +17,12 @@ use std::fs::Files;
 pub fn put_aside(rt: &impl Files, name: &[u8], model: bool)
     requires { length name.now ≤ name_most }
 {
-    let aside = import_sheets::set_aside(rt, name, model);
-    import_says::say_aside(name, model, aside.error, aside.k);
+    import_says::say_aside(name, model, import_sheets::set_aside(rt, name, model));
 }
 
 // Ends the line of a list that has no current sheet, and so no current model, with what became of an older model: it is set aside where
 // models are asked for, and else is left and told.
-pub fn end_model(rt: &impl Files, name: &[u8], list: Facts, models: bool)
+pub fn end_model(rt: &impl Files, name: &[u8], list: Option<Facts>, models: bool)
     requires { length name.now ≤ name_most }
 {
     if !models {
@@ -35,7 +34,7 @@ pub fn end_model(rt: &impl Files, name: &[u8], list: Facts, models: bool)
 }
 
 // Ends the line of a list whose sheet was refused or can't be written with what became of an older sheet and of an older model.
-pub fn end_older(rt: &impl Files, name: &[u8], list: Facts, models: bool)
+pub fn end_older(rt: &impl Files, name: &[u8], list: Option<Facts>, models: bool)
     requires { length name.now ≤ name_most }
 {
     put_aside(rt, name, false);
@@ -44,7 +43,7 @@ pub fn end_older(rt: &impl Files, name: &[u8], list: Facts, models: bool)
 
 // Ends the line of a list that can't be read: nothing is known of it, so its sheet and its model get their names back, and may be older
 // than the list.
-pub fn end_unread(rt: &impl Files, name: &[u8], list: Facts, models: bool)
+pub fn end_unread(rt: &impl Files, name: &[u8], list: Option<Facts>, models: bool)
     requires { length name.now ≤ name_most }
 {
     import_sheets::restore_before(rt, name, false, list);
@@ -57,63 +56,70 @@ pub fn end_unread(rt: &impl Files, name: &[u8], list: Facts, models: bool)
 }
 
 // Writes the model of a list, whose sheet became what is given.
-pub fn write_model(rt: &impl Files, name: &[u8], list: Facts, text: &[u8], became: usize) -> Done
-    requires name_len_bound { length name.now ≤ name_most }
-    requires became_bound { became ≤ 2 }
-    ensures became_bound_2 { result.became ≤ 7 }
-    ensures model_bound { result.model ≤ 3 }
+pub fn write_model(
+    rt: &impl Files,
+    name: &[u8],
+    list: Option<Facts>,
+    text: &[u8],
+    sheet: Became,
+) -> Done
+    requires { length name.now ≤ name_most }
 {
     let mut model = [0u8; MODEL_ROOM];
     let count = printing::print_model(text, &mut model);
-    let put = import_sheets::put_beside(rt, name, true, &model[..count], list.mode);
-    if put.error != 0 {
-        import_says::say_unwritten(name, true, put.error);
-        put_aside(rt, name, true);
-        return only(UNMODELLED);
-    }
-    say(b", model");
-    import_counts::say_became(put.became);
-    Done {
-        became,
-        model: put.became,
+    let mode = file_facts::mode_of(list);
+    match import_sheets::put_beside(rt, name, true, &model[..count], mode) {
+        Ok(became) => {
+            say(b", model");
+            import_counts::say_became(became);
+            Done::Written {
+                sheet,
+                model: Some(became),
+            }
+        }
+        Err(error) => {
+            import_says::say_unwritten(name, true, error);
+            put_aside(rt, name, true);
+            Done::Unmodelled
+        }
     }
 }
 
 // Writes the model that is asked for, unless its place is taken.
-pub fn import_model(rt: &impl Files, name: &[u8], list: Facts, text: &[u8], became: usize) -> Done
-    requires name_len_bound { length name.now ≤ name_most }
-    requires became_bound { became ≤ 2 }
-    ensures became_bound_2 { result.became ≤ 7 }
-    ensures model_bound { result.model ≤ 3 }
+pub fn import_model(
+    rt: &impl Files,
+    name: &[u8],
+    list: Option<Facts>,
+    text: &[u8],
+    sheet: Became,
+) -> Done
+    requires { length name.now ≤ name_most }
 {
     if import_says::say_block(rt, name, true, list) {
-        return only(UNMODELLED);
+        return Done::Unmodelled;
     }
-    write_model(rt, name, list, text, became)
+    write_model(rt, name, list, text, sheet)
 }
 
 // Ends the line of a list whose sheet is there, and became what is given. A model that was not asked for is older than a new sheet.
 pub fn end_written(
     rt: &impl Files,
     name: &[u8],
-    list: Facts,
+    list: Option<Facts>,
     text: &[u8],
-    became: usize,
+    sheet: Became,
     models: bool,
 ) -> Done
-    requires name_len_bound { length name.now ≤ name_most }
-    requires became_bound { became ≤ 2 }
-    ensures became_bound_2 { result.became ≤ 7 }
-    ensures model_bound { result.model ≤ 3 }
+    requires { length name.now ≤ name_most }
 {
     if models {
-        let done = import_model(rt, name, list, text, became);
+        let done = import_model(rt, name, list, text, sheet);
         say(b"\n");
         return done;
     }
-    if became != UNCHANGED {
+    if !matches!(sheet, Became::Unchanged) {
         import_says::say_older(rt, name, true, list);
     }
     say(b"\n");
-    only(became)
+    Done::Written { sheet, model: None }
 }

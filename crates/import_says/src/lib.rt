@@ -42,20 +42,13 @@ pub fn say_error(error: i32) {
     }
 }
 
-// An error's number, as the system counts them: none is below 0.
-pub fn error_number(error: i32) -> u64 {
-    if error < 0 {
-        return 0;
-    }
-    error as u64
-}
-
 // Says why: the words, and the system's number.
 pub fn say_why(error: i32) {
     say(b": ");
     say_error(error);
     say(b" (error");
-    saying::say_number(error_number(error));
+    // none is below 0
+    saying::say_number(u64::try_from(error).unwrap_or(0));
     say(b")");
 }
 
@@ -78,26 +71,29 @@ pub fn say_beside(name: &[u8], model: bool, ending: &[u8], k: usize)
     say_name(&path[..length]);
 }
 
-// Says what became of an older sheet or model: nothing where there was none.
-pub fn say_aside(name: &[u8], model: bool, error: i32, k: usize)
+// Says what became of an older sheet or model that was set aside: nothing where there was none.
+pub fn say_aside(name: &[u8], model: bool, aside: Result<Option<usize>, i32>)
     requires { length name.now ≤ name_most }
 {
-    if error == 0 && k == 0 {
-        return;
+    match aside {
+        Ok(None) => (),
+        Ok(Some(k)) => {
+            say(b"; the older ");
+            say_kind(model);
+            say(b" is now ");
+            say_beside(name, model, b".old", k);
+        }
+        Err(error) => {
+            say(b"; the older ");
+            say_kind(model);
+            say(b" could not be renamed");
+            say_why(error);
+        }
     }
-    say(b"; the older ");
-    say_kind(model);
-    if error != 0 {
-        say(b" could not be renamed");
-        say_why(error);
-        return;
-    }
-    say(b" is now ");
-    say_beside(name, model, b".old", k);
 }
 
 // Says that an older sheet or model has its name, where it has.
-pub fn say_older(rt: &impl Files, name: &[u8], model: bool, list: Facts)
+pub fn say_older(rt: &impl Files, name: &[u8], model: bool, list: Option<Facts>)
     requires { length name.now ≤ name_most }
 {
     if import_sheets::is_older(rt, name, model, list) {
@@ -138,17 +134,17 @@ pub fn say_unwritten(name: &[u8], model: bool, error: i32) {
 
 // Says what stands in the place of a sheet or model.
 pub fn say_standing(model: bool, what: Standing) {
-    if what.kind == import_sheets::ITSELF {
-        say(b" is the list itself");
-        return;
+    match what {
+        Standing::Itself => say(b" is the list itself"),
+        Standing::Unreadable(error) => {
+            say(b" can't be read");
+            say_why(error);
+        }
+        _ => {
+            say(b" is no ");
+            say_kind(model);
+        }
     }
-    if what.kind == import_sheets::UNREADABLE {
-        say(b" can't be read");
-        say_why(what.error);
-        return;
-    }
-    say(b" is no ");
-    say_kind(model);
 }
 
 // Says that a sheet or model can't be written for what stands in its place, which is left there.
@@ -163,16 +159,16 @@ pub fn say_kept(name: &[u8], model: bool, ending: &[u8], what: Standing)
 }
 
 // Says what keeps a list's sheet or model from being written, where something does.
-pub fn say_block(rt: &impl Files, name: &[u8], model: bool, list: Facts) -> bool
+pub fn say_block(rt: &impl Files, name: &[u8], model: bool, list: Option<Facts>) -> bool
     requires { length name.now ≤ name_most }
 {
     let own = standing_at(rt, name, model, list, b"");
-    if import_sheets::is_kept(own.kind) {
+    if import_sheets::is_kept(own) {
         say_kept(name, model, b"", own);
         return true;
     }
     let before = standing_at(rt, name, model, list, b".before");
-    if import_sheets::is_kept(before.kind) {
+    if import_sheets::is_kept(before) {
         say_kept(name, model, b".before", before);
         return true;
     }

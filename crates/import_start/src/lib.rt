@@ -28,12 +28,11 @@ pub fn tell_cut_short(rt: &(impl Env + Files), i: usize, name: &[u8], model: boo
 }
 
 // Removes what an import that was cut short did not finish, but not the list, should it be a link to that.
-pub fn remove_unfinished(rt: &impl Files, name: &[u8], model: bool, list: Facts)
+pub fn remove_unfinished(rt: &impl Files, name: &[u8], model: bool, list: Option<Facts>)
     requires { length name.now ≤ name_most }
 {
     let mut path = [0u8; PATH_ROOM];
-    let mut k = 1;
-    while k < NAMES_TRIED {
+    for k in 1..NAMES_TRIED {
         let length = import_paths::put_path(&mut path, name, model, b".new", k);
         if is_free(rt, &path[..length]) {
             return;
@@ -41,18 +40,23 @@ pub fn remove_unfinished(rt: &impl Files, name: &[u8], model: bool, list: Facts)
         if !file_facts::is_one(look(rt, &path[..length]), list) {
             import_files::remove_file(rt, &path[..length]);
         }
-        k += 1;
     }
 }
 
 // Starts the sheet or the model of one list. What stands in its place and is none is not touched, and nothing beside it is.
-pub fn start_beside(rt: &(impl Env + Files), i: usize, name: &[u8], model: bool, list: Facts)
+pub fn start_beside(
+    rt: &(impl Env + Files),
+    i: usize,
+    name: &[u8],
+    model: bool,
+    list: Option<Facts>,
+)
     requires { length name.now ≤ name_most }
 {
     if !import_sheets::is_blocked(rt, name, model, list) {
         tell_cut_short(rt, i, name, model);
         remove_unfinished(rt, name, model, list);
-        import_sheets::set_before(rt, name, model);
+        let _ = import_sheets::set_before(rt, name, model);
     }
 }
 
@@ -76,19 +80,17 @@ pub fn is_passed(name: &[u8]) -> bool {
 // Starts the list that argument i names, where it names one.
 pub fn start_argument(rt: &(impl Env + Files), i: usize, models: bool) {
     let mut name = io::buffer();
-    let given = saying::argument(rt, i, &mut name);
-    if given.error == 0 && !is_passed(&name[..given.length]) {
-        start_list(rt, i, &name[..given.length], models);
+    if let Ok(length) = saying::argument(rt, i, &mut name) {
+        if !is_passed(&name[..length]) {
+            start_list(rt, i, &name[..length], models);
+        }
     }
 }
 
 // Starts every list that the program was called with.
 pub fn start_all(rt: &(impl Env + Files), models: bool) {
-    let count = saying::argument_count(rt);
-    let mut i = import_names::first_list(rt);
-    while i < count {
+    for i in import_names::first_list(rt)..saying::argument_count(rt) {
         start_argument(rt, i, models);
         import_folders::sync_after(rt, i);
-        i += 1;
     }
 }

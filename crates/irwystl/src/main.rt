@@ -10,15 +10,14 @@
 // error; where a read fails nothing is printed, since the text is not known.
 #![tactic(auto)]
 
+ghost use Rattle.std.specs.Prelude.{IfOk};
 ghost use Rattle.io.specs.Counts.{IsPrefixLen};
 
-use arguments::{WhyCall, is_given};
+use arguments::WhyCall;
 use block::{
     LIST_INPUTS, MODEL_ROOM, ModelAnswer, OUTPUTS, READ_BYTES, SHEET_ROOM, TABLE_INPUTS, TEXT_ROOM,
 };
-use saying::{
-    STANDARD_ERROR, STANDARD_OUTPUT, part16, part32, say, say_bits, say_number, say_refused,
-};
+use saying::{STANDARD_ERROR, STANDARD_OUTPUT, part, say, say_bits, say_number, say_refused};
 use std::env::Env;
 use std::io::{Input, Read};
 
@@ -28,35 +27,21 @@ const MODEL_BYTES: usize = 262144;
 
 const MODEL_PATTERNS: usize = MODEL_BYTES / 4;
 
-// What was read: how many bytes, and 0, or why a read failed.
-#[derive(Drop)]
-struct TextRead {
-    error: i32,
-    length: usize,
-}
-
-// Reads until the text ends, as much of it as fits. `saying::read_full` does not tell an end from a read that failed, and to ask by one read
-// more would have a person at a terminal end the text twice.
-fn read_input(from: &mut impl Read, text: &mut [u8]) -> TextRead
-    ensures { IsPrefixLen result.length text.new }
+// Reads until the text ends, as much of it as fits, and answers how many bytes it put at the start, or why a read failed. `saying::read_full`
+// does not tell an end from a read that failed, and to ask by one read more would have a person at a terminal end the text twice.
+fn read_input(from: &mut impl Read, text: &mut [u8]) -> Result<usize, i32>
+    ensures { IfOk result (λ length. IsPrefixLen length text.new) }
 {
     let mut done = 0;
+    // a while: the step is what one read took
     while done < text.len() {
         match from.read(&mut text[done..]) {
             Ok(0) => break,
             Ok(more) => done += more,
-            Err(error) => {
-                return TextRead {
-                    error: saying::number_of(error),
-                    length: done,
-                };
-            }
+            Err(error) => return Err(saying::number_of(error)),
         }
     }
-    TextRead {
-        error: 0,
-        length: done,
-    }
+    Ok(done)
 }
 
 // Writes what is printed.
@@ -125,13 +110,10 @@ fn print_due(due: Due, text: &[u8]) {
 // Prints what is due of the list on standard input.
 fn answer_list(rt: &impl Input, due: Due) {
     let mut text = [0u8; READ_BYTES];
-    let input = read_input(&mut rt.reader(), &mut text);
-    if input.error != 0 {
-        saying::fail(b"irwystl: standard input can't be read", input.error);
-        return;
+    match read_input(&mut rt.reader(), &mut text) {
+        Ok(length) => print_due(due, &text[..length]),
+        Err(error) => saying::fail(b"irwystl: standard input can't be read", error),
     }
-    let length = input.length;
-    print_due(due, &text[..length]);
 }
 
 // Says that a model was read.
@@ -150,39 +132,24 @@ fn say_word(k: usize, word: u64) {
     say(b"\n");
 }
 
-// A point that was asked for, or none: `kind` is 0 where none was, 1 where x is it, and 2 where it is no number of this kind.
-#[derive(Drop)]
-struct Point {
-    kind: usize,
-    x: usize,
+// What is asked of a model: what it is, or its word at a point.
+#[derive(Clone, Copy)]
+enum Asked {
+    Model,
+    Word(usize),
 }
 
-// The point that the second argument names.
-fn asked_point(rt: &impl Env) -> Point {
+// What the arguments ask: nothing where the second is no number.
+fn asked_of(rt: &impl Env) -> Option<Asked> {
     if saying::argument_count(rt) < 3 {
-        return Point { kind: 0, x: 0 };
+        return Some(Asked::Model);
     }
-    let asked = arguments::number_at(rt, 2);
-    if !asked.known {
-        return Point { kind: 2, x: 0 };
-    }
-    Point {
-        kind: 1,
-        x: asked.value,
-    }
-}
-
-// The first k counts, or all of them.
-fn first_counts(counts: &[usize], k: usize) -> &[usize] {
-    if k < counts.len() {
-        &counts[..k]
-    } else {
-        counts
-    }
+    let point = arguments::number_at(rt, 2)?;
+    Some(Asked::Word(point))
 }
 
 // Reads a model, and says what it is, or its word at a point.
-fn answer_text(text: &[u8], point: Point) {
+fn answer_text(text: &[u8], asked: Asked) {
     let mut matrix = [0u32; LIST_INPUTS];
     let mut counts = [0usize; OUTPUTS];
     let mut masks = [0u32; MODEL_PATTERNS];
@@ -192,18 +159,18 @@ fn answer_text(text: &[u8], point: Point) {
         say_refused(r.number, r.a, r.b);
         return;
     }
-    if point.kind == 0 {
+    let Asked::Word(x) = asked else {
         say_model(r);
         return;
-    }
+    };
     let v = models::model_value(
         r.n,
         r.k,
-        point.x,
-        part32(&matrix, r.n),
-        first_counts(&counts, r.k),
-        part32(&masks, r.patterns),
-        part32(&values, r.patterns),
+        x,
+        part(&matrix, r.n),
+        part(&counts, r.k),
+        part(&masks, r.patterns),
+        part(&values, r.patterns),
     );
     if v.number != 0 {
         say_refused(v.number, v.a, v.b);
@@ -214,44 +181,38 @@ fn answer_text(text: &[u8], point: Point) {
 
 // Answers the model on standard input. One that is longer than what is read is not known, and so not answered.
 fn answer_model(rt: &(impl Env + Input)) {
-    let point = asked_point(rt);
-    if point.kind == 2 {
+    let Some(asked) = asked_of(rt) else {
         io::write_all(STANDARD_ERROR, b"irwystl: the point is no decimal number\n");
         return;
-    }
+    };
     let mut text = [0u8; MODEL_BYTES];
-    let input = read_input(&mut rt.reader(), &mut text);
-    if input.error != 0 {
-        saying::fail(b"irwystl: standard input can't be read", input.error);
-        return;
+    match read_input(&mut rt.reader(), &mut text) {
+        Ok(MODEL_BYTES) => {
+            io::write_all(
+                STANDARD_ERROR,
+                b"irwystl: the model has 262,144 bytes or more, and is not read\n",
+            );
+        }
+        Ok(length) => answer_text(&text[..length], asked),
+        Err(error) => saying::fail(b"irwystl: standard input can't be read", error),
     }
-    let length = input.length;
-    if length == MODEL_BYTES {
-        io::write_all(
-            STANDARD_ERROR,
-            b"irwystl: the model has 262,144 bytes or more, and is not read\n",
-        );
-        return;
-    }
-    answer_text(&text[..length], point);
 }
 
 // Says the symmetric block of the words that were given.
 fn answer_words(rt: &impl Env) {
     let mut words = [0u16; TABLE_INPUTS + 1];
-    let call = arguments::symmetric_call(rt, &mut words);
-    if !call.known {
+    let Some(call) = arguments::symmetric_call(rt, &mut words) else {
         io::write_all(
             STANDARD_ERROR,
             b"irwystl: --symmetric takes fr or fd or neither, the number of outputs, and a word for each count: decimal numbers, or - for no output\n",
         );
         return;
-    }
+    };
     symmetric_lines::say_block(
         call.count - 1,
         call.k,
         call.block_type,
-        part16(&words, call.count),
+        part(&words, call.count),
     );
 }
 
@@ -266,57 +227,41 @@ fn answer_symmetric(rt: &(impl Env + Input)) {
 
 // Answers --why, of the list on standard input.
 fn answer_why(rt: &(impl Env + Input)) {
-    let call = arguments::why_call(rt);
-    if !call.known {
+    let Some(call) = arguments::why_call(rt) else {
         io::write_all(
             STANDARD_ERROR,
             b"irwystl: --why takes a number and may take a weight limit, decimal numbers both\n",
         );
         return;
-    }
+    };
     answer_list(rt, Due::Why(call));
 }
 
-// Answers an option of a list, or of words.
-fn answer_option(rt: &(impl Env + Input)) {
-    if is_given(rt, 1, b"--blif") {
-        answer_list(rt, Due::Model);
-        return;
+// Answers an option.
+fn answer_option(rt: &(impl Env + Input), option: &[u8]) {
+    match option {
+        b"--model" => answer_model(rt),
+        b"--blif" => answer_list(rt, Due::Model),
+        b"--join" => answer_list(rt, Due::Joined),
+        b"--disjoint" => answer_list(rt, Due::Disjoint),
+        b"--shifts" => answer_list(rt, Due::Shifts),
+        b"--symmetric" => answer_symmetric(rt),
+        b"--why" => answer_why(rt),
+        _ => {
+            io::write_all(STANDARD_ERROR, b"irwystl: there is no such option\n");
+        }
     }
-    if is_given(rt, 1, b"--join") {
-        answer_list(rt, Due::Joined);
-        return;
-    }
-    if is_given(rt, 1, b"--disjoint") {
-        answer_list(rt, Due::Disjoint);
-        return;
-    }
-    if is_given(rt, 1, b"--shifts") {
-        answer_list(rt, Due::Shifts);
-        return;
-    }
-    if is_given(rt, 1, b"--symmetric") {
-        answer_symmetric(rt);
-        return;
-    }
-    if is_given(rt, 1, b"--why") {
-        answer_why(rt);
-        return;
-    }
-    io::write_all(STANDARD_ERROR, b"irwystl: there is no such option\n");
 }
 
-// Answers what the arguments ask.
+// Answers what the arguments ask. The first, where there is one, is an option.
 fn answer(rt: &(impl Env + Input)) {
     if saying::argument_count(rt) < 2 {
         answer_list(rt, Due::Sheet);
         return;
     }
-    if is_given(rt, 1, b"--model") {
-        answer_model(rt);
-        return;
-    }
-    answer_option(rt);
+    let mut option = io::buffer();
+    let length = saying::argument(rt, 1, &mut option).unwrap_or(0);
+    answer_option(rt, &option[..length]);
 }
 
 fn main(rt: HostRuntime) {

@@ -1,6 +1,6 @@
 -- The joined rows of a text, by the reader's answer: its refusal, or what joining the rows that the text says, which lie in working storage, comes
 -- to. Writing them adds no refusal: with no type line the type is fd, and the rest the reader has seen. Assumes nothing.
-use Rattle.std.specs.Prelude.{◌≡◌, List, map, ◌⊎◌, ℕ, ◌≤◌, length, take}
+use Rattle.std.specs.Prelude.{◌≡◌, List, map, ◌⊎◌, ℕ, ◌≤◌, length, take, Result, Ok, Err}
 use Rattle.std.proofs.Common.{sym, ap, ◌∙◌, inl, inr, arith}
 use borrow.Author.Tests.{eq-eqb}
 use Rattle.block.specs.Limits.{given_rows, read_bytes, text_room}
@@ -13,8 +13,6 @@ use Rattle.block.specs.declared.Answer.{Answer}
 use Rattle.block.specs.declared.TextAnswer.{TextAnswer}
 use Rattle.block.specs.declared.Headings.{Headings}
 use Rattle.block.specs.declared.Refusal.{Refusal}
-use Rattle.block.specs.declared.Reading.{Reading}
-use Rattle.block.specs.declared.Reading.TheVariants.{Accepted, Refused}
 use Rattle.refusal_laws.specs.Verdicts.{then-refused, Written, not_written}
 use Rattle.answered_laws.specs.Passed.{join-passed, join-answers}
 use Rattle.read_laws.specs.Front.{rows-count}
@@ -52,13 +50,13 @@ write-adds-none text room e h = adds_none v _ written
         joined-writable (inputs_in text) (outputs_in text) (type_in text) (type_line_in text) (rows_in text) room p few (type-known text) (fr-lined text) h
         ∙ sym (join-answers (inputs_in text) (outputs_in text) (rows_in text) p)
 
-module _ (input text : List ℕ) (reading : Reading) (cut : text ≡ take read_bytes input)
+module _ (input text : List ℕ) (reading : Result Headings Refusal) (cut : text ≡ take read_bytes input)
     (answers : numbers reading ≡ read_text text given_rows) where
   abbrev u : Answer
   u = read_verdict text given_rows
 
   -- the reader refuses
-  pub text-refused : (f : Refusal) (l : List ℕ) → reading ≡ Refused f
+  pub text-refused : (f : Refusal) (l : List ℕ) → reading ≡ Err f
       → Written (join_in_verdict input) (join_in input) l (record { number = kind_number f.kind; a = f.a; b = f.b; count = 0 }) l
   unfolding join_in_verdict
   text-refused f l e =
@@ -68,7 +66,7 @@ module _ (input text : List ℕ) (reading : Reading) (cut : text ≡ take read_b
       not_written (answer (kind_number f.kind) f.a f.b) (join_in_verdict input) (join_in input) l (said ∙ t)
       (λ z. some (sym (ap (λ (v : Answer). v.number) said) ∙ z))
 
-  module _ (h : Headings) (e : reading ≡ Accepted h) where
+  module _ (h : Headings) (e : reading ≡ Ok h) where
     -- the joined rows, of those in storage
     pub text-accepted : (m v d m' v' d' : List ℕ) → m' ≡ stored u (map mask_part (rows_in text)) m
         → v' ≡ stored u (map values_part (rows_in text)) v → d' ≡ stored u (map word_part (rows_in text)) d

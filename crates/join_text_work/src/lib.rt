@@ -11,7 +11,7 @@ ghost use Rattle.block.specs.Text.{text_of, write_verdict, with_bytes};
 ghost use Rattle.block.specs.Joins.{joined, join_verdict};
 ghost use Rattle.join_text_work.specs.Work.{join_in_verdict, join_in};
 
-use block::{GIVEN_ROWS, READ_BYTES, Reading, TextAnswer};
+use block::{GIVEN_ROWS, READ_BYTES, TextAnswer};
 
 // Joins the rows of a list in place and writes what is left of them as row text to the front of out, or refuses.
 pub fn join_list(
@@ -57,7 +57,7 @@ pub fn join_text(input: &[u8], out: &mut [u8]) -> TextAnswer
     let mut words = [0u32; GIVEN_ROWS];
     let reading = reading::read_text(text, &mut masks, &mut values, &mut words);
     match reading {
-        Reading::Refused(r) => {
+        Err(r) => {
             let kind = r.kind;
             TextAnswer {
                 number: read_kinds::kind_number(kind),
@@ -66,7 +66,7 @@ pub fn join_text(input: &[u8], out: &mut [u8]) -> TextAnswer
                 count: 0,
             }
         }
-        Reading::Accepted(h) => {
+        Ok(h) => {
             let count = h.count;
             join_list(
                 h.n,

@@ -19,16 +19,11 @@ pub struct Pair {
 }
 
 // Whether two rows are written as one: equal words, the same fixed inputs, and values that differ in exactly one.
+#[tactic(auto, unfolding(block::specs::Joins::joins))]
 pub fn is_joined(mask: u32, values: u32, word: u32, mask2: u32, values2: u32, word2: u32) -> bool
     ensures { result ≡ joins (row mask values word) (row mask2 values2 word2) }
 {
-    if word != word2 {
-        return false;
-    }
-    if mask != mask2 {
-        return false;
-    }
-    u32::count_ones(values ^ values2) == 1
+    word == word2 && mask == mask2 && u32::count_ones(values ^ values2) == 1
 }
 
 // The least of the first p rows that is written as one with row c, or p where there is none.
@@ -39,14 +34,12 @@ pub fn find_nearest(c: usize, p: usize, masks: &[u32], values: &[u32], words: &[
     let mask = masks[c];
     let value = values[c];
     let word = words[c];
-    let mut q = 0;
-    while q < p {
+    for q in 0..p {
         if is_joined(masks[q], values[q], words[q], mask, value, word) {
             return q;
         }
-        q += 1;
     }
-    q
+    p
 }
 
 // Row c and row q in their order.
@@ -70,12 +63,8 @@ pub fn close_up(numbers: &mut [u32], p: usize, j: usize)
     requires { (j < p) × (p ≤ length numbers.old) }
     ensures { Closed p j numbers.old numbers.new }
 {
-    let mut k = j;
-    while k + 1 < p {
-        numbers[k] = numbers[k + 1];
-        k += 1;
-    }
-    numbers[k] = 0;
+    numbers.copy_within(j + 1..p, j);
+    numbers[p - 1] = 0;
 }
 
 // Joins rows i and j, of p, in the place of i: those behind j close up, and the last record becomes all zeros.
@@ -115,6 +104,7 @@ pub fn join_all(masks: &mut [u32], values: &mut [u32], words: &mut [u32]) -> usi
     let mut count = masks.len();
     let mut c = 0;
     let mut seen = 1;
+    // A loop: each turn joins a pair or sees one row more, and only the search within a turn tells that no pair is left.
     loop {
         let q = find_nearest(c, count, masks, values, words);
         if q < count {

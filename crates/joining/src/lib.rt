@@ -23,18 +23,11 @@ pub fn join_rows(
 {
     let v = row_checks::join_verdict(n, k, masks, values, words);
     if v.number != 0 {
-        return JoinAnswer {
-            number: v.number,
-            a: v.a,
-            b: v.b,
-            count: 0,
-        };
+        return JoinAnswer::from(v);
     }
     let count = join_work::join_all(masks, values, words);
     JoinAnswer {
-        number: v.number,
-        a: v.a,
-        b: v.b,
         count,
+        ..JoinAnswer::from(v)
     }
 }

@@ -78,10 +78,8 @@ fn put_at(acc: &[u32], points: u32, less: u32, ts: &[u32], places: usize, out: &
     requires by_index_3 { (i : ℕ) → i < places → less ≤ points + at acc.now (at ts.now i) }
     ensures { out.new ≡ over (tab places (λ i. points + at acc.now (at ts.now i) - less)) out.old }
 {
-    let mut i: usize = 0;
-    while i < places {
+    for i in 0..places {
         out[i] = points + acc[ts[i] as usize] - less;
-        i += 1;
     }
 }
 

@@ -25,19 +25,12 @@ pub fn row_value(
     let missing = shared_checks::missing_word(block_type);
     let v = row_checks::row_value_verdict(n, k, block_type, t, masks, values, words);
     if v.number != 0 {
-        return ValueAnswer {
-            number: v.number,
-            a: v.a,
-            b: v.b,
-            value: 0,
-        };
+        return ValueAnswer::from(v);
     }
     let value = row_shifts::shift_of_rows(n, masks, values, words, missing, t as u32);
     ValueAnswer {
-        number: v.number,
-        a: v.a,
-        b: v.b,
         value: value as u64,
+        ..ValueAnswer::from(v)
     }
 }
 

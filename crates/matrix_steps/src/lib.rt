@@ -34,13 +34,11 @@ pub fn first_dependent(n: usize, rows: &[u32], m: &mut [u32]) -> usize
     ensures { result ≡ dependent n (at rows.now) }
 {
     matrix_work::put_units(m, n);
-    let mut j: usize = 0;
-    while j < n {
+    for j in 0..n {
         if matrix_work::apply_rows(m, n, rows[j]) < bit_work::power(j) {
             return j;
         }
         advance(m, n, j, rows[j]);
-        j += 1;
     }
-    j
+    n
 }

@@ -15,10 +15,8 @@ pub fn apply_rows(s: &[u32], n: usize, x: u32) -> u32
     ensures { result ≡ apply (at s.now) n x }
 {
     let mut r: u32 = 0;
-    let mut j: usize = 0;
-    while j < n {
-        r = r + bit_work::parity_of(s[j] & x) * bit_work::power(j);
-        j += 1;
+    for j in 0..n {
+        r += bit_work::parity_of(s[j] & x) * bit_work::power(j);
     }
     r
 }
@@ -31,10 +29,8 @@ fn double_images(c: &[u32], n: usize, i: usize, images: &mut [u32])
 {
     let column = c[i];
     let size = bit_work::size(i);
-    let mut z: usize = 0;
-    while z < size {
+    for z in 0..size {
         images[size + z] = images[z] ^ column;
-        z += 1;
     }
 }
 
@@ -44,10 +40,8 @@ pub fn put_images(c: &[u32], n: usize, images: &mut [u32])
     ensures { Images (at c.now) n (2 ^ n) images.new }
 {
     images[0] = 0;
-    let mut i: usize = 0;
-    while i < n {
+    for i in 0..n {
         double_images(c, n, i, images);
-        i += 1;
     }
 }
 
@@ -56,10 +50,8 @@ pub fn put_columns(s: &[u32], n: usize, c: &mut [u32])
     requires { (n ≤ length s.now) × (n ≤ list_inputs) × (n ≤ length c.old) }
     ensures { c.new ≡ over (tab n (λ j. apply (at s.now) n (2 ^ j))) c.old }
 {
-    let mut j: usize = 0;
-    while j < n {
+    for j in 0..n {
         c[j] = apply_rows(s, n, bit_work::power(j));
-        j += 1;
     }
 }
 
@@ -68,10 +60,8 @@ pub fn put_units(s: &mut [u32], n: usize)
     requires { (n ≤ length s.old) × (n ≤ list_inputs) }
     ensures { s.new ≡ over (tab n (λ j. 2 ^ j)) s.old }
 {
-    let mut j: usize = 0;
-    while j < n {
+    for j in 0..n {
         s[j] = bit_work::power(j);
-        j += 1;
     }
 }
 
@@ -80,10 +70,7 @@ pub fn exchange_rows(s: &mut [u32], n: usize, k: usize, h: usize)
     requires { (n ≤ length s.old) × (k < n) × (h < n) }
     ensures { s.new ≡ over (tab n (exchange_rows k h (at s.old))) s.old }
 {
-    let a = s[k];
-    let b = s[h];
-    s[h] = a;
-    s[k] = b;
+    s.swap(k, h);
 }
 
 // Row k added to the rows where v has a one.
@@ -92,9 +79,7 @@ pub fn shear_rows(s: &mut [u32], n: usize, k: usize, v: u32)
     ensures { s.new ≡ over (tab n (shear_rows k v (at s.old))) s.old }
 {
     let r = s[k];
-    let mut j: usize = 0;
-    while j < n {
+    for j in 0..n {
         s[j] = bit_work::xor_where(s[j], r, bit_work::bit_of(v, j));
-        j += 1;
     }
 }

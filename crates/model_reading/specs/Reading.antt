@@ -1,6 +1,6 @@
 -- The answer of the reader of models, and what the lent slices hold: how many lines end before a place, the checks for what was read, and
 -- that a second reading stores all that it holds. Assumes nothing.
-use Rattle.std.specs.Prelude.{◌≡◌, Bool, true, ◌||◌, List, [], ◌∷◌, ◌++◌, ℕ, ◌+◌, ◌≤◌, ◌<◌, min, eqb, ltb, length, get_or, take, drop}
+use Rattle.std.specs.Prelude.{◌≡◌, Bool, true, ◌||◌, List, [], ◌∷◌, ◌++◌, ℕ, ◌+◌, ◌≤◌, ◌<◌, min, eqb, ltb, length, get_or, take, drop, Result, Ok, Err}
 use Rattle.std.proofs.Math.Path.{refl, sym}
 use Rattle.std.proofs.Common.{ap, ◌∙◌, add-zero, zero-add, add-one, arith, lt-ltb, le-ltb, ltb-false, take-suc, take_all, take_at}
 use Rattle.std.proofs.Math.Bool.{false, not}
@@ -19,8 +19,6 @@ use Rattle.refusal_laws.specs.Verdicts.{verdict-hit, verdict-miss, verdict-none,
 use Rattle.read_laws.specs.Tests.{not-both}
 use Rattle.read_names.specs.Fate.{ends, ends-append}
 use Rattle.read_outputs.specs.Outputs.{masks_of, values_of}
-use Rattle.read_model.specs.declared.Model.{Model}
-use Rattle.read_model.specs.declared.Model.TheVariants.{Read, Broken}
 use Rattle.read_model.specs.Whole.{ModelHeld, ModelBroken, Modelled}
 
 -- ---- how many lines end before a place
@@ -142,13 +140,13 @@ enough rm rc rp n k total e = go (ltb rm n) refl (ltb rc k) refl (ltb rp total) 
     go false a false b false c d = (ltb-false rm n a, ltb-false rc k b, ltb-false rp total c)
 
 -- where the verdict is 0 the text is a model, and it fits
-pub all-stored : (text s₀ c₀ m₀ v₀ s c m v : List ℕ) (r : Model) → Modelled text s₀ c₀ m₀ v₀ s c m v r
+pub all-stored : (text s₀ c₀ m₀ v₀ s c m v : List ℕ) (r : Result (ℕ × ℕ × ℕ) ℕ) → Modelled text s₀ c₀ m₀ v₀ s c m v r
     → (read_model_verdict text (length s₀) (length c₀) (min (length m₀) (length v₀))).number ≡ 0 → Stored text s₀ c₀ m₀ v₀ s c m v
 unfolding Modelled read_model_verdict
-all-stored text s₀ c₀ m₀ v₀ s c m v (Broken to) h e =
+all-stored text s₀ c₀ m₀ v₀ s c m v (Err to) h e =
     let p = passes (check (not (is_whole (outcome_of text))) 10 (first_line + good_lines start (lines text)) 0) _ refl e in
     not-both (not (is_whole (outcome_of text))) (ap not h.broken) p.0
-all-stored text s₀ c₀ m₀ v₀ s c m v (Read n k total) h e =
+all-stored text s₀ c₀ m₀ v₀ s c m v (Ok (n, k, total)) h e =
     let p = passes (check (not (is_whole (outcome_of text))) 10 (first_line + good_lines start (lines text)) 0) _ refl e in
     let q = passes _ _ refl p.1 in
     let f : short (length s₀) (length c₀) (min (length m₀) (length v₀)) n k total ≡ false =

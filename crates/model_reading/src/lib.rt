@@ -3,9 +3,8 @@
 // are inner.
 #![tactic(auto)]
 
-ghost use Rattle.std.specs.Prelude.{◌≡◌, ℕ, ◌≤◌, ◌<◌, ◌^◌, min, eqb, length, take};
+ghost use Rattle.std.specs.Prelude.{◌≡◌, ℕ, ◌≤◌, ◌<◌, ◌^◌, length, take};
 ghost use Rattle.slices.specs.Places.{at};
-ghost use Rattle.sums.specs.Sums.{one};
 ghost use Rattle.block.specs.Limits.{list_inputs};
 ghost use Rattle.block.specs.Refusals.{verdict};
 ghost use Rattle.block.specs.ModelRead.{with_model, read_model};
@@ -14,31 +13,16 @@ ghost use Rattle.read_names.specs.Fate.{ends};
 ghost use Rattle.model_reading.specs.Reading.{short, rest_checks};
 
 use block::{LIST_INPUTS, ModelAnswer};
-use read_model::Model;
-
-// 1 where a byte is LF, and else 0.
-pub fn line_end(b: u8) -> usize
-    ensures value { result ≡ one (eqb b 10) }
-    ensures upper_bound { result ≤ 1 }
-{
-    if b == 10 { 1 } else { 0 }
-}
 
 // How many lines end before a place.
 pub fn lines_before(text: &[u8], at: usize) -> usize
     ensures value { result ≡ ends (take at text.now) }
     ensures upper_bound { result ≤ length text.now }
 {
-    let mut count = 0;
-    let mut i = 0;
-    while i < text.len() {
-        if at <= i {
-            return count;
-        }
-        count += line_end(text[i]);
-        i += 1;
-    }
-    count
+    text[..at.min(text.len())]
+        .iter()
+        .filter(|b| **b == 10)
+        .count()
 }
 
 // Whether some room is too short.
@@ -52,13 +36,7 @@ pub fn is_short(
 ) -> bool
     ensures { result ≡ short matrix_room counts_room patterns_room n k patterns }
 {
-    if matrix_room < n {
-        return true;
-    }
-    if counts_room < k {
-        return true;
-    }
-    patterns_room < patterns
+    matrix_room < n || counts_room < k || patterns_room < patterns
 }
 
 // 5, then 8, for a model that was read.
@@ -120,7 +98,7 @@ pub fn model_answer(
     let mut masks = [0u32; 1];
     let mut values = [0u32; 1];
     match read_model::read_model(text, &mut rows, &mut counts, &mut masks, &mut values) {
-        Model::Broken(bad) => ModelAnswer {
+        Err(bad) => ModelAnswer {
             number: 10,
             a: 1 + lines_before(text, bad),
             b: 0,
@@ -128,7 +106,7 @@ pub fn model_answer(
             k: 0,
             patterns: 0,
         },
-        Model::Read(n, k, patterns) => rest_answer(
+        Ok((n, k, patterns)) => rest_answer(
             matrix_room,
             counts_room,
             patterns_room,
@@ -138,13 +116,6 @@ pub fn model_answer(
             &rows[..n],
         ),
     }
-}
-
-// The lesser of two numbers.
-pub fn lesser(a: usize, b: usize) -> usize
-    ensures { result ≡ min a b }
-{
-    if a < b { a } else { b }
 }
 
 // Reads a model: its matrix, the number of patterns of each output, and the patterns of all outputs, to two slices of which the shorter is
@@ -159,11 +130,11 @@ pub fn read_lines(
     ensures { ReadModelPromise text.now matrix.old counts.old masks.old values.old result
         matrix.new counts.new masks.new values.new }
 {
-    let room = lesser(masks.len(), values.len());
+    let room = masks.len().min(values.len());
     let v = model_answer(text, matrix.len(), counts.len(), room);
     if v.number != 0 {
         return v;
     }
-    read_model::read_model(text, matrix, counts, masks, values);
+    let _ = read_model::read_model(text, matrix, counts, masks, values);
     v
 }

@@ -11,7 +11,7 @@ ghost use Rattle.block.specs.Model.{model_text, model_verdict, write_model};
 ghost use Rattle.text_work.specs.Work.{first_rows};
 ghost use Rattle.model_text_work.specs.Work.{model_in_verdict, model_in};
 
-use block::{GIVEN_ROWS, READ_BYTES, Reading, TextAnswer};
+use block::{GIVEN_ROWS, READ_BYTES, TextAnswer};
 
 // Writes the model of the list of the first `count` rows in storage, of a type, to the front of out, or refuses.
 pub fn model_rows(
@@ -56,7 +56,7 @@ pub fn model_text(input: &[u8], out: &mut [u8]) -> TextAnswer
     let mut words = [0u32; GIVEN_ROWS];
     let reading = reading::read_text(text, &mut masks, &mut values, &mut words);
     match reading {
-        Reading::Refused(r) => {
+        Err(r) => {
             let kind = r.kind;
             TextAnswer {
                 number: read_kinds::kind_number(kind),
@@ -65,7 +65,7 @@ pub fn model_text(input: &[u8], out: &mut [u8]) -> TextAnswer
                 count: 0,
             }
         }
-        Reading::Accepted(h) => model_rows(
+        Ok(h) => model_rows(
             h.n,
             h.k,
             h.block_type,

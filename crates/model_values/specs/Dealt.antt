@@ -2,7 +2,7 @@
 -- dealt to it. Assumes nothing.
 use Rattle.std.specs.Prelude.{◌≡◌, refl, Bool, true, false, cond, ◌||◌, List, [], ◌∷◌, ℕ, zero, suc, ◌+◌, ◌*◌, ◌^◌, ◌≤◌, ◌<◌, eqb, ltb, length, get_or, take, drop}
 use Rattle.std.proofs.Math.Path.{sym, ap}
-use Rattle.std.proofs.Common.{ap₂, ◌∙◌, arith, lt-ltb, le-ltb, ltb-true, ltb-false, length-drop, get_or-drop}
+use Rattle.std.proofs.Common.{◌∙◌, arith, lt-ltb, le-ltb, ltb-true, ltb-false, length-drop, get_or-drop}
 use Rattle.std.specs.Int.Bits.{bit_and}
 use Rattle.slices.specs.Places.{at, first}
 use Rattle.slices.specs.Least.{first_cong}

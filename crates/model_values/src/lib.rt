@@ -2,7 +2,7 @@
 // by the patterns that drive each output. The operation is `model_value` of the crate models. All functions here are inner.
 #![tactic(auto)]
 
-ghost use Rattle.std.specs.Prelude.{◌≡◌, not, ◌||◌, [], ◌∷◌, ◌+◌, ◌*◌, ◌^◌, ◌≤◌, ◌<◌, eqb, length};
+ghost use Rattle.std.specs.Prelude.{◌≡◌, not, ◌||◌, [], ◌∷◌, ◌+◌, ◌*◌, ◌^◌, ◌≤◌, ◌<◌, eqb, ltb, length};
 ghost use Rattle.slices.specs.Places.{first};
 ghost use Rattle.sums.specs.Sums.{one};
 ghost use Rattle.block.specs.Limits.{list_inputs, outputs};
@@ -29,13 +29,11 @@ pub fn is_total(counts: &[usize], count: usize) -> bool
     ensures { result ≡ eqb (total counts.now) count }
 {
     let mut rest = count;
-    let mut i: usize = 0;
-    while i < counts.len() {
-        if rest < counts[i] {
+    for c in counts {
+        if rest < *c {
             return false;
         }
-        rest -= counts[i];
-        i += 1;
+        rest -= *c;
     }
     rest == 0
 }
@@ -44,13 +42,7 @@ pub fn is_total(counts: &[usize], count: usize) -> bool
 pub fn is_unfit(rows: usize, n: usize, counts: &[usize], k: usize, count: usize) -> bool
     ensures { result ≡ not (eqb rows n) || (not (eqb (length counts.now) k) || not (eqb (total counts.now) count)) }
 {
-    if rows != n {
-        return true;
-    }
-    if counts.len() != k {
-        return true;
-    }
-    !is_total(counts, count)
+    rows != n || counts.len() != k || !is_total(counts, count)
 }
 
 // Whether a pattern is malformed: it is a row without a word.
@@ -66,14 +58,12 @@ pub fn first_bad_pattern(n: usize, count: usize, masks: &[u32], values: &[u32]) 
     requires { (n ≤ list_inputs) × (count ≤ length masks.now) × (count ≤ length values.now) }
     ensures { result ≡ first count (bad_at n masks.now values.now) }
 {
-    let mut i: usize = 0;
-    while i < count {
+    for i in 0..count {
         if is_bad_pattern(n, masks[i], values[i]) {
             return i;
         }
-        i += 1;
     }
-    i
+    count
 }
 
 // 6 for the patterns.
@@ -112,19 +102,17 @@ pub fn value_checked(
     then_patterns(matrix, n, count, masks, values)
 }
 
-// The first of `count` patterns from a place on that z lies under, or their number.
-pub fn first_driving(masks: &[u32], values: &[u32], from: usize, count: usize, z: u32) -> usize
+// Whether z lies under one of `count` patterns from a place on.
+pub fn is_driven(masks: &[u32], values: &[u32], from: usize, count: usize, z: u32) -> bool
     requires { (from + count ≤ length masks.now) × (from + count ≤ length values.now) }
-    ensures { result ≡ first count (λ i. driven_at masks.now values.now z (from + i)) }
+    ensures { result ≡ ltb (first count (λ i. driven_at masks.now values.now z (from + i))) count }
 {
-    let mut i: usize = 0;
-    while i < count {
+    for i in 0..count {
         if masks[from + i] & z == values[from + i] {
-            return i;
+            return true;
         }
-        i += 1;
     }
-    i
+    false
 }
 
 // A power where something holds, and else 0.
@@ -143,14 +131,11 @@ pub fn driven_word(k: usize, counts: &[usize], masks: &[u32], values: &[u32], z:
     let mut word: u32 = 0;
     let mut power: u32 = 1;
     let mut from: usize = 0;
-    let mut j: usize = 0;
-    while j < k {
+    for j in 0..k {
         let count = counts[j];
-        let i = first_driving(masks, values, from, count, z);
-        word += weighed(i < count, power);
+        word += weighed(is_driven(masks, values, from, count, z), power);
         power *= 2;
         from += count;
-        j += 1;
     }
     word
 }

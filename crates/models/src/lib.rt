@@ -57,12 +57,7 @@ pub fn model_value(
 {
     let v = model_values::value_checked(n, k, x, matrix, counts, masks, values);
     if v.number != 0 {
-        return ValueAnswer {
-            number: v.number,
-            a: v.a,
-            b: v.b,
-            value: 0,
-        };
+        return ValueAnswer::from(v);
     }
     let mut reached = [0u32; LIST_INPUTS];
     let j = matrix_steps::first_dependent(n, matrix, &mut reached);

@@ -1,6 +1,6 @@
 -- Bits, symbols and digits from the right, as the loops put them: the last one, behind those of the half or of the rest. Their
 -- lengths. Assumes nothing.
-use Rattle.std.specs.Prelude.{◌≡◌, refl, Bool, true, false, cond, List, [], ◌∷◌, ◌++◌, ℕ, zero, suc, ◌+◌, ◌-◌, ◌/◌, ◌%◌, ◌^◌, ◌≤◌, ◌<◌, ltb, length, set}
+use Rattle.std.specs.Prelude.{◌≡◌, refl, Bool, true, false, cond, List, [], ◌∷◌, ◌++◌, ℕ, zero, suc, ◌+◌, ◌-◌, ◌/◌, ◌%◌, ◌^◌, ◌≤◌, ◌<◌, ltb, length, set, ◌*◌, max}
 use Rattle.std.proofs.Common.{sym, ap, ap₂, ◌∙◌, pow-suc, add-one, arith, lt-ltb, le-ltb, ltb-true, length-append}
 use Rattle.std.proofs.Math.Decide.{dec_lt}
 use Rattle.std.proofs.lemmas.List.Edits.{sets}
@@ -8,6 +8,7 @@ use Rattle.bits.specs.Bit.{bit-zero, bit-suc}
 use Rattle.block.specs.Text.{digits, decimal, symbols, bits}
 use Rattle.block.specs.Model.{symbol_of}
 use Rattle.put_bytes.specs.Puts.{sets-append, sets-set}
+use Rattle.std.proofs.Math.Nat.{one-le-pow}
 
 -- the last digits of v in a base, so many of them
 unfoldable pub last_digits : ℕ → ℕ → ℕ → List ℕ
@@ -97,7 +98,7 @@ last-down l at base left v h =
 
 -- ---- how many decimal digits a number has
 
--- one step of the count
+-- a digit more than a tenth has
 places-step : (most v : ℕ) → 10 ≤ v → length (digits (suc most) v) ≡ length (digits most (v / 10)) + 1
 unfolding digits
 places-step most v h = rw (le-ltb v 10 h) (length-append (digits most (v / 10)) ((48 + v % 10) ∷ []))
@@ -115,6 +116,31 @@ pub places-turn : (m v : ℕ) → v < 10 ^ suc m → 10 ≤ v
     → (0 < m) × (v / 10 < 10 ^ m) × (length (digits (suc m) v) ≡ length (digits m (v / 10)) + 1)
 places-turn zero v h l = absurd (omega arith)
 places-turn (suc m) v h l = (omega arith, tenth (suc m) v h, places-step (suc m) v l)
+
+-- a number from 10^p to below 10^(p + 1) has p + 1 digits
+digits-power : (p most v : ℕ) → p < most → 10 ^ p ≤ v → v < 10 ^ suc p → length (digits most v) ≡ p + 1
+digits-power p zero v m l h = absurd (omega arith)
+digits-power zero (suc most) v m l h = places-one most v (omega (arith, pow-suc 10 0))
+digits-power (suc p) (suc most) v m l h =
+    let one = one-le-pow p 10 (omega arith) in
+    let less : 10 ^ p ≤ v / 10 = omega (arith, pow-suc 10 p) in
+    omega (
+      arith,
+      places-step most v (omega (arith, pow-suc 10 p)),
+      digits-power p most (v / 10) (omega arith) less (tenth (suc p) v h),
+    )
+
+-- so the power of ten that a number reaches tells how many it has; 0 has one, as 1 has
+pub decimal-power : (v m p : ℕ) → m ≡ max v 1 → p < 20 → 10 ^ p ≤ m → m < 10 * 10 ^ p → p + 1 ≡ length (decimal v)
+decimal-power v m p e b l h = go (dec_lt v 1)
+  where
+    one-of : v < 1 → (p : ℕ) → 10 ^ p ≤ m → p ≡ 0
+    one-of z zero l = refl
+    one-of z (suc q) l = let one = one-le-pow q 10 (omega arith) in absurd (omega (arith, pow-suc 10 q))
+
+    go : Dec (v < 1) → p + 1 ≡ length (decimal v)
+    go (yes z) = omega (arith, one-of z p l, places-one 19 v (omega arith))
+    go (no n) = omega (arith, digits-power p 20 v b (omega arith) (omega (arith, pow-suc 10 p)))
 
 -- a number below 10^(d + 1) has at most d + 1 digits
 digits_le : (d most v : ℕ) → v < 10 ^ suc d → length (digits most v) ≤ suc d

@@ -1,7 +1,7 @@
 -- The contract of every function that puts text, and its laws: two puts, one after the other, are one; a put of nothing; the rows
 -- of flat slices, one more at a time. Not here: what bits, symbols and digits are (block's `Text`). Assumes nothing.
-use Rattle.std.specs.Prelude.{◌≡◌, refl, List, [], ◌∷◌, ◌++◌, ℕ, suc, ◌+◌, ◌≤◌, ◌<◌, length, set, get_or, take, drop}
-use Rattle.std.proofs.Common.{sym, ap, ◌∙◌, append_assoc, append-nil, add-zero, zero-add, add-one, arith, length-append, take-suc, length-take-le}
+use Rattle.std.specs.Prelude.{◌≡◌, refl, List, [], ◌∷◌, ◌++◌, ℕ, suc, ◌+◌, ◌≤◌, ◌<◌, length, set, get_or, take, drop, ◌-◌}
+use Rattle.std.proofs.Common.{sym, ap, ◌∙◌, append_assoc, append-nil, add-zero, zero-add, add-one, arith, length-append, take-suc, length-take-le, drop-drop}
 use Rattle.std.proofs.lemmas.List.Edits.{sets, sets-eq}
 use Rattle.std.proofs.lemmas.List.{set_comm}
 use Rattle.slices.specs.Places.{at, tab, over}
@@ -10,6 +10,7 @@ use Rattle.block.specs.Words.{row}
 use Rattle.block.specs.Text.{row_line, row_lines}
 use Rattle.block.specs.declared.Row.{Row}
 use Rattle.flat_rows.specs.Listing.{rows_from}
+use borrow.Rule.Slice.PartMut.{put_mid}
 
 -- one run of stores after the other is a run of both
 pub sets-append : (a b l : List ℕ) (i j : ℕ) → j ≡ i + length a → sets (sets l i a) j b ≡ sets l i (a ++ b)
@@ -44,6 +45,12 @@ pub copy_more : (l s : List ℕ) (at i : ℕ) → i < length s → i ≤ length 
 copy_more l s at i h k =
     sets-append (take i s) (get_or s i 0 ∷ []) l at (at + i) (ap (λ (j : ℕ). at + j) (sym (length-take-le i s k)))
     ∙ ap (λ (t : List ℕ). sets l at t) (sym (take-suc s i 0 h) ∙ ap (λ (j : ℕ). take j s) (sym (add-one i)))
+
+-- a copy onto a part is a run of stores
+pub copied : (l s w : List ℕ) (at : ℕ) → at + length s ≤ length l → w ≡ s → put_mid at (at + length s - at) l w ≡ sets l at s
+copied l s w at h e =
+    let k : at + length s - at ≡ length s = omega arith in
+    rw (e, k, drop-drop (length s) at l, sets-eq s l at h) (sym (append_assoc (take at l) s (drop (at + length s) l)))
 
 -- ---- the lines of rows
 

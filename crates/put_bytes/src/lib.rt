@@ -25,24 +25,20 @@ pub fn put_bytes(out: &mut [u8], at: usize, s: &[u8]) -> usize
     requires { at + length s.now ≤ length out.old }
     ensures { Put out.old at s.now out.new result }
 {
-    let mut i = 0;
-    while i < s.len() {
-        out[at + i] = s[i];
-        i += 1;
-    }
-    at + i
+    let end = at + s.len();
+    out[at..end].copy_from_slice(s);
+    end
 }
 
-// Puts the last count digits of v in a base, highest first.
+// Puts the last count digits of v in a base, highest first: by hand, since the promise is over the bytes of a lent slice, and the library's
+// printing says nothing of bytes.
 pub fn put_digits(out: &mut [u8], at: usize, base: usize, count: usize, v: usize) -> usize
     requires { (0 < base) × (base ≤ 10) × (at + length (last_digits base count v) ≤ length out.old) }
     ensures { Put out.old at (last_digits base count v) out.new result }
 {
-    let mut left = count;
     let mut rest = v;
-    while 0 < left {
-        left -= 1;
-        out[at + left] = (48 + rest % base) as u8;
+    for i in (0..count).rev() {
+        out[at + i] = (48 + rest % base) as u8;
         rest /= base;
     }
     at + count
@@ -72,12 +68,10 @@ pub fn put_symbols(out: &mut [u8], at: usize, n: usize, mask: u32, values: u32) 
     requires { at + length (symbols n mask values) ≤ length out.old }
     ensures { Put out.old at (symbols n mask values) out.new result }
 {
-    let mut left = n;
     let mut m = mask;
     let mut v = values;
-    while 0 < left {
-        left -= 1;
-        out[at + left] = symbol(m % 2, v % 2);
+    for i in (0..n).rev() {
+        out[at + i] = symbol(m % 2, v % 2);
         m /= 2;
         v /= 2;
     }
@@ -88,13 +82,7 @@ pub fn put_symbols(out: &mut [u8], at: usize, n: usize, mask: u32, values: u32) 
 pub fn places(v: usize) -> usize
     ensures { result ≡ length (decimal v) }
 {
-    let mut count = 1;
-    let mut rest = v;
-    while 10 <= rest {
-        rest /= 10;
-        count += 1;
-    }
-    count
+    v.max(1).ilog10() as usize + 1
 }
 
 // Puts v in decimal.
@@ -107,6 +95,7 @@ pub fn put_decimal(out: &mut [u8], at: usize, v: usize) -> usize
 }
 
 // Puts a row's line: its n symbols, a space, its k bits and LF.
+#[tactic(auto, unfolding(block::specs::Text::row_line))]
 pub fn put_row(
     out: &mut [u8],
     at: usize,
@@ -141,10 +130,8 @@ pub fn put_rows(
     ensures { Put out.old at (row_lines n k (rows_from p masks.now values.now words.now)) out.new result }
 {
     let mut to = at;
-    let mut i = 0;
-    while i < p {
+    for i in 0..p {
         to = put_row(out, to, n, k, masks[i], values[i], words[i]);
-        i += 1;
     }
     to
 }

@@ -135,23 +135,13 @@ pub fn emit_row(out: &mut [u8], at: usize, n: usize, i: usize, v: usize) -> usiz
     let mut a = 0;
     let mut q = 0;
     let mut rest = v;
-    let mut left = n;
-    while 0 < left {
-        let b = n - left;
+    for b in 0..n {
         to = emit_digit(out, to, i, a, b, q, rest);
         a = lowest_of(a, b, q);
         q += rest % 2;
         rest /= 2;
-        left -= 1;
     }
     to
-}
-
-// A number of 32 bits as a wider one.
-pub fn wide(v: u32) -> usize
-    ensures { result ≡ v }
-{
-    v as usize
 }
 
 // The covers of the n rows of sigma.
@@ -161,10 +151,8 @@ pub fn emit_front(out: &mut [u8], at: usize, n: usize, sigma: &[u32]) -> usize
     ensures upper_bound { result ≤ at + n * 4000 }
 {
     let mut to = at;
-    let mut i = 0;
-    while i < n {
-        to = emit_row(out, to, n, i, wide(sigma[i]));
-        i += 1;
+    for i in 0..n {
+        to = emit_row(out, to, n, i, sigma[i] as usize);
     }
     to
 }

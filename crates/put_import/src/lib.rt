@@ -15,13 +15,7 @@ pub const LINE_ROOM: usize = 4176;
 pub fn shown_byte(b: u8) -> u8
     ensures { result ≡ shown_byte b }
 {
-    if b < 32 {
-        return 63;
-    }
-    if b == 127 {
-        return 63;
-    }
-    b
+    if b.is_ascii_control() { b'?' } else { b }
 }
 
 // Puts a name at the front, as it is shown.
@@ -29,15 +23,14 @@ pub fn put_name(out: &mut [u8], name: &[u8]) -> usize
     requires { length (map shown_byte name.now) ≤ length out.old }
     ensures { Put out.old 0 (map shown_byte name.now) out.new result }
 {
-    let mut i = 0;
-    while i < name.len() {
-        out[i] = shown_byte(name[i]);
-        i += 1;
+    for (i, b) in name.iter().enumerate() {
+        out[i] = shown_byte(*b);
     }
-    i
+    name.len()
 }
 
 // Puts what is said of a list after its name.
+#[tactic(auto, unfolding(crate::specs::Line::line_words))]
 pub fn put_words(out: &mut [u8], at: usize, r: SheetWork) -> usize
     requires { at + length (line_words r) ≤ length out.old }
     ensures { Put out.old at (line_words r) out.new result }
@@ -56,6 +49,7 @@ pub fn put_words(out: &mut [u8], at: usize, r: SheetWork) -> usize
 }
 
 // Puts the line, without its end.
+#[tactic(auto, unfolding(crate::specs::Line::import_line))]
 pub fn put_line(out: &mut [u8], name: &[u8], r: SheetWork) -> usize
     requires { length (import_line name.now r) ≤ length out.old }
     ensures { Put out.old 0 (import_line name.now r) out.new result }

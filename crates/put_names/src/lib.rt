@@ -77,11 +77,9 @@ pub fn emit_names(out: &mut [u8], at: usize, letter: u8, n: usize) -> usize
     ensures upper_bound { result ≤ at + n * 4 }
 {
     let mut to = at;
-    let mut i = 0;
-    while i < n {
+    for i in 0..n {
         to = emit(out, to, 32);
         to = emit_name(out, to, letter, i);
-        i += 1;
     }
     to
 }

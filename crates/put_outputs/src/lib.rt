@@ -19,13 +19,10 @@ pub fn put_cube(out: &mut [u8], at: usize, n: usize, mask: u32, values: u32) -> 
 {
     let mut m = mask;
     let mut v = values;
-    let mut left = n;
-    while 0 < left {
-        let i = n - left;
+    for i in 0..n {
         out[at + i] = put_bytes::symbol(m % 2, v % 2);
         m /= 2;
         v /= 2;
-        left -= 1;
     }
     at + n
 }
@@ -75,11 +72,8 @@ pub fn emit_patterns(
     ensures upper_bound { result ≤ at + p * 103 }
 {
     let mut to = at;
-    let mut left = p;
-    while 0 < left {
-        let i = p - left;
+    for i in 0..p {
         to = emit_chosen(out, to, n, words[i] / power % 2, masks[i], values[i]);
-        left -= 1;
     }
     to
 }
@@ -128,12 +122,10 @@ pub fn emit_back(
     ensures upper_bound { result ≤ at + k * 60000 }
 {
     let mut to = at;
-    let mut power = 1;
-    let mut j = 0;
-    while j < k {
+    let mut power: u32 = 1;
+    for j in 0..k {
         to = emit_output(out, to, n, j, power, p, masks, values, words);
         power *= 2;
-        j += 1;
     }
     to
 }

@@ -22,6 +22,7 @@ pub fn put_three(out: &mut [u8], at: usize, word: &[u8], x: usize, y: usize, z: 
 }
 
 // Puts the line of a refusal at the front.
+#[tactic(auto, unfolding(block::specs::Sheet::refusal_line))]
 pub fn put_refusal(out: &mut [u8], number: u32, a: usize, b: usize) -> usize
     requires { length (refusal_line (answer number a b)) ≤ length out.old }
     ensures { Put out.old 0 (refusal_line (answer number a b)) out.new result }

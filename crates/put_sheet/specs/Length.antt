@@ -2,7 +2,7 @@
 use Rattle.std.specs.Prelude.{◌≡◌, List, [], ◌∷◌, ℕ, ◌+◌, ◌*◌, ◌^◌, ◌≤◌, ◌<◌, length, get_or, take}
 use Rattle.std.proofs.Common.{ap, ◌∙◌, mul-le-mul, arith, length-append, length-take-le}
 use Rattle.block.specs.Limits.{list_inputs, outputs, smaller_rows, row_bytes, sheet_room}
-use Rattle.block.specs.Text.{decimal, bits}
+use Rattle.block.specs.Text.{bits}
 use Rattle.block.specs.Sheet.{section, number_lines, matrix_lines, sheet_of, sheet_name, size_name, measure_name, basis_name, sigma_name, table_name}
 use Rattle.block.specs.declared.Row.{Row}
 use Rattle.put_bytes.specs.Digits.{length-bits, decimal-le}

@@ -9,6 +9,7 @@ ghost use Rattle.put_bytes.specs.Puts.{Put};
 ghost use Rattle.put_sheet.specs.Lines.{sizes_text, front_text, columns_text, table_text};
 
 // Puts a section's first line: its name, a space, its count and LF.
+#[tactic(auto, unfolding(block::specs::Sheet::section))]
 pub fn put_section(out: &mut [u8], at: usize, name: &[u8], count: usize) -> usize
     requires { at + length (section name.now count) ≤ length out.old }
     ensures { Put out.old at (section name.now count) out.new result }
@@ -20,6 +21,7 @@ pub fn put_section(out: &mut [u8], at: usize, name: &[u8], count: usize) -> usiz
 }
 
 // Puts a number on a line of its own.
+#[tactic(auto, unfolding(block::specs::Sheet::number_lines))]
 pub fn put_number(out: &mut [u8], at: usize, v: usize) -> usize
     requires { at + length (number_lines (v ∷ [])) ≤ length out.old }
     ensures { Put out.old at (number_lines (v ∷ [])) out.new result }
@@ -29,6 +31,7 @@ pub fn put_number(out: &mut [u8], at: usize, v: usize) -> usize
 }
 
 // Puts a column or row of a matrix, n bits, on a line of its own.
+#[tactic(auto, unfolding(block::specs::Sheet::matrix_lines))]
 pub fn put_matrix_line(out: &mut [u8], at: usize, n: usize, v: u32) -> usize
     requires { at + length (matrix_lines n (v ∷ [])) ≤ length out.old }
     ensures { Put out.old at (matrix_lines n (v ∷ [])) out.new result }
@@ -43,15 +46,14 @@ pub fn put_matrix(out: &mut [u8], at: usize, n: usize, numbers: &[u32]) -> usize
     ensures { Put out.old at (matrix_lines n numbers.now) out.new result }
 {
     let mut to = at;
-    let mut i = 0;
-    while i < numbers.len() {
-        to = put_matrix_line(out, to, n, numbers[i]);
-        i += 1;
+    for number in numbers {
+        to = put_matrix_line(out, to, n, *number);
     }
     to
 }
 
 // Puts the sections sheet and size at the front.
+#[tactic(auto, unfolding(crate::specs::Lines::sizes_text))]
 pub fn put_sizes(out: &mut [u8], n: usize, k: usize, w: usize) -> usize
     requires { length (sizes_text n k w) ≤ length out.old }
     ensures { Put out.old 0 (sizes_text n k w) out.new result }
@@ -64,6 +66,7 @@ pub fn put_sizes(out: &mut [u8], n: usize, k: usize, w: usize) -> usize
 }
 
 // Puts the sections sheet, size and measure at the front.
+#[tactic(auto, unfolding(crate::specs::Lines::front_text))]
 pub fn put_front(out: &mut [u8], n: usize, k: usize, w: usize, before: usize, after: usize) -> usize
     requires { length (front_text n k w before after) ≤ length out.old }
     ensures { Put out.old 0 (front_text n k w before after) out.new result }
@@ -75,6 +78,7 @@ pub fn put_front(out: &mut [u8], n: usize, k: usize, w: usize, before: usize, af
 }
 
 // Puts a section of n columns or rows of n bits each.
+#[tactic(auto, unfolding(crate::specs::Lines::columns_text))]
 pub fn put_columns(out: &mut [u8], at: usize, name: &[u8], n: usize, numbers: &[u32]) -> usize
     requires { at + length (columns_text name.now n numbers.now) ≤ length out.old }
     ensures { Put out.old at (columns_text name.now n numbers.now) out.new result }
@@ -84,6 +88,7 @@ pub fn put_columns(out: &mut [u8], at: usize, name: &[u8], n: usize, numbers: &[
 }
 
 // Puts the section table: its count and the lines of the first rows of three flat slices.
+#[tactic(auto, unfolding(crate::specs::Lines::table_text))]
 pub fn put_table(
     out: &mut [u8],
     at: usize,

@@ -15,10 +15,7 @@ use block::{Answer, FR, GIVEN_ROWS, LIST_INPUTS, TEXT_ROOM};
 pub fn lacks_line(block_type: usize, type_line: usize) -> bool
     ensures { result ≡ eqb block_type fr && eqb type_line 0 }
 {
-    if block_type != FR {
-        return false;
-    }
-    type_line == 0
+    block_type == FR && type_line == 0
 }
 
 // The first checks of writing: 1, 2, and 3 for another type number, or for fr without its line.
@@ -59,6 +56,7 @@ pub fn write_checks(
 }
 
 // Puts a heading: a dot, its letter, a space, the number and LF.
+#[tactic(auto, unfolding(block::specs::Text::head_line))]
 pub fn put_heading(out: &mut [u8], at: usize, letter: u8, v: usize) -> usize
     requires { at + length (head_line letter v) ≤ length out.old }
     ensures { Put out.old at (head_line letter v) out.new result }

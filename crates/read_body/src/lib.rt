@@ -9,7 +9,6 @@ ghost use Rattle.block.specs.Words.{mask_part, values_part, word_part};
 ghost use Rattle.read_laws.specs.ByPlace.{broken_line, field_of, end_of, fault_of, filled_of};
 
 use block::GIVEN_ROWS;
-use read_laws::Line;
 
 // Reads the rows up to the first that is broken into working storage, and answers how many: p where none is.
 pub fn read_sound(
@@ -29,35 +28,26 @@ pub fn read_sound(
     ensures words_after { words.new ≡ over (tab result (field_of word_part s.now n k)) words.old }
 {
     let bytes = n + k + 2;
-    let mut from = 0;
-    let mut i = 0;
-    while i < p {
-        match read_row::read_row(s, from, n, k) {
-            Line::Broken => return i,
-            Line::Sound(r) => {
+    for i in 0..p {
+        match read_row::read_row(s, i * bytes, n, k) {
+            None => return i,
+            Some(r) => {
                 masks[i] = r.mask;
                 values[i] = r.values;
                 words[i] = r.word;
             }
         }
-        from += bytes;
-        i += 1;
     }
-    i
+    p
 }
 
 // After p rows: the last line's bytes, and the text's length against its end. The first faulty line, or p + 2.
+#[tactic(auto, unfolding(read_laws::specs::ByPlace::end_of))]
 pub fn end_of(a: usize, b: usize, c: usize, size: usize, end: usize, p: usize) -> usize
     requires { p ≤ smaller_rows }
     ensures { result ≡ end_of a b c size end p }
 {
-    if a != 46 {
-        return p;
-    }
-    if b != 101 {
-        return p;
-    }
-    if c != 10 {
+    if a != 46 || b != 101 || c != 10 {
         return p;
     }
     if size != end {
@@ -67,6 +57,7 @@ pub fn end_of(a: usize, b: usize, c: usize, size: usize, end: usize, p: usize) -
 }
 
 // Of the p + 2 lines the first faulty one, from 0, or p + 2, by how many rows stand before one that is broken.
+#[tactic(auto, unfolding(read_laws::specs::ByPlace::fault_of))]
 pub fn first_fault(s: &[u8], n: usize, k: usize, p: usize, sound: usize) -> usize
     requires { (n ≤ list_inputs) × (k ≤ outputs) × (p ≤ smaller_rows) × (sound ≡ first p (broken_line s.now n k)) }
     ensures { result ≡ fault_of s.now n k p }

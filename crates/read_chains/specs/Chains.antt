@@ -1,6 +1,6 @@
 -- The covers of a chain by place: the first input whose line stands there (`linked_at`), what the line then says (`link_of`), that this is
 -- what the meaning says of the line (`linked`), and how a chain goes on cover by cover (`Going`). Assumes nothing.
-use Rattle.std.specs.Prelude.{◌≡◌, Bool, not, cond, ◌&&◌, ◌||◌, List, [], ◌∷◌, ◌++◌, ℕ, suc, ◌+◌, ◌^◌, ◌≤◌, ◌<◌, eqb, length, drop}
+use Rattle.std.specs.Prelude.{◌≡◌, Bool, not, cond, ◌&&◌, ◌||◌, List, [], ◌∷◌, ◌++◌, ℕ, suc, ◌+◌, ◌^◌, ◌≤◌, ◌<◌, eqb, length, drop, Ok, Err, Result}
 use Rattle.std.proofs.Math.Path.{refl}
 use Rattle.std.proofs.Common.{sym, ap, ◌∙◌, append_assoc, append-nil}
 use Rattle.std.proofs.Math.Bool.{true, false}
@@ -23,11 +23,8 @@ use Rattle.model_laws.specs.WordLines.{is_line, IsWord, AllWords, x-word, z_word
 use Rattle.read_names.specs.Met.{begins, met_at, lost, met-then, met-found, met-missed, met-test, begins-then}
 use Rattle.read_names.specs.Fate.{front-begins, Came, Stopped, fate, fate-met, fate-stop, stop-after}
 use Rattle.read_names.specs.Attempts.{attempt-first}
-use Rattle.read_names.specs.declared.Place.TheVariants.{After, Stop}
 use Rattle.read_chains.specs.declared.Link.{Link}
 use Rattle.read_chains.specs.declared.Link.TheVariants.{None, Last, Part}
-use Rattle.read_chains.specs.declared.Chain.{Chain}
-use Rattle.read_chains.specs.declared.Chain.TheVariants.{Row, Broken}
 
 -- ---- the bytes of a cover's line
 
@@ -297,25 +294,25 @@ module _ (text : List ℕ) (h : length text < 2 ^ 63) where
 -- ---- a chain, cover by cover
 
 -- what comes of a row: its number, below 2^n, and what is due after it; or the place where reading stops
-unfoldable pub Chained : List ℕ → ℕ → ℕ → (ℕ → List ℕ → State) → ℕ → Chain → Type 0
-Chained text n i st at (Row m to) =
+unfoldable pub Chained : List ℕ → ℕ → ℕ → (ℕ → List ℕ → State) → ℕ → Result (ℕ × ℕ) ℕ → Type 0
+Chained text n i st at (Ok (m, to)) =
     (m < 2 ^ n) × ((k : ℕ) (rs : List ℕ) → length rs ≡ i → fate text (st k rs) at ≡ fate text (next_row n k (rs ++ (m ∷ []))) to)
-Chained text n i st at (Broken to) = (k : ℕ) (rs : List ℕ) → length rs ≡ i → Stopped text (fate text (st k rs) at) to
+Chained text n i st at (Err to) = (k : ℕ) (rs : List ℕ) → length rs ≡ i → Stopped text (fate text (st k rs) at) to
 
 -- what comes of the lines that end a row with this number
-unfoldable pub Ended : List ℕ → State → ℕ → State → ℕ → Chain → Type 0
-Ended text st at next v (Row m to) = (m ≡ v) × (fate text st at ≡ fate text next to)
-Ended text st at next v (Broken to) = Stopped text (fate text st at) to
+unfoldable pub Ended : List ℕ → State → ℕ → State → ℕ → Result (ℕ × ℕ) ℕ → Type 0
+Ended text st at next v (Ok (m, to)) = (m ≡ v) × (fate text st at ≡ fate text next to)
+Ended text st at next v (Err to) = Stopped text (fate text st at) to
 
 -- the lines that end a row end its chain, or its copy
 pub ended-chain : (text : List ℕ) (n i : ℕ) (st : ℕ → List ℕ → State) (at v to : ℕ) (due : State → State) → v < 2 ^ n
     → ((k : ℕ) (rs : List ℕ) → length rs ≡ i → fate text (st k rs) at ≡ fate text (due (next_row n k (rs ++ (v ∷ [])))) to)
-    → (r : Chain) → ((s : State) → Ended text (due s) to s v r) → Chained text n i st at r
+    → (r : Result (ℕ × ℕ) ℕ) → ((s : State) → Ended text (due s) to s v r) → Chained text n i st at r
 unfolding Chained Ended
-ended-chain text n i st at v to due l g (Row u p) d =
+ended-chain text n i st at v to due l g (Ok (u, p)) d =
     let e = (d (OutputDue 0 0 [])).0 in
     (rw e l, λ k rs f. g k rs f ∙ rw e (d (next_row n k (rs ++ (v ∷ [])))).1)
-ended-chain text n i st at v to due l g (Broken p) d = λ k rs f. stop-after (g k rs f) (d (next_row n k (rs ++ (v ∷ []))))
+ended-chain text n i st at v to due l g (Err p) d = λ k rs f. stop-after (g k rs f) (d (next_row n k (rs ++ (v ∷ []))))
 
 -- a chain has come from one place to another
 pub record Going (text : List ℕ) (n i : ℕ) (st₀ : ℕ → List ℕ → State) (at₀ m p at begun : ℕ) : Type 0 where
@@ -331,22 +328,22 @@ module _ (text : List ℕ) (h : length text < 2 ^ 63) (n i : ℕ) (st₀ : ℕ �
   came : Linked text n i p g.st at (link_of text begun n m i p)
   came = linked text h n i m p at begun g.st g.chain
 
-  pub going-none : None ≡ link_of text begun n m i p → Chained text n i st₀ at₀ (Broken at)
+  pub going-none : None ≡ link_of text begun n m i p → Chained text n i st₀ at₀ (Err at)
   unfolding Linked Chained
   going-none e = λ k rs f. stop-after (g.goes k rs f) (rw (← e) at came k rs f)
 
   pub going-last : (v to : ℕ) → Last v to ≡ link_of text begun n m i p → v < 2 ^ n
-      → (r : Chain) → ((s : State) → Ended text (xor_due s) to s v r) → Chained text n i st₀ at₀ r
+      → (r : Result (ℕ × ℕ) ℕ) → ((s : State) → Ended text (xor_due s) to s v r) → Chained text n i st₀ at₀ r
   unfolding Linked
   going-last v to e l r d =
       ended-chain text n i st₀ at₀ v to xor_due l (λ k rs f. g.goes k rs f ∙ (rw (← e) at came) k rs f) r d
 
-  pub going-broken : (v to : ℕ) → Part v to ≡ link_of text begun n m i p → (bad : ℕ) → ((s : State) → Came text (xor_due s) to s (Stop bad))
-      → Chained text n i st₀ at₀ (Broken bad)
+  pub going-broken : (v to : ℕ) → Part v to ≡ link_of text begun n m i p → (bad : ℕ) → ((s : State) → Came text (xor_due s) to s (Err bad))
+      → Chained text n i st₀ at₀ (Err bad)
   unfolding Linked Chained Came
   going-broken v to e bad d = λ k rs f. stop-after (g.goes k rs f ∙ (rw (← e) at came) k rs f) (d (LinkDue n k rs v p))
 
-  pub going-part : (v to : ℕ) → Part v to ≡ link_of text begun n m i p → (next : ℕ) → ((s : State) → Came text (xor_due s) to s (After next))
+  pub going-part : (v to : ℕ) → Part v to ≡ link_of text begun n m i p → (next : ℕ) → ((s : State) → Came text (xor_due s) to s (Ok next))
       → (r : ℕ) → r ≡ met_at text next (opening (part_name i p)) → Going text n i st₀ at₀ v (p + 1) next r
   unfolding Linked Came step
   going-part v to e next d r q =

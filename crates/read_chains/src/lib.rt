@@ -1,5 +1,6 @@
 // A row of sigma that is a chain of XOR covers from its lowest input up, read by place from a model. Every line that may
-// stand at a place is tried, in the order of the inputs, and left at its first wrong byte. All functions here are inner.
+// stand at a place is tried, in the order of the inputs, and left at its first wrong byte. A row that is read is its number and the place
+// after its covers; an error is the place of the first line that is not of the form due. All functions here are inner.
 #![tactic(auto)]
 
 ghost use Rattle.std.specs.Prelude.{◌≡◌, List, ◌∷◌, ℕ, ◌≤◌, ◌<◌, ◌^◌, ◌+◌};
@@ -11,7 +12,7 @@ ghost use Rattle.read_names.specs.Met.{met_at};
 ghost use Rattle.read_names.specs.Fate.{Came};
 ghost use Rattle.read_chains.specs.Chains.{tail, opening, linked_at, link_of, Grown, Chaining, Chained, Ended};
 
-use read_names::{LOST, Place};
+use read_names::LOST;
 
 // A chain's next cover: none stands there; it ends the row; or it has a part. With the row's inputs so far as a number, and the place after
 // its line.
@@ -20,13 +21,6 @@ pub enum Link {
     None,
     Last(u32, usize),
     Part(u32, usize),
-}
-
-// A row of sigma: its number and the place after its covers, or the place of the first line that is not of the form due.
-#[derive(Clone, Copy)]
-pub enum Chain {
-    Row(u32, usize),
-    Broken(usize),
 }
 
 // An input's name, after a space.
@@ -82,14 +76,12 @@ pub fn link_input(text: &[u8], at: usize, n: usize, m: u32, i: usize, p: usize) 
     requires { (n ≤ list_inputs) × (i < 100) × (p < 100) }
     ensures { result ≡ first n (linked_at text.now at n m i p) }
 {
-    let mut b = 0;
-    while b < n {
+    for b in 0..n {
         if linked(text, at, n, m, i, p, b) {
             return b;
         }
-        b += 1;
     }
-    b
+    n
 }
 
 // What a cover's line says after its first name.
@@ -111,23 +103,19 @@ pub fn read_link(text: &[u8], at: usize, n: usize, m: u32, i: usize, p: usize) -
 }
 
 // The two lines of an XOR.
-pub fn read_xor(text: &[u8], at: usize) -> Place
+pub fn read_xor(text: &[u8], at: usize) -> Result<usize, usize>
     ensures { (s : State) → Came text.now (xor_due s) at s result }
 {
-    match read_names::read_line(text, at, b"01 1\n") {
-        Place::Stop(bad) => Place::Stop(bad),
-        Place::After(next) => read_names::read_line(text, next, b"10 1\n"),
-    }
+    let next = read_names::read_line(text, at, b"01 1\n")?;
+    read_names::read_line(text, next, b"10 1\n")
 }
 
 // The lines that end a row with these inputs.
-pub fn end_row(text: &[u8], at: usize, inputs: u32) -> Chain
+pub fn end_row(text: &[u8], at: usize, inputs: u32) -> Result<(u32, usize), usize>
     ensures { (s : State) → Ended text.now (xor_due s) at s inputs result }
 {
-    match read_xor(text, at) {
-        Place::Stop(bad) => Chain::Broken(bad),
-        Place::After(next) => Chain::Row(inputs, next),
-    }
+    let next = read_xor(text, at)?;
+    Ok((inputs, next))
 }
 
 // The beginning of the cover after part p of row i.
@@ -140,7 +128,14 @@ pub fn meet_so_far(text: &[u8], at: usize, i: usize, p: usize) -> usize
 }
 
 // The chain of row i, from the place of a line whose first name was met: `met` is the place after it, and `inputs` its input as a number.
-pub fn read_chain(text: &[u8], at: usize, met: usize, n: usize, i: usize, inputs: u32) -> Chain
+pub fn read_chain(
+    text: &[u8],
+    at: usize,
+    met: usize,
+    n: usize,
+    i: usize,
+    inputs: u32,
+) -> Result<(u32, usize), usize>
     requires { (n ≤ list_inputs) × (inputs < 2 ^ n) × (1 ≤ inputs) × (i < 100) }
     ensures { (st : ℕ → List ℕ → State) → Chaining text.now n i inputs 1 at met st
         → Chained text.now n i st at result }
@@ -149,19 +144,18 @@ pub fn read_chain(text: &[u8], at: usize, met: usize, n: usize, i: usize, inputs
     let mut begun = met;
     let mut m = inputs;
     let mut part = 1;
+    // A loop: how many covers a chain has, the lines say.
     loop {
         match read_link(text, begun, n, m, i, part) {
-            Link::None => return Chain::Broken(from),
+            Link::None => return Err(from),
             Link::Last(all, to) => return end_row(text, to, all),
-            Link::Part(more, to) => match read_xor(text, to) {
-                Place::Stop(bad) => return Chain::Broken(bad),
-                Place::After(next) => {
-                    from = next;
-                    begun = meet_so_far(text, next, i, part);
-                    m = more;
-                    part += 1;
-                }
-            },
+            Link::Part(more, to) => {
+                let next = read_xor(text, to)?;
+                from = next;
+                begun = meet_so_far(text, next, i, part);
+                m = more;
+                part += 1;
+            }
         }
     }
 }

@@ -2,36 +2,42 @@
 // ranges. All functions here are inner: the operation is `read_text` of the crate reading.
 #![tactic(auto)]
 
-ghost use Rattle.std.specs.Prelude.{◌≡◌, ◌+◌, ◌≤◌, ◌<◌, length};
+ghost use Rattle.std.specs.Prelude.{◌≡◌, Err, ◌+◌, ◌≤◌, ◌<◌, length};
 ghost use Rattle.block.specs.Text.{head_digits};
 ghost use Rattle.read_laws.specs.ByPlace.{farthest, width_of, lead_of, head_at, refusal, stands_at, typed, type_at, type_bytes, ranged_of, OpenWithin, counted_of, opening_of};
 
 use block::{FD, FR, GIVEN_ROWS, Headings, Kind, LIST_INPUTS, OUTPUTS, Refusal};
-use read_laws::{HEAD_DIGITS, Number, Opening, TYPE_BYTES, TypeLine};
+use read_laws::{HEAD_DIGITS, TYPE_BYTES, TypeLine};
 
-// A line whose first three bytes are a, b and c, before a number.
-pub fn lead(a: usize, b: usize, c: usize, letter: usize, number: Number) -> Number
+// A line whose first three bytes are a, b and c, before a number: the number, and how many bytes the line takes.
+#[tactic(auto, unfolding(read_laws::specs::ByPlace::lead_of))]
+pub fn lead(
+    a: usize,
+    b: usize,
+    c: usize,
+    letter: usize,
+    number: Option<(usize, usize)>,
+) -> Option<(usize, usize)>
     requires { width_of number ≤ head_digits + 1 }
     ensures value { result ≡ lead_of a b c letter number }
     ensures result_bound { width_of result ≤ head_digits + 4 }
 {
     if a != 46 {
-        return Number::Formless;
+        return None;
     }
     if b != letter {
-        return Number::Formless;
+        return None;
     }
     if c != 32 {
-        return Number::Formless;
+        return None;
     }
-    match number {
-        Number::Value(v, size) => Number::Value(v, size + 3),
-        Number::Formless => Number::Formless,
-    }
+    let (v, size) = number?;
+    Some((v, size + 3))
 }
 
 // The heading from a place on.
-pub fn head_at(s: &[u8], from: usize, letter: usize) -> Number
+#[tactic(auto, unfolding(read_laws::specs::ByPlace::head_at))]
+pub fn head_at(s: &[u8], from: usize, letter: usize) -> Option<(usize, usize)>
     requires { from + 3 < farthest }
     ensures value { result ≡ head_at s.now from letter }
     ensures result_bound { width_of result ≤ head_digits + 4 }
@@ -44,10 +50,10 @@ pub fn head_at(s: &[u8], from: usize, letter: usize) -> Number
 }
 
 // A refusal before any row.
-pub fn stop(kind: Kind, a: usize) -> Opening
-    ensures { result ≡ Opening.Stopped (refusal kind a) }
+pub fn stop(kind: Kind, a: usize) -> Result<(Headings, usize), Refusal>
+    ensures { result ≡ Err (refusal kind a) }
 {
-    Opening::Stopped(Refusal { kind, a, b: 0 })
+    Err(Refusal { kind, a, b: 0 })
 }
 
 // Whether a line stands from a place on.
@@ -55,12 +61,10 @@ pub fn stands_at(s: &[u8], from: usize, line: &[u8]) -> bool
     requires { from + length line.now < farthest }
     ensures { result ≡ stands_at s.now from line.now }
 {
-    let mut i = 0;
-    while i < line.len() {
-        if read_bytes::byte(s, from + i) != line[i] as usize {
+    for (i, b) in line.iter().enumerate() {
+        if read_bytes::byte(s, from + i) != usize::from(*b) {
             return false;
         }
-        i += 1;
     }
     true
 }
@@ -76,6 +80,7 @@ pub fn typed_as(block_type: usize, type_line: usize) -> TypeLine
 }
 
 // The type line from a place on: the type that it says, or type fd where none stands there.
+#[tactic(auto, unfolding(read_laws::specs::ByPlace::type_at))]
 pub fn type_at(s: &[u8], from: usize) -> TypeLine
     requires { from + type_bytes < farthest }
     ensures value { result ≡ type_at s.now from }
@@ -91,7 +96,8 @@ pub fn type_at(s: &[u8], from: usize) -> TypeLine
 }
 
 // The ranges of n, k and the number of rows, and the room.
-pub fn ranged(h: Headings, from: usize, room: usize) -> Opening
+#[tactic(auto, unfolding(read_laws::specs::ByPlace::ranged_of))]
+pub fn ranged(h: Headings, from: usize, room: usize) -> Result<(Headings, usize), Refusal>
     requires { h.type_line ≤ 1 }
     ensures value { result ≡ ranged_of h from room }
     ensures open_within { OpenWithin result room }
@@ -108,18 +114,26 @@ pub fn ranged(h: Headings, from: usize, room: usize) -> Opening
     if room < h.count {
         return stop(Kind::Room, 0);
     }
-    Opening::Open(h, from)
+    Ok((h, from))
 }
 
 // ".p rows" behind the type line, where that stands from the place on, and then the ranges. A .p that lacks its form is answered on its
 // own line.
-pub fn counted(s: &[u8], n: usize, k: usize, from: usize, t: TypeLine, room: usize) -> Opening
+#[tactic(auto, unfolding(read_laws::specs::ByPlace::counted_of))]
+pub fn counted(
+    s: &[u8],
+    n: usize,
+    k: usize,
+    from: usize,
+    t: TypeLine,
+    room: usize,
+) -> Result<(Headings, usize), Refusal>
     requires { (from + type_bytes + 3 < farthest) × (t.type_line ≤ 1) }
     ensures value { result ≡ counted_of s.now n k from t room }
     ensures open_within { OpenWithin result room }
 {
     let place = from + t.type_line * TYPE_BYTES;
-    let Number::Value(p, size) = head_at(s, place, 112) else {
+    let Some((p, size)) = head_at(s, place, 112) else {
         return stop(Kind::Form, 3 + t.type_line);
     };
     let h = Headings {
@@ -132,15 +146,16 @@ pub fn counted(s: &[u8], n: usize, k: usize, from: usize, t: TypeLine, room: usi
     ranged(h, place + size, room)
 }
 
-// The headings: their form first, then their ranges.
-pub fn read_headings(s: &[u8], room: usize) -> Opening
+// The headings and the place after them, or why the text is refused before any row: their form first, then their ranges.
+#[tactic(auto, unfolding(read_laws::specs::ByPlace::opening_of))]
+pub fn read_headings(s: &[u8], room: usize) -> Result<(Headings, usize), Refusal>
     ensures value { result ≡ opening_of s.now room }
     ensures open_within { OpenWithin result room }
 {
-    let Number::Value(n, first) = head_at(s, 0, 105) else {
+    let Some((n, first)) = head_at(s, 0, 105) else {
         return stop(Kind::Form, 1);
     };
-    let Number::Value(k, second) = head_at(s, first, 111) else {
+    let Some((k, second)) = head_at(s, first, 111) else {
         return stop(Kind::Form, 2);
     };
     let t = type_at(s, first + second);

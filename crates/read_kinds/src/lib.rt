@@ -4,7 +4,7 @@
 ghost use Rattle.std.specs.Prelude.{◌≡◌};
 ghost use Rattle.block.specs.Text.{kind_number, numbers};
 
-use block::{Kind, ReadAnswer, Reading};
+use block::{Headings, Kind, ReadAnswer, Refusal};
 
 // The number of a refusal's kind.
 pub fn kind_number(kind: Kind) -> u32
@@ -20,11 +20,11 @@ pub fn kind_number(kind: Kind) -> u32
 }
 
 // The answer in 01's numbers.
-pub fn in_numbers(answer: Reading) -> ReadAnswer
+pub fn in_numbers(answer: Result<Headings, Refusal>) -> ReadAnswer
     ensures { result ≡ numbers answer }
 {
     match answer {
-        Reading::Accepted(h) => ReadAnswer {
+        Ok(h) => ReadAnswer {
             number: 0,
             a: 0,
             b: 0,
@@ -34,18 +34,15 @@ pub fn in_numbers(answer: Reading) -> ReadAnswer
             type_line: h.type_line,
             count: h.count,
         },
-        Reading::Refused(r) => {
-            let kind = r.kind;
-            ReadAnswer {
-                number: kind_number(kind),
-                a: r.a,
-                b: r.b,
-                n: 0,
-                k: 0,
-                block_type: 0,
-                type_line: 0,
-                count: 0,
-            }
-        }
+        Err(r) => ReadAnswer {
+            number: kind_number(r.kind),
+            a: r.a,
+            b: r.b,
+            n: 0,
+            k: 0,
+            block_type: 0,
+            type_line: 0,
+            count: 0,
+        },
     }
 }

@@ -1,6 +1,6 @@
 -- The reader's answer and the lent lists after it are those of the meaning: `numbers-read` and `after_read`. Before them stands how
 -- a text can come out (`outcome`): stopped at its headings, or open. Assumes nothing.
-use Rattle.std.specs.Prelude.{◌≡◌, Bool, not, ◌⊎◌, ℕ, suc, ◌+◌, ◌<◌, drop}
+use Rattle.std.specs.Prelude.{◌≡◌, Bool, not, ◌⊎◌, ℕ, suc, ◌+◌, ◌<◌, drop, Ok, Err, Some, None, Result}
 use Rattle.std.proofs.Math.Path.{refl, sym, ap}
 use Rattle.std.proofs.Common.{◌∙◌, arith, lt-ltb, le-ltb, eq-eqb, ne_eqb, eqb-true}
 use Rattle.std.proofs.Math.Bool.{true, false, cond}
@@ -18,11 +18,8 @@ use Rattle.block.specs.declared.Row.{Row}
 use Rattle.block.specs.declared.Answer.{Answer}
 use Rattle.block.specs.declared.Refusal.{Refusal}
 use Rattle.block.specs.declared.Kind.{Kind}
+use Rattle.block.specs.declared.Headings.{Headings}
 use Rattle.block.specs.declared.Kind.TheVariants.{Inputs, Outputs, Count, Room, Form}
-use Rattle.block.specs.declared.Reading.TheVariants.{Accepted, Refused}
-use Rattle.read_laws.specs.declared.Number.TheVariants.{Value, Formless}
-use Rattle.read_laws.specs.declared.Opening.{Opening}
-use Rattle.read_laws.specs.declared.Opening.TheVariants.{Open, Stopped}
 use Rattle.read_laws.specs.ByPlace.{head_at, refusal, type_at, headings_of, ranged_of, on_value, counted_of, opening_of, row_or, line_of, field_of, fault_of, filled_of, closed_of, reading_of, after_of}
 use Rattle.read_laws.specs.Front.{start, line-front, lines_from}
 use Rattle.read_laws.specs.TypeLines.{type_said, type-of, place-high, count-start}
@@ -81,19 +78,19 @@ module _ (text : List ℕ) (room : ℕ) where
   body-next = omega (arith, place-high text 2 (omega arith), place-high text head_count (omega arith))
 
   -- what open headings give
-  abbrev opened : Opening
+  abbrev opened : Result (Headings × ℕ) Refusal
   opened = ranged_of (headings_of n k (type_said text) p) (start text fourth) room
 
   -- ".p rows" by its line, behind the type line where that stands
   counted-of : counted_of text n k (start text 2) (type_at text (start text 2)) room
-      ≡ cond (head_form 112 (line_at text third)) opened (Stopped (refusal Form (3 + z)))
+      ≡ cond (head_form 112 (line_at text third)) opened (Err (refusal Form (3 + z)))
   unfolding counted_of
   counted-of = rw (type-of text, ← (count-start text), head_of 112 text third (omega arith)) (go (head_form 112 (line_at text third)))
     where
       go : (c : Bool)
-          → on_value (cond c (Value p (length (line_at text third))) Formless) (Stopped (refusal Form (3 + z)))
+          → on_value (cond c (Some (p, length (line_at text third))) None) (Err (refusal Form (3 + z)))
           (λ p w. ranged_of (headings_of n k (type_said text) p) (start text third + w) room)
-          ≡ cond c opened (Stopped (refusal Form (3 + z)))
+          ≡ cond c opened (Err (refusal Form (3 + z)))
       go true = ap (λ (i : ℕ). ranged_of (headings_of n k (type_said text) p) i room) (next_start third ∙ ap (start text) body-next)
       go false = refl
 
@@ -101,27 +98,27 @@ module _ (text : List ℕ) (room : ℕ) where
   opening-of : opening_of text room
       ≡ cond (head_form 105 (line_at text 0))
       (cond (head_form 111 (line_at text 1))
-      (cond (head_form 112 (line_at text third)) opened (Stopped (refusal Form (3 + z))))
-      (Stopped (refusal Form 2)))
-      (Stopped (refusal Form 1))
+      (cond (head_form 112 (line_at text third)) opened (Err (refusal Form (3 + z))))
+      (Err (refusal Form 2)))
+      (Err (refusal Form 1))
   unfolding opening_of head_place
   opening-of =
       rw (sym (ap (λ (i : ℕ). head_at text i 105) start-zero) ∙ head_of 105 text 0 (omega arith)) (first_head (length (line_at text 0)) one-start (head_form 105 (line_at text 0)))
     where
       second_head : (b : Bool)
-          → on_value (cond b (Value k (length (line_at text 1))) Formless) (Stopped (refusal Form 2))
+          → on_value (cond b (Some (k, length (line_at text 1))) None) (Err (refusal Form 2))
           (λ k v. counted_of text n k (start text 1 + v) (type_at text (start text 1 + v)) room)
-          ≡ cond b (cond (head_form 112 (line_at text third)) opened (Stopped (refusal Form (3 + z)))) (Stopped (refusal Form 2))
+          ≡ cond b (cond (head_form 112 (line_at text third)) opened (Err (refusal Form (3 + z)))) (Err (refusal Form 2))
       second_head true = rw (next_start 1) counted-of
       second_head false = refl
 
       first_head : (w : ℕ) → w ≡ start text 1 → (a : Bool)
-          → on_value (cond a (Value n w) Formless) (Stopped (refusal Form 1))
-          (λ n u. on_value (head_at text u 111) (Stopped (refusal Form 2))
+          → on_value (cond a (Some (n, w)) None) (Err (refusal Form 1))
+          (λ n u. on_value (head_at text u 111) (Err (refusal Form 2))
           (λ k v. counted_of text n k (u + v) (type_at text (u + v)) room))
           ≡ cond a (cond (head_form 111 (line_at text 1))
-          (cond (head_form 112 (line_at text third)) opened (Stopped (refusal Form (3 + z))))
-          (Stopped (refusal Form 2))) (Stopped (refusal Form 1))
+          (cond (head_form 112 (line_at text third)) opened (Err (refusal Form (3 + z))))
+          (Err (refusal Form 2))) (Err (refusal Form 1))
       first_head w e true = rw (e, head_of 111 text 1 (omega arith)) (second_head (head_form 111 (line_at text 1)))
       first_head w e false = refl
 
@@ -142,12 +139,12 @@ module _ (text : List ℕ) (room : ℕ) where
 
   -- refused at the headings
   abbrev pub Stop : Type 0
-  Stop = (r : Refusal) × (opening_of text room ≡ Stopped r) × (read_verdict text room ≡ answer (kind_number r.kind) r.a r.b)
+  Stop = (r : Refusal) × (opening_of text room ≡ Err r) × (read_verdict text room ≡ answer (kind_number r.kind) r.a r.b)
 
   -- the headings open, and the faulty line of the body decides
   abbrev pub Opened : Type 0
   Opened =
-      (opening_of text room ≡ Open (headings_of n k (type_said text) p) (start text fourth))
+      (opening_of text room ≡ Ok (headings_of n k (type_said text) p, start text fourth))
       × (read_verdict text room ≡ cond (eqb fault (p + 2)) (answer 0 0 0) (answer 10 (first_line + fourth + fault) 0))
 
   -- the checks after the headings' form
@@ -203,7 +200,7 @@ module _ (text : List ℕ) (room : ℕ) where
       line = omega (arith, place-high text head_count (omega arith))
 
       closed : (t : Bool) (a : ℕ) → a ≡ first_line + fourth + fault
-          → numbers (cond t (Accepted (headings_of n k (type_said text) p)) (Refused (refusal Form a)))
+          → numbers (cond t (Ok (headings_of n k (type_said text) p)) (Err (refusal Form a)))
           ≡ with_headings (cond t (answer 0 0 0) (answer 10 (first_line + fourth + fault) 0)) n k (type_in text) z p
       closed true a e = refl
       closed false a e = rw e

@@ -1,6 +1,6 @@
 -- A row's line: what the reader spells by place is what the meaning spells of the line's bytes; a row from a place on is sound
 -- exactly where the first line has row form (`row-line`). Assumes nothing.
-use Rattle.std.specs.Prelude.{◌≡◌, refl, Bool, true, false, not, cond, ◌&&◌, ◌||◌, List, [], ◌∷◌, ◌++◌, ℕ, zero, suc, ◌+◌, ◌-◌, ◌*◌, ◌≤◌, ◌<◌, eqb, length, take, drop}
+use Rattle.std.specs.Prelude.{◌≡◌, refl, Bool, true, false, not, cond, ◌&&◌, ◌||◌, List, [], ◌∷◌, ◌++◌, ℕ, zero, suc, ◌+◌, ◌-◌, ◌*◌, ◌≤◌, ◌<◌, eqb, length, take, drop, Option, Some, None}
 use Rattle.std.proofs.Common.{sym, ap, ap₂, ◌∙◌, add-zero, zero-add, arith, ne_eqb, eqb-true, length-append, length-drop, take-suc, length-take-le, get_or-drop, get_or-take, drop-drop}
 use Rattle.std.proofs.Math.Decide.{dec_lt, dec_le}
 use Rattle.std.proofs.lemmas.Bool.{eqb-false}
@@ -9,11 +9,9 @@ use Rattle.std.proofs.lemmas.List.{take-append-le, drop-append-le}
 use Rattle.sums.specs.Sums.{one}
 use Rattle.slices.specs.Places.{at}
 use Rattle.slices.specs.Tests.{and_both}
+use Rattle.block.specs.declared.Row.{Row}
 use Rattle.block.specs.Words.{row}
 use Rattle.block.specs.Text.{every, spelled, row_form, row_on}
-use Rattle.read_laws.specs.declared.Spelling.{Spelling}
-use Rattle.read_laws.specs.declared.Spelling.TheVariants.{Good, Bad}
-use Rattle.read_laws.specs.declared.Line.TheVariants.{Sound, Broken}
 use Rattle.read_laws.specs.ByPlace.{step_of, spelled_at, both_of, joined_of, row_from}
 use Rattle.read_laws.specs.Tests.{every-at, every-all}
 use Rattle.read_laws.specs.Spelled.{spelled-last, spelled-cong}
@@ -45,29 +43,29 @@ fixed b = one (eqb b 48 || eqb b 49)
 abbrev value : ℕ → ℕ
 value b = one (eqb b 49)
 
-step_is : (m v b free : ℕ) → step_of (Good m v) b free ≡ cond (taken free b) (Good (m * 2 + fixed b) (v * 2 + value b)) Bad
+step_is : (m v b free : ℕ) → step_of (Some (m, v)) b free ≡ cond {A = Option (ℕ × ℕ)} (taken free b) (Some (m * 2 + fixed b, v * 2 + value b)) None
 unfolding step_of
 step_is m v b free = go (eqb b 48) (eqb b 49) (eqb b free) refl refl
   where
     go : (x y z : Bool) → eqb b 48 ≡ x → eqb b 49 ≡ y
-        → cond x (Good (m * 2 + 1) (v * 2)) (cond y (Good (m * 2 + 1) (v * 2 + 1)) (cond z (Good (m * 2) (v * 2)) Bad))
-        ≡ cond (x || (y || z)) (Good (m * 2 + one (x || y)) (v * 2 + one y)) Bad
+        → cond {A = Option (ℕ × ℕ)} x (Some (m * 2 + 1, v * 2)) (cond y (Some (m * 2 + 1, v * 2 + 1)) (cond z (Some (m * 2, v * 2)) None))
+        ≡ cond {A = Option (ℕ × ℕ)} (x || (y || z)) (Some (m * 2 + one (x || y), v * 2 + one y)) None
     go true true z p q =
         let a = eqb-true b 48 p in
         let c = eqb-true b 49 q in
         absurd (omega arith)
-    go true false z p q = ap (Good (m * 2 + 1)) (sym (add-zero (v * 2)))
+    go true false z p q = ap (λ (x : ℕ). Some (m * 2 + 1, x)) (sym (add-zero (v * 2)))
     go false true z p q = refl
-    go false false true p q = ap₂ Good (sym (add-zero (m * 2))) (sym (add-zero (v * 2)))
+    go false false true p q = ap₂ (λ (x y : ℕ). Some (x, y)) (sym (add-zero (m * 2))) (sym (add-zero (v * 2)))
     go false false false p q = refl
 
-step-bad : (b free : ℕ) → step_of Bad b free ≡ Bad
+step-bad : (b free : ℕ) → step_of None b free ≡ None
 unfolding step_of
 step-bad b free = refl
 
 -- what the reader spells of the first n bytes
 spelled_is : (s : List ℕ) (free n : ℕ) → n ≤ length s
-    → spelled_at s 0 free n ≡ cond (every (taken free) (take n s)) (Good (spelled 2 fixed 0 (take n s)) (spelled 2 value 0 (take n s))) Bad
+    → spelled_at s 0 free n ≡ cond (every (taken free) (take n s)) (Some (spelled 2 fixed 0 (take n s), spelled 2 value 0 (take n s))) None
 unfolding spelled_at every spelled
 spelled_is s free zero h = refl
 spelled_is s free (suc n) h =
@@ -90,7 +88,7 @@ spelled_is s free (suc n) h =
     v : ℕ
     v = spelled 2 value 0 (take n s)
 
-    go : (t : Bool) → step_of (cond t (Good m v) Bad) b free ≡ cond (t && taken free b) (Good (m * 2 + fixed b) (v * 2 + value b)) Bad
+    go : (t : Bool) → step_of (cond {A = Option (ℕ × ℕ)} t (Some (m, v)) None) b free ≡ cond {A = Option (ℕ × ℕ)} (t && taken free b) (Some (m * 2 + fixed b, v * 2 + value b)) None
     go true = step_is m v b free
     go false = step-bad b free
 
@@ -99,7 +97,7 @@ spelled-from : (s : List ℕ) (from free n : ℕ) → spelled_at s from free n �
 unfolding spelled_at
 spelled-from s from free zero = refl
 spelled-from s from free (suc n) =
-    ap₂ (λ (x : Spelling) (b : ℕ). step_of x b free) (spelled-from s from free n)
+    ap₂ (λ (x : Option (ℕ × ℕ)) (b : ℕ). step_of x b free) (spelled-from s from free n)
     (sym (get_or-drop from s n 0) ∙ ap (at (drop from s)) (sym (zero-add n)))
 
 -- ---- a line
@@ -165,7 +163,7 @@ bits-same (x ∷ l) = ap₂ ◌&&◌ (go (eqb x 48) (eqb x 49)) (bits-same l)
     go false false = refl
 
 -- a row from the start of a text that is long enough
-row-from : (s : List ℕ) (n k : ℕ) → n + 1 + k + 1 ≤ length s → row_from s n k 0 ≡ cond (row_test n k s) (Sound (row_on n k s)) Broken
+row-from : (s : List ℕ) (n k : ℕ) → n + 1 + k + 1 ≤ length s → row_from s n k 0 ≡ cond (row_test n k s) (Some (row_on n k s)) None
 unfolding row_from joined_of row_on
 row-from s n k h =
     let d = length-drop (n + 1) s in
@@ -185,10 +183,10 @@ row-from s n k h =
     y = take k (drop (n + 1) s)
 
     go : (a b c d : Bool) → every symbol_test x ≡ a
-        → cond b (cond d (both_of (cond a (Good (spelled 2 fixed 0 x) (spelled 2 value 0 x)) Bad)
-        (cond c (Good (spelled 2 fixed 0 y) (spelled 2 value 0 y)) Bad)) Broken) Broken
-        ≡ cond (a && (b && (c && d))) (Sound (row (spelled 2 (λ b. one (not (eqb b 45))) 0 x) (spelled 2 value 0 x) (spelled 2 value 0 y))) Broken
-    go true true true true e = ap (λ (m : ℕ). Sound (row m (spelled 2 value 0 x) (spelled 2 value 0 y))) (mask-same x e)
+        → cond b (cond d (both_of (cond a (Some (spelled 2 fixed 0 x, spelled 2 value 0 x)) None)
+        (cond c (Some (spelled 2 fixed 0 y, spelled 2 value 0 y)) None)) None) None
+        ≡ cond (a && (b && (c && d))) (Some (row (spelled 2 (λ b. one (not (eqb b 45))) 0 x) (spelled 2 value 0 x) (spelled 2 value 0 y))) None
+    go true true true true e = ap (λ (m : ℕ). Some (row m (spelled 2 value 0 x) (spelled 2 value 0 y))) (mask-same x e)
     go true true true false e = refl
     go true true false true e = refl
     go true true false false e = refl
@@ -198,12 +196,12 @@ row-from s n k h =
     go false false c d e = refl
 
 -- a row that is read from a text that is too short is broken
-row-short : (s : List ℕ) (n k : ℕ) → length s < n + 1 + k + 1 → row_from s n k 0 ≡ Broken
+row-short : (s : List ℕ) (n k : ℕ) → length s < n + 1 + k + 1 → row_from s n k 0 ≡ None
 unfolding row_from joined_of
 row-short s n k h =
     rw (get_or-eq_default s 0 {n = 0 + n + 1 + k} (omega arith)) (go (eqb (at s (0 + n)) 32))
   where
-    go : (a : Bool) → cond a Broken Broken ≡ Broken
+    go : (a : Bool) → cond {A = Option Row} a None None ≡ None
     go true = refl
     go false = refl
 
@@ -282,7 +280,7 @@ row-front s n k h e =
         (ap (at s) (zero-add (length (take (n + 1 + k) s)) ∙ l) ∙ f)
 
 -- the row that the reader finds is that of the first line, where it has row form
-pub row-line : (s : List ℕ) (n k : ℕ) → row_from s n k 0 ≡ cond (row_form n k (front s)) (Sound (row_on n k (front s))) Broken
+pub row-line : (s : List ℕ) (n k : ℕ) → row_from s n k 0 ≡ cond (row_form n k (front s)) (Some (row_on n k (front s))) None
 unfolding row_form
 row-line s n k = go (dec_le (n + 1 + k + 1) (length s))
   where
@@ -296,14 +294,14 @@ row-line s n k = go (dec_le (n + 1 + k + 1) (length s))
         (ap (row_test n k) (sym (front_rest s)) ∙ t.0, ap (row_on n k) (sym (front_rest s)) ∙ t.1)
 
     long : m ≤ length s → (t : Bool) → row_test n k s ≡ t → (u : Bool) → eqb (length (front s)) m ≡ u
-        → cond t (Sound (row_on n k s)) Broken ≡ cond (u && row_test n k (front s)) (Sound (row_on n k (front s))) Broken
+        → cond t (Some (row_on n k s)) None ≡ cond (u && row_test n k (front s)) (Some (row_on n k (front s))) None
     long h t e true q =
         let f = front-test (eqb-true (length (front s)) m q) in
         rw (← f.0, e, f.1)
     long h true e false q = absurd (eqb-false (length (front s)) m q (row-front s n k h e))
     long h false e false q = refl
 
-    go : Dec (m ≤ length s) → row_from s n k 0 ≡ cond (row_form n k (front s)) (Sound (row_on n k (front s))) Broken
+    go : Dec (m ≤ length s) → row_from s n k 0 ≡ cond (row_form n k (front s)) (Some (row_on n k (front s))) None
     go (yes h) = row-from s n k h ∙ long h (row_test n k s) refl (eqb (length (front s)) m) refl
     go (no h) = rw (ne_eqb (length (front s)) m (omega (arith, front-le s))) (row-short s n k (omega arith))
 
@@ -321,7 +319,7 @@ row-at-place s n k from =
     here : (i j : ℕ) → j ≡ from + i → at s j ≡ at (drop from s) i
     here i j e = ap (at s) e ∙ sym (get_or-drop from s i 0)
 
-    same : {i i' o o' : Spelling} {g g' e e' : ℕ} → i ≡ i' → g ≡ g' → o ≡ o' → e ≡ e' → joined_of i g o e ≡ joined_of i' g' o' e'
+    same : {i i' o o' : Option (ℕ × ℕ)} {g g' e e' : ℕ} → i ≡ i' → g ≡ g' → o ≡ o' → e ≡ e' → joined_of i g o e ≡ joined_of i' g' o' e'
     same p q r t = rw (p, q, r, t)
 
 -- a line of row form is as long as a row, and has its parts

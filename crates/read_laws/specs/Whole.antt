@@ -1,6 +1,6 @@
 -- The headings and the body: the reader's headings are those of their lines, and the faulty line that it finds in the body is the least
 -- that is not of the form due there. Assumes nothing.
-use Rattle.std.specs.Prelude.{◌≡◌, Bool, true, cond, ◌&&◌, ltb, drop}
+use Rattle.std.specs.Prelude.{◌≡◌, Bool, true, cond, ◌&&◌, ltb, drop, Some, None}
 use Rattle.std.proofs.Math.Path.{refl, ap}
 use Rattle.std.proofs.Common.{sym, ap₂, ◌∙◌, zero-add, add-one, length-drop}
 use Rattle.std.proofs.Math.Bool.{false, not}
@@ -16,8 +16,6 @@ use Rattle.std.proofs.Math.Seq.{get_or-drop}
 use Rattle.slices.specs.Places.{at, first}
 use Rattle.slices.specs.Least.{first-is, first-le, first_below, first_passes}
 use Rattle.block.specs.Text.{end_line, lines, line_at, equal, every, number_part, head_form, row_form, row_on, value_of, body_due, body_fault}
-use Rattle.read_laws.specs.declared.Number.TheVariants.{Value, Formless}
-use Rattle.read_laws.specs.declared.Line.TheVariants.{Sound, Broken}
 use Rattle.read_laws.specs.ByPlace.{head_at, is_broken, line_of, broken_line, end_of, fault_of}
 use Rattle.read_laws.specs.Tests.{not-both, equal-true, equal-same}
 use Rattle.read_laws.specs.Front.{front, start, line-front, Stands, front-stands, stands-front, no_lf}
@@ -29,7 +27,7 @@ use Rattle.read_laws.specs.RowLines.{row-line, row-at-place, row-length}
 -- the heading from the start of line i on is that of line i
 pub head_of : (letter : ℕ) (s : List ℕ) (i : ℕ) → (letter ≡ 10 → ⊥)
     → head_at s (start s i) letter
-    ≡ cond (head_form letter (line_at s i)) (Value (value_of (number_part (line_at s i))) (length (line_at s i))) Formless
+    ≡ cond (head_form letter (line_at s i)) (Some (value_of (number_part (line_at s i)), length (line_at s i))) None
 head_of letter s i l = rw (line-front s i) (head-line letter s (start s i) l)
 
 -- ---- the rows
@@ -45,7 +43,7 @@ module _ (s : List ℕ) (n k : ℕ) where
 
   -- row i, where those before it have row form
   pub line-of : (j : ℕ) → ((i : ℕ) → i < j → row_form n k (line_at s i) ≡ true)
-      → line_of s n k j ≡ cond (row_form n k (line_at s j)) (Sound (row_on n k (line_at s j))) Broken
+      → line_of s n k j ≡ cond (row_form n k (line_at s j)) (Some (row_on n k (line_at s j))) None
   unfolding line_of
   line-of j h =
       rw (← (row-start j h), line-front s j) (row-at-place s n k (start s j) ∙ row-line (drop (start s j) s) n k)
@@ -54,7 +52,7 @@ module _ (s : List ℕ) (n k : ℕ) where
   pub broken-line : (j : ℕ) → ((i : ℕ) → i < j → row_form n k (line_at s i) ≡ true) → broken_line s n k j ≡ not (row_form n k (line_at s j))
   broken-line j h = rw (line-of j h) (go (row_form n k (line_at s j)))
     where
-      go : (t : Bool) → is_broken (cond t (Sound (row_on n k (line_at s j))) Broken) ≡ not t
+      go : (t : Bool) → is_broken (cond t (Some (row_on n k (line_at s j))) None) ≡ not t
       go true = refl
       go false = refl
 

@@ -3,8 +3,6 @@
 // specs/ByPlace.antt what each of its functions gives, and the laws by which that is what the meaning says of the lines.
 #![tactic(auto)]
 
-use block::{Headings, Refusal, Row};
-
 // The most digits of a heading's number.
 pub const HEAD_DIGITS: usize = 3;
 
@@ -14,37 +12,9 @@ pub const TYPE_BYTES: usize = 9;
 // The line, from 1, with which the body begins where no type line stands: three headings stand before it.
 pub const BODY_LINE: usize = 4;
 
-// A number, and how many bytes it takes with what stands before it and its LF.
-#[derive(Clone, Copy)]
-pub enum Number {
-    Value(usize, usize),
-    Formless,
-}
-
 // What the bytes after ".o k" say of the type: the type, and 1 where its line stands there, or 0.
 #[derive(Clone, Copy)]
 pub struct TypeLine {
     pub block_type: usize,
     pub type_line: usize,
-}
-
-// What some symbols spell: a mask and the values under it, highest input first.
-#[derive(Clone, Copy)]
-pub enum Spelling {
-    Good(u32, u32),
-    Bad,
-}
-
-// A row's line.
-#[derive(Clone, Copy)]
-pub enum Line {
-    Sound(Row),
-    Broken,
-}
-
-// The headings: what they say and the place after them, or why the text is refused before any row.
-#[derive(Clone, Copy)]
-pub enum Opening {
-    Open(Headings, usize),
-    Stopped(Refusal),
 }

@@ -1,6 +1,6 @@
 -- A model by place: how many inputs and outputs its heading names (`sized`), and the whole of it, rows and outputs (`model-held`). Assumes
 -- nothing.
-use Rattle.std.specs.Prelude.{◌≡◌, refl, Bool, true, false, ◌&&◌, List, [], ◌∷◌, ◌++◌, ℕ, suc, ◌+◌, ◌^◌, ◌≤◌, ◌<◌, ltb, length, take, drop}
+use Rattle.std.specs.Prelude.{◌≡◌, refl, Bool, true, false, ◌&&◌, List, [], ◌∷◌, ◌++◌, ℕ, suc, ◌+◌, ◌^◌, ◌≤◌, ◌<◌, ltb, length, take, drop, Result, Ok, Err}
 use Rattle.std.proofs.Common.{sym, ap, ◌∙◌, append_assoc, zero-add, add-one, arith, lt-ltb, le-ltb, ltb-true, length-append}
 use Rattle.std.proofs.lemmas.List.Edits.{sets}
 use Rattle.slices.specs.Places.{tab, first}
@@ -20,10 +20,6 @@ use Rattle.read_names.specs.Fate.{front-begins, ends, Fate, Stopped, fate, fate-
 use Rattle.read_names.specs.Attempts.{attempt-first}
 use Rattle.read_sigma.specs.Rows.{AllRows}
 use Rattle.read_outputs.specs.Outputs.{Holds, AllRead}
-use Rattle.read_model.specs.declared.Sizes.{Sizes}
-use Rattle.read_model.specs.declared.Sizes.TheVariants.{Are, Unsized}
-use Rattle.read_model.specs.declared.Model.{Model}
-use Rattle.read_model.specs.declared.Model.TheVariants.{Read, Broken}
 
 -- ---- a line that names the inputs, or the outputs
 
@@ -104,31 +100,31 @@ abbrev pub begun : State
 begun = Due title_line InputsDue
 
 -- what comes of the heading: the sizes, and the rows are due; or the place where reading stops
-unfoldable pub Sized : List ℕ → Sizes → Type 0
-Sized text (Are n k to) =
+unfoldable pub Sized : List ℕ → Result (ℕ × ℕ × ℕ) ℕ → Type 0
+Sized text (Ok (n, k, to)) =
     (1 ≤ n) × (n ≤ list_inputs) × (1 ≤ k) × (k ≤ outputs) × (fate text begun 0 ≡ fate text (RowDue n k []) to)
-Sized text (Unsized to) = Stopped text (fate text begun 0) to
+Sized text (Err to) = Stopped text (fate text begun 0) to
 
 -- the same from the inputs' line on, and from the outputs' line on
-unfoldable pub Inlined : List ℕ → ℕ → Sizes → Type 0
-Inlined text at (Are n k to) =
+unfoldable pub Inlined : List ℕ → ℕ → Result (ℕ × ℕ × ℕ) ℕ → Type 0
+Inlined text at (Ok (n, k, to)) =
     (1 ≤ n) × (n ≤ list_inputs) × (1 ≤ k) × (k ≤ outputs) × (fate text InputsDue at ≡ fate text (RowDue n k []) to)
-Inlined text at (Unsized to) = Stopped text (fate text InputsDue at) to
+Inlined text at (Err to) = Stopped text (fate text InputsDue at) to
 
-unfoldable pub Outlined : List ℕ → ℕ → ℕ → Sizes → Type 0
-Outlined text at m (Are n k to) = (n ≡ m) × (1 ≤ k) × (k ≤ outputs) × (fate text (OutputsDue m) at ≡ fate text (RowDue m k []) to)
-Outlined text at m (Unsized to) = Stopped text (fate text (OutputsDue m) at) to
+unfoldable pub Outlined : List ℕ → ℕ → ℕ → Result (ℕ × ℕ × ℕ) ℕ → Type 0
+Outlined text at m (Ok (n, k, to)) = (n ≡ m) × (1 ≤ k) × (k ≤ outputs) × (fate text (OutputsDue m) at ≡ fate text (RowDue m k []) to)
+Outlined text at m (Err to) = Stopped text (fate text (OutputsDue m) at) to
 
-pub out-in : (text : List ℕ) (at to n : ℕ) (r : Sizes) → 1 ≤ n → n ≤ list_inputs → fate text InputsDue at ≡ fate text (OutputsDue n) to
+pub out-in : (text : List ℕ) (at to n : ℕ) (r : Result (ℕ × ℕ × ℕ) ℕ) → 1 ≤ n → n ≤ list_inputs → fate text InputsDue at ≡ fate text (OutputsDue n) to
     → Outlined text to n r → Inlined text at r
 unfolding Inlined Outlined
-out-in text at to n (Are m k p) h l e s = (rw s.0 h, rw s.0 l, s.1, s.2, e ∙ rw s.0 s.3)
-out-in text at to n (Unsized p) h l e s = rw e s
+out-in text at to n (Ok (m, k, p)) h l e s = (rw s.0 h, rw s.0 l, s.1, s.2, e ∙ rw s.0 s.3)
+out-in text at to n (Err p) h l e s = rw e s
 
-pub in-sized : (text : List ℕ) (to : ℕ) (r : Sizes) → fate text begun 0 ≡ fate text InputsDue to → Inlined text to r → Sized text r
+pub in-sized : (text : List ℕ) (to : ℕ) (r : Result (ℕ × ℕ × ℕ) ℕ) → fate text begun 0 ≡ fate text InputsDue to → Inlined text to r → Sized text r
 unfolding Inlined Sized
-in-sized text to (Are n k p) e s = (s.0, s.1, s.2, s.3, e ∙ s.4)
-in-sized text to (Unsized p) e s = rw e s
+in-sized text to (Ok (n, k, p)) e s = (s.0, s.1, s.2, s.3, e ∙ s.4)
+in-sized text to (Err p) e s = rw e s
 
 -- ---- the whole model
 
@@ -149,9 +145,9 @@ pub record ModelBroken (text : List ℕ) (to : ℕ) : Type 0 where
   pub broken : is_whole (outcome_of text) ≡ false
   pub line : good_lines start (lines text) ≡ ends (take to text)
 
-unfoldable pub Modelled : List ℕ → List ℕ → List ℕ → List ℕ → List ℕ → List ℕ → List ℕ → List ℕ → List ℕ → Model → Type 0
-Modelled text s₀ c₀ m₀ v₀ s c m v (Read n k total) = ModelHeld text s₀ c₀ m₀ v₀ n k total s c m v
-Modelled text s₀ c₀ m₀ v₀ s c m v (Broken to) = ModelBroken text to
+unfoldable pub Modelled : List ℕ → List ℕ → List ℕ → List ℕ → List ℕ → List ℕ → List ℕ → List ℕ → List ℕ → Result (ℕ × ℕ × ℕ) ℕ → Type 0
+Modelled text s₀ c₀ m₀ v₀ s c m v (Ok (n, k, total)) = ModelHeld text s₀ c₀ m₀ v₀ n k total s c m v
+Modelled text s₀ c₀ m₀ v₀ s c m v (Err to) = ModelBroken text to
 
 pub model-broken : (text : List ℕ) (to : ℕ) → Stopped text (fate text begun 0) to → ModelBroken text to
 unfolding fate ends

@@ -1,7 +1,7 @@
 -- What becomes of a text from a place on, where a state is due there (`fate`): a line that is due leads to the next place with the same
 -- fate (`fate-next`), and one that is not stops the reading (`fate-stop`). A line stands at a place exactly where its bytes are met there.
 -- Assumes nothing.
-use Rattle.std.specs.Prelude.{◌≡◌, refl, Bool, true, false, not, cond, ◌&&◌, eqb, take}
+use Rattle.std.specs.Prelude.{◌≡◌, refl, Bool, true, false, not, cond, ◌&&◌, eqb, take, Result, Ok, Err}
 use Rattle.std.proofs.Math.Path.{sym, ap}
 use Rattle.std.proofs.Common.{◌∙◌, add-zero, zero-add, arith, eq-eqb, ne_eqb, eqb-true, drop_of_length-le, drop-drop, take-add}
 use mathlib.Core.List.{List, [], ◌∷◌, ◌++◌}
@@ -18,8 +18,6 @@ use Rattle.block.specs.declared.Pattern.{Pattern}
 use Rattle.read_laws.specs.Front.{front, line_first}
 use Rattle.read_laws.specs.Tests.{equal-true, equal-same}
 use Rattle.model_laws.specs.WordLines.{is_line}
-use Rattle.read_names.specs.declared.Place.{Place}
-use Rattle.read_names.specs.declared.Place.TheVariants.{After, Stop}
 use Rattle.read_names.specs.Met.{begins, met_at, lost, met-found, met-missed, met-yes}
 
 -- ---- a line, and the front of a text
@@ -113,9 +111,9 @@ pub record Stopped (text : List ℕ) (f : Fate) (to : ℕ) : Type 0 where
   pub line : f.good ≡ ends (take to text)
 
 -- what reading from one state to another gives
-unfoldable pub Came : List ℕ → State → ℕ → State → Place → Type 0
-Came text st at to (After p) = fate text st at ≡ fate text to p
-Came text st at to (Stop p) = Stopped text (fate text st at) p
+unfoldable pub Came : List ℕ → State → ℕ → State → Result ℕ ℕ → Type 0
+Came text st at to (Ok p) = fate text st at ≡ fate text to p
+Came text st at to (Err p) = Stopped text (fate text st at) p
 
 fate-is : (text : List ℕ) (st : State) (at : ℕ) (o : Outcome) (g : ℕ)
     → after (More st) (lines (drop at text)) ≡ o → ends (take at text) + good_lines (More st) (lines (drop at text)) ≡ g
@@ -264,8 +262,8 @@ fate-met text h st at to s e f g =
 pub stop-after : {text : List ℕ} {f g : Fate} {p : ℕ} → f ≡ g → Stopped text g p → Stopped text f p
 stop-after {text} {f} {g} {p} e h = rw e h
 
-pub came-after : (text : List ℕ) (st : State) (at : ℕ) (mid : State) (p : ℕ) (to : State) (r : Place)
+pub came-after : (text : List ℕ) (st : State) (at : ℕ) (mid : State) (p : ℕ) (to : State) (r : Result ℕ ℕ)
     → fate text st at ≡ fate text mid p → Came text mid p to r → Came text st at to r
 unfolding Came
-came-after text st at mid p to (After q) e h = e ∙ h
-came-after text st at mid p to (Stop q) e h = stop-after e h
+came-after text st at mid p to (Ok q) e h = e ∙ h
+came-after text st at mid p to (Err q) e h = stop-after e h

@@ -1,6 +1,7 @@
 // The names of a model (02, Ticket 4), compared by place. Each function answers the place after the bytes that are due where they stand,
 // and else LOST, a place that no text reaches; from LOST on nothing stands, so that functions are called one after the other and only the
-// last place is looked at. All functions here are inner.
+// last place is looked at. `read_line` alone answers a result, as those above this crate do: the place after the line, or as the error
+// the place of the first line that is not of the form due. All functions here are inner.
 #![tactic(auto)]
 
 ghost use Rattle.std.specs.Prelude.{◌≡◌, [], ◌∷◌, ◌≤◌, ◌<◌, true};
@@ -13,26 +14,17 @@ ghost use Rattle.model_laws.specs.WordLines.{is_line};
 ghost use Rattle.read_names.specs.Met.{met_at};
 ghost use Rattle.read_names.specs.Fate.{Came};
 
-pub const LOST: usize = 18446744073709551615;
-
-// Where lines that are due were looked for: the place after them, or the place of the first line that is not of the form due.
-#[derive(Clone, Copy)]
-pub enum Place {
-    After(usize),
-    Stop(usize),
-}
+pub const LOST: usize = usize::MAX;
 
 // One byte.
 pub fn meet_byte(text: &[u8], at: usize, b: u8) -> usize
     ensures { result ≡ met_at text.now at (b ∷ []) }
 {
-    if text.len() <= at {
-        return LOST;
+    if at < text.len() && text[at] == b {
+        at + 1
+    } else {
+        LOST
     }
-    if text[at] == b {
-        return at + 1;
-    }
-    LOST
 }
 
 // The bytes of s.
@@ -40,10 +32,8 @@ pub fn meet_bytes(text: &[u8], at: usize, s: &[u8]) -> usize
     ensures { result ≡ met_at text.now at s.now }
 {
     let mut to = at;
-    let mut i = 0;
-    while i < s.len() {
-        to = meet_byte(text, to, s[i]);
-        i += 1;
+    for b in s {
+        to = meet_byte(text, to, *b);
     }
     to
 }
@@ -85,23 +75,21 @@ pub fn meet_names(text: &[u8], at: usize, letter: u8, n: usize) -> usize
     ensures { result ≡ met_at text.now at (spaced (tab n (lettered letter))) }
 {
     let mut to = at;
-    let mut i = 0;
-    while i < n {
+    for i in 0..n {
         let gap = meet_byte(text, to, 32);
         to = meet_name(text, gap, letter, i);
-        i += 1;
     }
     to
 }
 
 // One line that is due, whatever is due after it.
-pub fn read_line(text: &[u8], at: usize, line: &[u8]) -> Place
+pub fn read_line(text: &[u8], at: usize, line: &[u8]) -> Result<usize, usize>
     requires { is_line line.now ≡ true }
     ensures { (s : State) → Came text.now (Due line.now s) at s result }
 {
     let to = meet_bytes(text, at, line);
     if to == LOST {
-        return Place::Stop(at);
+        return Err(at);
     }
-    Place::After(to)
+    Ok(to)
 }

@@ -1,6 +1,6 @@
 -- A pattern's line by place: n symbols and " 1" stand there (`cube-there`) exactly where the first line is of a pattern's form (`no-cube`).
 -- Assumes nothing.
-use Rattle.std.specs.Prelude.{◌≡◌, Bool, ◌||◌, ℕ, zero, suc, ◌+◌, ◌*◌, ◌^◌, ◌≤◌, ◌<◌, eqb, take}
+use Rattle.std.specs.Prelude.{◌≡◌, Bool, ◌||◌, ℕ, zero, suc, ◌+◌, ◌*◌, ◌^◌, ◌≤◌, ◌<◌, eqb, take, Option, Some, None}
 use Rattle.std.proofs.Math.Path.{refl, sym, ap, ap₂}
 use Rattle.std.proofs.Common.{◌∙◌, add-one, length-append, take_at, drop_at, drop-drop}
 use Rattle.std.proofs.Math.Bool.{true, false, not, ◌&&◌}
@@ -20,8 +20,6 @@ use Rattle.read_laws.specs.Front.{front, front_rest, no_lf}
 use Rattle.read_laws.specs.Tests.{every-at, every-all, every_append, equal-true, equal-same, not-both}
 use Rattle.model_laws.specs.WordLines.{is_line, line-ends}
 use Rattle.read_names.specs.Met.{begins, met_at, lost, begins-append, begins-length, met-yes, met-found, met-missed}
-use Rattle.read_outputs.specs.declared.Cube.{Cube}
-use Rattle.read_outputs.specs.declared.Cube.TheVariants.{None, Is}
 
 -- 0, 1 or -
 abbrev pub is_symbol : ℕ → Bool
@@ -46,9 +44,9 @@ pub record CubeLine (text : List ℕ) (n from m v to : ℕ) : Type 0 where
   pub says : pattern_on n line ≡ pattern m v
 
 -- what comes of looking for a pattern's line
-unfoldable pub Cubed : List ℕ → ℕ → ℕ → Cube → Type 0
+unfoldable pub Cubed : List ℕ → ℕ → ℕ → Option (ℕ × ℕ × ℕ) → Type 0
 Cubed text n from None = pattern_form n (front (drop from text)) ≡ false
-Cubed text n from (Is m v to) = CubeLine text n from m v to
+Cubed text n from (Some (m, v, to)) = CubeLine text n from m v to
 
 symbol-clear : (b : ℕ) → is_symbol b ≡ true → not (eqb b 10) ≡ true
 symbol-clear b e = go (eqb b 10) refl
@@ -137,7 +135,7 @@ module _ (text : List ℕ) (h : length text < 2 ^ 63) (n from : ℕ) where
   -- by the symbols and the place that were met
   pub cube-there : ((j : ℕ) → j < n → is_symbol (at text (from + j)) ≡ true) → (m v to : ℕ)
       → m ≡ sum (λ i. mask_bit (at text (from + i)) i) n → v ≡ sum (λ i. value_bit (at text (from + i)) i) n
-      → to ≡ met_at text (from + n) (cube_line []) → (to ≡ lost → ⊥) → Cubed text n from (Is m v to)
+      → to ≡ met_at text (from + n) (cube_line []) → (to ≡ lost → ⊥) → Cubed text n from (Some (m, v, to))
   unfolding Cubed
   cube-there good m v to e f g d =
       let q = met-found text h (from + n) (32 ∷ 49 ∷ 10 ∷ []) (λ w. d (g ∙ w)) in

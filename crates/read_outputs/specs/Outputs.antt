@@ -1,6 +1,6 @@
 -- The covers of the outputs by place: the patterns of one output (`PatternsRead`), the outputs one after the other (`OutputsRead`), the last
 -- line, and the whole (`AllRead`). The lists that were lent hold what fits. Assumes nothing.
-use Rattle.std.specs.Prelude.{◌≡◌, Bool, false, cond, eqb, set, drop}
+use Rattle.std.specs.Prelude.{◌≡◌, Bool, false, cond, eqb, set, drop, Result, Ok, Err}
 use Rattle.std.proofs.Math.Path.{refl, ap}
 use Rattle.std.proofs.Common.{sym, ◌∙◌, add-zero, length-append, length-drop}
 use Rattle.std.proofs.Math.Bool.{true}
@@ -24,8 +24,6 @@ use Rattle.model_laws.specs.Spaced.{spaced-append, spaced-one}
 use Rattle.model_laws.specs.WordLines.{is_line, y-word, z_word, words_more, words-tab, word-line}
 use Rattle.read_names.specs.Met.{begins, met_at, lost, begins-length, met-yes, met-found}
 use Rattle.read_names.specs.Fate.{front-begins, line-missed, Fate, Stopped, fate, fate-met, fate-next, fate-stop, fate-whole, fate-over, stop-after}
-use Rattle.read_outputs.specs.declared.Outputs.{Outputs}
-use Rattle.read_outputs.specs.declared.Outputs.TheVariants.{All, Broken}
 use Rattle.read_outputs.specs.Cubes.{CubeLine}
 
 -- the masks and the values of patterns
@@ -177,18 +175,18 @@ pub record AllRead (text : List ℕ) (n k from : ℕ) (c₀ m₀ v₀ : List ℕ
   pub whole : (sigma : List ℕ) → (fate text (OutputDue n k sigma) from).outcome ≡ Whole n k sigma outputs
 
 -- what comes of the outputs
-unfoldable pub Ending : List ℕ → ℕ → ℕ → ℕ → List ℕ → List ℕ → List ℕ → List ℕ → List ℕ → List ℕ → Outputs → Type 0
-Ending text n k from c₀ m₀ v₀ c m v (All total) = AllRead text n k from c₀ m₀ v₀ total c m v
-Ending text n k from c₀ m₀ v₀ c m v (Broken to) = (sigma : List ℕ) → Stopped text (fate text (OutputDue n k sigma) from) to
+unfoldable pub Ending : List ℕ → ℕ → ℕ → ℕ → List ℕ → List ℕ → List ℕ → List ℕ → List ℕ → List ℕ → Result ℕ ℕ → Type 0
+Ending text n k from c₀ m₀ v₀ c m v (Ok total) = AllRead text n k from c₀ m₀ v₀ total c m v
+Ending text n k from c₀ m₀ v₀ c m v (Err to) = (sigma : List ℕ) → Stopped text (fate text (OutputDue n k sigma) from) to
 
 -- what the end of a text says after so many patterns: its last line and nothing more
-unfoldable pub last_of : List ℕ → ℕ → ℕ → Outputs
+unfoldable pub last_of : List ℕ → ℕ → ℕ → Result ℕ ℕ
 last_of text at total =
-    cond (begins last_line (drop at text)) (cond (eqb (at + 5) (length text)) (All total) (Broken (at + 5))) (Broken at)
+    cond (begins last_line (drop at text)) (cond (eqb (at + 5) (length text)) (Ok total) (Err (at + 5))) (Err at)
 
 -- the end by the place that was answered
 module _ (text : List ℕ) (h : length text < 2 ^ 63) (at total r : ℕ) (g : r ≡ met_at text at last_line) where
-  pub last_none : r ≡ lost → Broken at ≡ last_of text at total
+  pub last_none : r ≡ lost → Err at ≡ last_of text at total
   unfolding last_of
   last_none d = rw (line-missed text h at last_line last-is-line (sym g ∙ d))
 
@@ -200,11 +198,11 @@ module _ (text : List ℕ) (h : length text < 2 ^ 63) (at total r : ℕ) (g : r 
     unfolding spaced
     place = g ∙ met-yes text h at last_line met
 
-    pub last-over : (r ≡ length text → ⊥) → Broken r ≡ last_of text at total
+    pub last-over : (r ≡ length text → ⊥) → Err r ≡ last_of text at total
     unfolding last_of
-    last-over f = ap Broken place ∙ rw (met, ne_eqb (at + 5) (length text) (λ w. f (place ∙ w)))
+    last-over f = ap Err place ∙ rw (met, ne_eqb (at + 5) (length text) (λ w. f (place ∙ w)))
 
-    pub last-all : r ≡ length text → All total ≡ last_of text at total
+    pub last-all : r ≡ length text → Ok total ≡ last_of text at total
     unfolding last_of
     last-all f = rw (met, eq-eqb (at + 5) (length text) (sym place ∙ f))
 
@@ -328,7 +326,7 @@ module _ (text : List ℕ) (h : length text < 2 ^ 63) (n k : ℕ) where
           less f d = let w : past + 5 ≤ length text = met-within text past last_line (omega arith) f in omega arith
 
           over : begins last_line (drop past text) ≡ true → (q : Bool) → eqb (past + 5) (length text) ≡ q
-              → Ending text n k from c₀ m₀ v₀ c' m' v' (cond q (All total') (Broken (past + 5)))
+              → Ending text n k from c₀ m₀ v₀ c' m' v' (cond q (Ok total') (Err (past + 5)))
           over f true g =
               record {
                 outputs = next;
@@ -347,6 +345,6 @@ module _ (text : List ℕ) (h : length text < 2 ^ 63) (n k : ℕ) where
               (less f (eqb-false (past + 5) (length text) g)))
 
           go : (q : Bool) → begins last_line (drop past text) ≡ q
-              → Ending text n k from c₀ m₀ v₀ c' m' v' (cond q (cond (eqb (past + 5) (length text)) (All total') (Broken (past + 5))) (Broken past))
+              → Ending text n k from c₀ m₀ v₀ c' m' v' (cond q (cond (eqb (past + 5) (length text)) (Ok total') (Err (past + 5))) (Err past))
           go true f = over f (eqb (past + 5) (length text)) refl
           go false f = λ sigma. stop-after (came sigma) (fate-stop text (PatternDue n k sigma o.outputs p.patterns) past (not-whole f sigma))

@@ -1,6 +1,6 @@
 // The outputs of a model, read by place: a cover's patterns, the covers one after the other, and the last line. Masks, values and counts are
-// stored where they fit and counted all the same, so that one reading tells what a text holds and another stores it. All functions here
-// are inner.
+// stored where they fit and counted all the same, so that one reading tells what a text holds and another stores it. An error is the
+// place of the first line that is not of the form due. All functions here are inner.
 #![tactic(auto)]
 
 ghost use Rattle.std.specs.Prelude.{◌≡◌, ◌≤◌, ◌<◌, ◌+◌, ◌-◌, false, [], length, set, drop};
@@ -15,13 +15,6 @@ ghost use Rattle.read_outputs.specs.Outputs.{PatternsRead, Ending, last_of};
 
 use read_names::LOST;
 
-// A pattern's line: its mask and values, and the place after it.
-#[derive(Clone, Copy)]
-pub enum Cube {
-    None,
-    Is(u32, u32, usize),
-}
-
 // The patterns of an output: the place after them, and the number of patterns up to there.
 #[derive(Clone, Copy)]
 pub struct Patterns {
@@ -29,24 +22,11 @@ pub struct Patterns {
     pub count: usize,
 }
 
-// What comes of the outputs: the number of their patterns where the model is whole, or the place of the first line that is not of the form due.
-#[derive(Clone, Copy)]
-pub enum Outputs {
-    All(usize),
-    Broken(usize),
-}
-
 // Whether a byte is a symbol.
 pub fn is_symbol(b: usize) -> bool
     ensures { result ≡ is_symbol b }
 {
-    if b == 48 {
-        return true;
-    }
-    if b == 49 {
-        return true;
-    }
-    b == 45
+    b == 48 || b == 49 || b == 45
 }
 
 // What the symbol of input i adds to the mask.
@@ -65,28 +45,26 @@ pub fn value_bit(b: usize, i: usize) -> u32
     if b == 49 { bit_work::power(i) } else { 0 }
 }
 
-// A pattern's line: n symbols, and " 1".
-pub fn read_cube(text: &[u8], at: usize, n: usize) -> Cube
+// A pattern's line, n symbols and " 1": its mask and values, and the place after it.
+pub fn read_cube(text: &[u8], at: usize, n: usize) -> Option<(u32, u32, usize)>
     requires { (at ≤ length text.now) × (n ≤ list_inputs) }
     ensures { Cubed text.now n at result }
 {
     let mut m: u32 = 0;
     let mut v: u32 = 0;
-    let mut i = 0;
-    while i < n {
+    for i in 0..n {
         let b = read_bytes::byte(text, at + i);
         if !is_symbol(b) {
-            return Cube::None;
+            return None;
         }
         m += mask_bit(b, i);
         v += value_bit(b, i);
-        i += 1;
     }
     let to = read_names::meet_bytes(text, at + n, b" 1\n");
     if to == LOST {
-        return Cube::None;
+        return None;
     }
-    Cube::Is(m, v, to)
+    Some((m, v, to))
 }
 
 // The patterns from a place on, up to the first line that is none; `count` is the number of those before them.
@@ -105,19 +83,16 @@ pub fn read_patterns(
 {
     let mut to = at;
     let mut total = count;
-    loop {
-        match read_cube(text, to, n) {
-            Cube::None => return Patterns {
-                at: to,
-                count: total,
-            },
-            Cube::Is(m, v, next) => {
-                read_sigma::store(masks, total, m);
-                read_sigma::store(values, total, v);
-                total += 1;
-                to = next;
-            }
-        }
+    // a while: how many patterns stand there, their lines say
+    while let Some((m, v, next)) = read_cube(text, to, n) {
+        read_sigma::store(masks, total, m);
+        read_sigma::store(values, total, v);
+        total += 1;
+        to = next;
+    }
+    Patterns {
+        at: to,
+        count: total,
     }
 }
 
@@ -164,21 +139,21 @@ pub fn meet_head(text: &[u8], at: usize, n: usize, j: usize) -> usize
     read_names::meet_byte(text, name, 10)
 }
 
-// The last line, after `count` patterns, and nothing more.
-pub fn read_last(text: &[u8], at: usize, count: usize) -> Outputs
+// The last line, after `count` patterns, and nothing more: the number of patterns of the whole model.
+pub fn read_last(text: &[u8], at: usize, count: usize) -> Result<usize, usize>
     ensures { result ≡ last_of text.now at count }
 {
     let end = read_names::meet_bytes(text, at, b".end\n");
     if end == LOST {
-        return Outputs::Broken(at);
+        return Err(at);
     }
     if end != text.len() {
-        return Outputs::Broken(end);
+        return Err(end);
     }
-    Outputs::All(count)
+    Ok(count)
 }
 
-// The covers of all k outputs, and the last line.
+// The covers of all k outputs, and the last line: the number of their patterns.
 pub fn read_outputs(
     text: &[u8],
     at: usize,
@@ -187,27 +162,24 @@ pub fn read_outputs(
     counts: &mut [usize],
     masks: &mut [u32],
     values: &mut [u32],
-) -> Outputs
+) -> Result<usize, usize>
     requires { (n ≤ list_inputs) × (1 ≤ k) × (k ≤ outputs) }
     ensures { Ending text.now n k at counts.old masks.old values.old
         counts.new masks.new values.new result }
 {
     let mut to = meet_head(text, at, n, 0);
     if to == LOST {
-        return Outputs::Broken(at);
+        return Err(at);
     }
     let mut count = 0;
-    let mut j = 0;
-    while j + 1 < k {
+    for j in 0..k - 1 {
         let p = read_output(text, to, n, j, count, counts, masks, values);
-        let past = p.at;
-        to = meet_head(text, past, n, j + 1);
+        to = meet_head(text, p.at, n, j + 1);
         if to == LOST {
-            return Outputs::Broken(past);
+            return Err(p.at);
         }
         count = p.count;
-        j += 1;
     }
-    let p = read_output(text, to, n, j, count, counts, masks, values);
+    let p = read_output(text, to, n, k - 1, count, counts, masks, values);
     read_last(text, p.at, p.count)
 }

@@ -8,7 +8,7 @@ ghost use Rattle.promises.specs.Texts.{ReadPromise};
 ghost use Rattle.record_copies.specs.Flat.{held_rows, Sized};
 ghost use Rattle.record_copies.specs.Yielded.{lent_arrays};
 
-use block::{ReadAnswer, Reading};
+use block::{Headings, ReadAnswer, Refusal};
 use record_copies::FlatRows;
 
 // What is read: the rows, their number, and the answer.
@@ -16,16 +16,16 @@ use record_copies::FlatRows;
 pub struct ReadRows {
     pub flat: FlatRows,
     pub count: usize,
-    pub answer: Reading,
+    pub answer: Result<Headings, Refusal>,
 }
 
 // The number of rows that an answer says: none with a refusal.
-pub fn rows_read(answer: Reading) -> usize
+pub fn rows_read(answer: Result<Headings, Refusal>) -> usize
     ensures { result ≡ (numbers answer).count }
 {
     match answer {
-        Reading::Accepted(h) => h.count,
-        Reading::Refused(_) => 0,
+        Ok(h) => h.count,
+        Err(_) => 0,
     }
 }
 
@@ -34,19 +34,19 @@ pub fn read_into(text: &[u8], flat: FlatRows, m: usize) -> ReadRows
     requires { Sized flat × (m ≤ held_rows) }
     ensures { ReadPromise text.now (lent_arrays m result.flat result.count) (numbers result.answer) }
 {
-    let mut masks = flat.masks;
-    let mut values = flat.values;
-    let mut words = flat.words;
+    let FlatRows {
+        mut masks,
+        mut values,
+        mut words,
+    } = flat;
     let answer = reading::read_text(text, &mut masks[..m], &mut values[..m], &mut words[..m]);
-    let count = rows_read(answer);
-    let read = FlatRows {
-        masks,
-        values,
-        words,
-    };
     ReadRows {
-        flat: read,
-        count,
+        flat: FlatRows {
+            masks,
+            values,
+            words,
+        },
+        count: rows_read(answer),
         answer,
     }
 }
@@ -54,9 +54,7 @@ pub fn read_into(text: &[u8], flat: FlatRows, m: usize) -> ReadRows
 pub fn read_of(text: &[u8], room: usize) -> ReadRows
     ensures { ReadPromise text.now (lent_arrays room result.flat result.count) (numbers result.answer) }
 {
-    let m = record_copies::fits(room);
-    let flat = record_copies::blank();
-    read_into(text, flat, m)
+    read_into(text, record_copies::blank(), record_copies::fits(room))
 }
 
 // What is read: the rows, their number, and the answer in numbers.
@@ -71,12 +69,9 @@ pub fn read_numbers_of(text: &[u8], room: usize) -> ReadNumbers
     ensures { ReadPromise text.now (lent_arrays room result.flat result.count) result.answer }
 {
     let read = read_of(text, room);
-    let flat = read.flat;
-    let reading = read.answer;
-    let answer = read_kinds::in_numbers(reading);
     ReadNumbers {
-        flat,
+        flat: read.flat,
         count: read.count,
-        answer,
+        answer: read_kinds::in_numbers(read.answer),
     }
 }

@@ -1,6 +1,6 @@
 -- The rows of sigma by place: a row's first line copies an input (`copied`), begins a chain (`begun-chain`), or is neither (`row-none`);
 -- and all rows, one after the other (`Rows`). Assumes nothing.
-use Rattle.std.specs.Prelude.{◌≡◌, refl, Bool, true, cond, ℕ, ◌+◌, ◌^◌, ◌≤◌, ◌<◌, ltb, drop}
+use Rattle.std.specs.Prelude.{◌≡◌, refl, Bool, true, cond, ℕ, ◌+◌, ◌^◌, ◌≤◌, ◌<◌, ltb, drop, Result, Ok, Err}
 use Rattle.std.proofs.Common.{sym, ◌∙◌, arith, lt-ltb, le-ltb, eq-eqb, ne_eqb}
 use Rattle.std.proofs.Math.Path.{ap}
 use mathlib.Core.List.{List, [], ◌∷◌, ◌++◌}
@@ -17,13 +17,9 @@ use Rattle.block.specs.Model.{x_name, z_name, copy_cover, names_line, cube_line}
 use Rattle.block.specs.ModelRead.{State, Outcome, Due, RowDue, OutputDue, More, on, or_else, attempt, next_row, link, step}
 use Rattle.read_laws.specs.Front.{front}
 use Rattle.put_bytes.specs.Puts.{sets-append}
-use Rattle.read_names.specs.declared.Place.{Place}
-use Rattle.read_names.specs.declared.Place.TheVariants.{After, Stop}
 use Rattle.read_names.specs.Met.{begins, met_at, met-then, begins-then}
 use Rattle.read_names.specs.Fate.{front-begins, Stopped, fate, fate-met, fate-stop, stop-after}
 use Rattle.read_names.specs.Attempts.{attempt-first}
-use Rattle.read_chains.specs.declared.Chain.{Chain}
-use Rattle.read_chains.specs.declared.Chain.TheVariants.{Row, Broken}
 use Rattle.model_laws.specs.WordLines.{x-word}
 use Rattle.read_chains.specs.Chains.{tail, opening, copy_line, copy-is-line, linked_at, state_by, Chaining, Chained, Ended, link-there, ended-chain, power-lt}
 
@@ -76,7 +72,7 @@ module _ (text : List ℕ) (h : length text < 2 ^ 63) (n i at begun : ℕ) (g : 
 
   -- by what the functions answered
   pub row_copied : (a : ℕ) → a ≡ first n (copy_at text begun i) → a < n → (v to : ℕ) → v ≡ 2 ^ a → to ≡ met_at text begun (tail a (z_name i))
-      → (r : Chain) → ((s : State) → Ended text (Due (cube_line (49 ∷ [])) s) to s v r) → Chained text n i (λ k rs. RowDue n k rs) at r
+      → (r : Result (ℕ × ℕ) ℕ) → ((s : State) → Ended text (Due (cube_line (49 ∷ [])) s) to s v r) → Chained text n i (λ k rs. RowDue n k rs) at r
   row_copied a f l v to e m r d =
       ended-chain text n i (λ k rs. RowDue n k rs) at v to (Due (cube_line (49 ∷ []))) (rw e (power-lt a n l))
       (λ k rs q. rw (e, m) (copied a (sym f) l k rs q)) r d
@@ -146,9 +142,9 @@ pub record AllRows (text : List ℕ) (n from : ℕ) (l₀ : List ℕ) (at : ℕ)
   pub goes : (k : ℕ) → fate text (RowDue n k []) from ≡ fate text (OutputDue n k rows) at
 
 -- what comes of the rows
-unfoldable pub Rows : List ℕ → ℕ → ℕ → List ℕ → List ℕ → Place → Type 0
-Rows text n from l₀ l (After to) = AllRows text n from l₀ to l
-Rows text n from l₀ l (Stop to) = (k : ℕ) → Stopped text (fate text (RowDue n k []) from) to
+unfoldable pub Rows : List ℕ → ℕ → ℕ → List ℕ → List ℕ → Result ℕ ℕ → Type 0
+Rows text n from l₀ l (Ok to) = AllRows text n from l₀ to l
+Rows text n from l₀ l (Err to) = (k : ℕ) → Stopped text (fate text (RowDue n k []) from) to
 
 pub rows-first : (text : List ℕ) (n from : ℕ) (l : List ℕ) → 1 ≤ n → SoFar text n from l 0 from l
 rows-first text n from l h =
@@ -168,12 +164,12 @@ module _ {text : List ℕ} {n from : ℕ} {l₀ : List ℕ} {i at : ℕ} {l : Li
       ∙ ap (λ (q : Bool). fate text (cond q (OutputDue n k s.rows) (RowDue n k s.rows)) at)
       (ne_eqb (length s.rows) n (λ e. omega (arith, s.size)))
 
-  pub rows-stop : i < n → (bad : ℕ) → Chained text n i (λ k rs. RowDue n k rs) at (Broken bad)
+  pub rows-stop : i < n → (bad : ℕ) → Chained text n i (λ k rs. RowDue n k rs) at (Err bad)
       → (k : ℕ) → Stopped text (fate text (RowDue n k []) from) bad
   unfolding Chained
   rows-stop h bad c k = stop-after (due-row h k) (c k s.rows s.size)
 
-  pub rows_more : i < n → (m to : ℕ) → Chained text n i (λ k rs. RowDue n k rs) at (Row m to) → (l' : List ℕ) → l' ≡ set l i m
+  pub rows_more : i < n → (m to : ℕ) → Chained text n i (λ k rs. RowDue n k rs) at (Ok (m, to)) → (l' : List ℕ) → l' ≡ set l i m
       → SoFar text n from l₀ (i + 1) to l'
   unfolding Chained
   rows_more h m to c l' e =

@@ -1,2 +1,2 @@
--- The work of reading row text: `Cursor` has the laws of the text from the cursor on.
+-- The work of reading row text: `Cursor` says where the cursor stands.
 pub mod Cursor

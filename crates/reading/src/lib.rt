@@ -7,10 +7,15 @@ ghost use Rattle.block.specs.Text.{numbers};
 ghost use Rattle.promises.specs.Lent.{lent_flat};
 ghost use Rattle.promises.specs.Texts.{ReadPromise};
 
-use block::Reading;
+use block::{Headings, Refusal};
 
 // Reads the text. The room is the shortest of the three slices. Refuses with 10 for a heading, then 1, 2, 4 and 5, then 10 for the rest.
-pub fn read_text(text: &[u8], masks: &mut [u32], values: &mut [u32], words: &mut [u32]) -> Reading
+pub fn read_text(
+    text: &[u8],
+    masks: &mut [u32],
+    values: &mut [u32],
+    words: &mut [u32],
+) -> Result<Headings, Refusal>
     ensures { ReadPromise text.now
         (lent_flat masks.old values.old words.old masks.new values.new words.new)
         (numbers result) }

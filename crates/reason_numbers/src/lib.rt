@@ -3,13 +3,12 @@
 
 ghost use Rattle.std.specs.Prelude.{◌≡◌};
 ghost use Rattle.block.specs.Reasons.{why_numbers};
-ghost use Rattle.block.specs.declared.Why.TheVariants.{Given};
 
-use block::{Reason, Why, WhyAnswer};
+use block::{Answer, Reason, WhyAnswer};
 
 // The answer that a reason is.
 pub fn given_numbers(reason: Reason) -> WhyAnswer
-    ensures { result ≡ why_numbers (Given reason) }
+    ensures { result ≡ why_numbers (Ok reason) }
 {
     match reason {
         Reason::Zero => WhyAnswer {
@@ -48,12 +47,12 @@ pub fn given_numbers(reason: Reason) -> WhyAnswer
 }
 
 // The answer in numbers.
-pub fn in_numbers(why: Why) -> WhyAnswer
+pub fn in_numbers(why: Result<Reason, Answer>) -> WhyAnswer
     ensures { result ≡ why_numbers why }
 {
     match why {
-        Why::Given(reason) => given_numbers(reason),
-        Why::Refused(v) => WhyAnswer {
+        Ok(reason) => given_numbers(reason),
+        Err(v) => WhyAnswer {
             number: v.number,
             a: v.a,
             b: v.b,

@@ -18,12 +18,10 @@ fn place_of(taken: &[u32], n: usize, t: u32) -> usize
     requires { n ≤ length taken.now }
     ensures { result ≡ place_of n (at taken.now) t }
 {
-    let mut j: usize = 0;
-    while j < n {
+    for j in 0..n {
         if taken[j] == t {
             return j;
         }
-        j += 1;
     }
     n
 }

@@ -8,7 +8,7 @@ ghost use Rattle.block.specs.Words.{rows_of};
 ghost use Rattle.block.specs.Reasons.{why_numbers};
 ghost use Rattle.promises.specs.Reasons.{WhyNotPromise};
 
-use block::{LIST_INPUTS, Why};
+use block::{Answer, LIST_INPUTS, Reason};
 
 // Why t was not taken, with weight limit w; the taken numbers, T by columns, go to the front of `taken`. Refuses with 1, 2, 3 (the type, w,
 // t), 4, 6, 7 and 11.
@@ -22,15 +22,15 @@ pub fn why_not(
     values: &[u32],
     words: &[u32],
     taken: &mut [u32; LIST_INPUTS],
-) -> Why
+) -> Result<Reason, Answer>
     ensures { WhyNotPromise n k block_type w t (rows_of masks.now values.now words.now)
         taken.old (why_numbers result) taken.new }
 {
     let missing = shared_checks::missing_word(block_type);
     let v = row_checks::why_verdict(n, k, block_type, w, t, masks, values, words);
     if v.number != 0 {
-        return Why::Refused(v);
+        return Err(v);
     }
     let reason = reason_work::find_reason(n, w, t as u32, masks, values, words, missing, taken);
-    Why::Given(reason)
+    Ok(reason)
 }

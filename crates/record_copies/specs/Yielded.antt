@@ -7,7 +7,7 @@ use Rattle.std.proofs.Math.Decide.{dec_lt}
 use Rattle.std.proofs.Math.ListN.{get_or-append}
 use Rattle.slices.specs.Places.{at, tab, over}
 use Rattle.slices.specs.Filled.{length-tab, tab-at, over-is, over-map-at, length-over-map}
-use Rattle.block.specs.Words.{row, mask_part, values_part, word_part}
+use Rattle.block.specs.Words.{row}
 use Rattle.block.specs.Refusals.{answered, carried, stored, row_at}
 use Rattle.block.specs.declared.Row.{Row}
 use Rattle.block.specs.declared.Answer.{Answer}

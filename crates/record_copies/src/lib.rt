@@ -22,7 +22,7 @@ pub struct FlatRows {
 pub fn fits(len: usize) -> usize
     ensures { result ≡ min len held_rows }
 {
-    if len < HELD_ROWS { len } else { HELD_ROWS }
+    len.min(HELD_ROWS)
 }
 
 // Arrays to store rows in.
@@ -44,13 +44,10 @@ pub fn gather(rows: &[Row], m: usize) -> FlatRows
     let mut masks = [0u32; HELD_ROWS];
     let mut values = [0u32; HELD_ROWS];
     let mut words = [0u32; HELD_ROWS];
-    let mut i: usize = 0;
-    while i < m {
-        let r = rows[i];
+    for (i, r) in rows[..m].iter().enumerate() {
         masks[i] = r.mask;
         values[i] = r.values;
         words[i] = r.word;
-        i += 1;
     }
     FlatRows {
         masks,
@@ -67,13 +64,11 @@ pub fn scatter(flat: FlatRows, m: usize, rows: &mut [Row])
     let masks = flat.masks;
     let values = flat.values;
     let words = flat.words;
-    let mut i: usize = 0;
-    while i < m {
+    for i in 0..m {
         rows[i] = Row {
             mask: masks[i],
             values: values[i],
             word: words[i],
         };
-        i += 1;
     }
 }

@@ -7,7 +7,7 @@ ghost use Rattle.block.specs.Reasons.{why_numbers};
 ghost use Rattle.promises.specs.Reasons.{WhyNotPromise};
 ghost use Rattle.record_copies.specs.Flat.{held_rows, Sized, listed};
 
-use block::{LIST_INPUTS, Why};
+use block::{Answer, LIST_INPUTS, Reason};
 use record_copies::FlatRows;
 
 // Why t was not taken.
@@ -20,7 +20,7 @@ pub fn why_of(
     flat: FlatRows,
     m: usize,
     taken: &mut [u32; LIST_INPUTS],
-) -> Why
+) -> Result<Reason, Answer>
     requires { Sized flat × (m ≤ held_rows) }
     ensures { WhyNotPromise n k block_type w t (listed flat m) taken.old (why_numbers result) taken.new }
 {

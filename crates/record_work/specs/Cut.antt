@@ -1,7 +1,7 @@
 -- No operation looks beyond row 512: a list of more than 512 rows is refused by its number of rows, if not before, and so is the list
 -- of its first 513 rows. So each operation answers alike for the list and for its first 513 rows; the law is one, `cut-same`, and then
 -- it is said of each operation. Assumes nothing.
-use Rattle.std.specs.Prelude.{◌≡◌, refl, Bool, true, not, ◌&&◌, ◌||◌, List, [], ◌∷◌, ◌++◌, ℕ, suc, ◌^◌, ◌≤◌, ◌<◌, length, take}
+use Rattle.std.specs.Prelude.{◌≡◌, refl, Bool, true, not, ◌&&◌, ◌||◌, List, [], ◌∷◌, ◌++◌, ℕ, suc, ◌^◌, ◌≤◌, ◌<◌, length, take, Ok, Err}
 use Rattle.std.proofs.Common.{sym, ap, ◌∙◌, arith, lt-ltb, le-ltb, length-take, take_all}
 use Rattle.std.proofs.Math.Bool.{false, cond}
 use Rattle.std.proofs.Math.Decide.{dec_le}
@@ -21,7 +21,6 @@ use Rattle.block.specs.Joins.{joined, join_verdict, with_count, join, joined_roo
 use Rattle.block.specs.Overlaps.{disjoined, disjoin_checked, many_check, disjoin_verdict, with_pieces, disjoin}
 use Rattle.block.specs.declared.Row.{Row}
 use Rattle.block.specs.declared.Answer.{Answer}
-use Rattle.block.specs.declared.Why.TheVariants.{Given, Refused}
 use Rattle.refusal_laws.specs.Verdicts.{verdict-hit, verdict-miss, Numbered, verdict-parts}
 
 -- the rows that are looked at: one more than any operation takes
@@ -169,7 +168,7 @@ module _ (n k y w t : ℕ) where
 
   pub why-cut : (rs : List Row) → why_not n k y w t (take cut_rows rs) ≡ why_not n k y w t rs
   unfolding why_not
-  why-cut = why-alike (λ v l. cond (answered v) (Given (reason_of (of_rows (missing y) l) n w t)) (Refused v)) (λ v l m h. rw h)
+  why-cut = why-alike (λ v l. cond (answered v) (Ok (reason_of (of_rows (missing y) l) n w t)) (Err v)) (λ v l m h. rw h)
 
   pub taken-cut : (taken : List ℕ) (rs : List Row)
       → stored (why_verdict n k y w t (take cut_rows rs)) (basis_of (of_rows (missing y) (take cut_rows rs)) n w) taken

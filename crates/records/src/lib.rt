@@ -17,8 +17,8 @@ ghost use Rattle.promises.specs.Sheets.{SheetPromise};
 ghost use Rattle.promises.specs.Models.{WriteModelPromise};
 
 use block::{
-    Answer, DisjoinAnswer, JoinAnswer, LIST_INPUTS, ReadAnswer, Reading, Row, RowMethodAnswer,
-    TextAnswer, ValueAnswer, Why,
+    Answer, DisjoinAnswer, Headings, JoinAnswer, LIST_INPUTS, ReadAnswer, Reason, Refusal, Row,
+    RowMethodAnswer, TextAnswer, ValueAnswer,
 };
 
 // R(t) of a list. Refuses with 1, 2, 3 (the type, t), 4, 6, 7 and 11.
@@ -62,7 +62,7 @@ pub fn why_not(
     t: usize,
     rows: &[Row],
     taken: &mut [u32; LIST_INPUTS],
-) -> Why
+) -> Result<Reason, Answer>
     ensures { WhyNotPromise n k block_type w t rows.now taken.old (why_numbers result) taken.new }
 {
     let m = record_copies::fits(rows.len());
@@ -122,7 +122,7 @@ pub fn write_text(
 
 // Reads the text: its rows are the first records, and the others hold what they held. Refuses with 10 for a heading, then 1, 2, 4 and
 // 5 (the .p count of rows), then 10 for the rest.
-pub fn read_text(text: &[u8], rows: &mut [Row]) -> Reading
+pub fn read_text(text: &[u8], rows: &mut [Row]) -> Result<Headings, Refusal>
     ensures { ReadPromise text.now (lent_records rows.old rows.new) (numbers result) }
 {
     let read = read_records::read_of(text, rows.len());

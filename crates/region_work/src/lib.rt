@@ -30,14 +30,12 @@ pub fn meet_rows(q: Row, masks: &[u32], values: &[u32], words: &[u32]) -> Met
     let mut rows: usize = 0;
     let mut fixed: u32 = 0;
     let mut word: u32 = 0;
-    let mut i: usize = 0;
-    while i < masks.len() {
+    for i in 0..masks.len() {
         if shared_points::meet(q.mask, q.values, masks[i], values[i]) {
             rows += 1;
             fixed |= masks[i];
             word |= words[i];
         }
-        i += 1;
     }
     Met { rows, fixed, word }
 }

@@ -19,10 +19,8 @@ pub fn put_through(table: &[u16], by_columns: &[u32], n: usize, out: &mut [u16])
     let mut images = [0u32; TABLE_POINTS];
     matrix_work::put_images(by_columns, n, &mut images);
     let size = table.len();
-    let mut z: usize = 0;
-    while z < size {
+    for z in 0..size {
         out[z] = table[images[z] as usize];
-        z += 1;
     }
 }
 

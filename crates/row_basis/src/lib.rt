@@ -21,13 +21,7 @@ use candidate_list::{PRINTED_LIMIT, PRINTED_NUMBERS};
 fn is_by_number(n: usize, w: usize, rows: usize) -> bool
     ensures { result ≡ true → w ≤ 3 }
 {
-    if 3 < w {
-        return false;
-    }
-    if n <= 8 {
-        return false;
-    }
-    16 < rows
+    w <= 3 && 8 < n && 16 < rows
 }
 
 // R of a list of disjoint rows at each t of a list of numbers below 2^n with at most w one-bits, by its place there.

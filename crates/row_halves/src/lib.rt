@@ -10,14 +10,12 @@ ghost use Rattle.row_halves.specs.Halves.{splits};
 use block::Row;
 
 // Whether a row with this mask falls into two halves: free at k, and fixed somewhere that v has a one.
+#[tactic(auto, unfolding(crate::specs::Halves::splits))]
 pub fn is_split(k: usize, v: u32, mask: u32) -> bool
     requires { k < list_inputs }
     ensures { result ≡ splits k v mask }
 {
-    if bit_work::bit_of(mask, k) == 1 {
-        return false;
-    }
-    mask & v != 0
+    bit_work::bit_of(mask, k) != 1 && mask & v != 0
 }
 
 // A row after the flips of v: where it has 1 at k, each fixed symbol is flipped where v has a one.

@@ -115,10 +115,8 @@ pub fn shift_by_cubes(
     ensures { result ≡ added_by cube_masks.now cube_values.now cube_weights.now count t }
 {
     let mut sum: u32 = 0;
-    let mut q: usize = 0;
-    while q < count {
+    for q in 0..count {
         sum += pair_weights::cube_adds(cube_masks[q], cube_values[q], cube_weights[q], t);
-        q += 1;
     }
     sum
 }
@@ -128,11 +126,7 @@ fn put_all(x: u32, places: usize, out: &mut [u32])
     requires { places ≤ length out.old }
     ensures { out.new ≡ over (tab places (λ _. x)) out.old }
 {
-    let mut i: usize = 0;
-    while i < places {
-        out[i] = x;
-        i += 1;
-    }
+    out[..places].fill(x);
 }
 
 // To each entry comes what the cubes add up to at the t in its place, and `less` goes from it.
@@ -153,11 +147,9 @@ pub fn shifts_by_cubes(
     requires by_index_3 { (i : ℕ) → i < places → less ≤ at out.old i + added_by cube_masks.now cube_values.now cube_weights.now count (at ts.now i) }
     ensures { out.new ≡ over (tab places (λ i. at out.old i + added_by cube_masks.now cube_values.now cube_weights.now count (at ts.now i) - less)) out.old }
 {
-    let mut i: usize = 0;
-    while i < places {
+    for i in 0..places {
         let more = shift_by_cubes(cube_masks, cube_values, cube_weights, count, ts[i]);
         out[i] = out[i] + more - less;
-        i += 1;
     }
 }
 

@@ -17,10 +17,8 @@ pub fn exchange_each(numbers: &mut [u32], p: usize, k: usize, h: usize)
     requires { (p ≤ length numbers.old) × (k < list_inputs) × (h < list_inputs) }
     ensures { numbers.new ≡ over (tab p (λ i. exchange k h (at numbers.old i))) numbers.old }
 {
-    let mut i: usize = 0;
-    while i < p {
+    for i in 0..p {
         numbers[i] = exchanges::exchange_bits(k, h, numbers[i]);
-        i += 1;
     }
 }
 
@@ -42,15 +40,13 @@ pub fn split_rows(
     ensures held { Held (split_rows k v (rows_from p masks.now values.now words.now)) out_masks.new out_values.new out_words.new }
 {
     let mut count: usize = 0;
-    let mut i: usize = 0;
-    while i < p {
+    for i in 0..p {
         let r = Row {
             mask: masks[i],
             values: values[i],
             word: words[i],
         };
         count = row_adding::add_split(k, v, r, count, out_masks, out_values, out_words);
-        i += 1;
     }
     count
 }

@@ -35,8 +35,7 @@ pub fn move_rows(
     let mut s = [0u32; LIST_INPUTS];
     matrix_work::put_units(&mut s, n);
     let mut count = p;
-    let mut k: usize = 0;
-    while k < n {
+    for k in 0..n {
         let m = matrix_steps::advance(&mut s, n, k, basis[k]);
         count = row_splits::step_rows(k, m.partner, m.rest, count, masks, values, words);
         if SMALLER_ROWS < count {
@@ -45,7 +44,6 @@ pub fn move_rows(
                 count: 0,
             };
         }
-        k += 1;
     }
     Replay { step: 0, count }
 }

@@ -33,14 +33,7 @@ pub fn method_rows(
     let missing = shared_checks::missing_word(block_type);
     let v = row_checks::method_checked(n, k, block_type, w, masks, values, words, short);
     if v.number != 0 {
-        return RowMethodAnswer {
-            number: v.number,
-            a: v.a,
-            b: v.b,
-            before: 0,
-            after: 0,
-            count: 0,
-        };
+        return RowMethodAnswer::from(v);
     }
     let done = smaller_rows::work_rows(
         n, w, masks, values, words, missing, basis, sigma, out_masks, out_values, out_words,

@@ -3,11 +3,11 @@
 // by what is due. Each that is answered otherwise is named, and the last line has the number of those that are not.
 #![tactic(auto)]
 
-ghost use Rattle.std.specs.Prelude.{◌≡◌, ◌≤◌, length};
+ghost use Rattle.std.specs.Prelude.{◌≡◌, length};
 ghost use Rattle.block.specs.Limits.{model_room};
 
 use block::{LIST_INPUTS, MODEL_ROOM, OUTPUTS};
-use saying::{STANDARD_OUTPUT, is_same, read_argument, say, say_argument};
+use saying::{STANDARD_OUTPUT, part, read_argument, say, say_argument};
 use std::env::Env;
 use std::fs::Files;
 
@@ -20,7 +20,7 @@ const PATTERNS: usize = 8192;
 fn is_printed(list: &[u8], due: &[u8]) -> bool {
     let mut out = [0u8; MODEL_ROOM];
     let count = printing::print_model(list, &mut out);
-    is_same(&out[..count], due)
+    &out[..count] == due
 }
 
 // Puts the line of the answer to a text at the front.
@@ -39,14 +39,16 @@ fn put_answer(text: &[u8], out: &mut [u8; MODEL_ROOM]) -> usize
 fn is_refused(text: &[u8], due: &[u8]) -> bool {
     let mut out = [0u8; MODEL_ROOM];
     let count = put_answer(text, &mut out);
-    is_same(read_bytes::first_bytes(&out, count), due)
+    part(&out, count) == due
 }
 
 // Whether argument i names a list.
 fn is_list(rt: &impl Env, i: usize) -> bool {
     let mut name = io::buffer();
-    let length = saying::argument(rt, i, &mut name).length;
-    import_names::ends_in(&name[..length], b".list")
+    match saying::argument(rt, i, &mut name) {
+        Ok(length) => name[..length].ends_with(b".list"),
+        Err(_) => false,
+    }
 }
 
 // Whether the list or text of argument i is answered as argument j has it.
@@ -61,30 +63,25 @@ fn is_right(rt: &(impl Env + Files), i: usize, j: usize) -> bool {
     is_refused(&text[..length], &due[..size])
 }
 
-// The same as 1 or 0; one that is not is named.
-fn compare(rt: &(impl Env + Files), i: usize, j: usize) -> usize
-    ensures { result ≤ 1 }
-{
+// The same; one that is not is named.
+fn is_as_due(rt: &(impl Env + Files), i: usize, j: usize) -> bool {
     if is_right(rt, i, j) {
-        return 1;
+        return true;
     }
     say_argument(rt, i);
     say(b" is answered otherwise\n");
-    0
+    false
 }
 
-fn compare_all(rt: &(impl Env + Files)) -> usize {
+// How many of the arguments' pairs are as due.
+fn count_as_due(rt: &(impl Env + Files)) -> usize {
     let pairs = saying::argument_count(rt) / 2;
-    let mut equal = 0;
-    let mut i = 0;
-    while i < pairs {
-        equal += compare(rt, 2 * i + 1, 2 * i + 2);
-        i += 1;
-    }
-    equal
+    (0..pairs)
+        .filter(|i| is_as_due(rt, 2 * *i + 1, 2 * *i + 2))
+        .count()
 }
 
 fn main(rt: HostRuntime) {
-    io::print_decimal(STANDARD_OUTPUT, compare_all(&rt) as u64);
+    io::print_decimal(STANDARD_OUTPUT, count_as_due(&rt) as u64);
     say(b" lists and texts are answered as is due\n");
 }

@@ -6,15 +6,14 @@
 // (type_texts.txt and undriven_texts.txt have cases of reading, writing and the sheet, which the tests from outside run.)
 #![tactic(auto)]
 
-ghost use Rattle.std.specs.Prelude.{◌≤◌, ◌<◌, length};
-ghost use Rattle.case_lines.specs.Room.{numbers_most};
+ghost use Rattle.std.specs.Prelude.{◌≤◌, length};
 
 use case_lines::{
-    Given, HELD, HELD_ENTRY, NUMBERS, Part, ROWS, Rooms, entries, every, put, put_answer, put_list,
+    Given, HELD, HELD_ENTRY, NUMBERS, Numbers, ROWS, Rooms, entries, every, put_answer, put_list,
     put_number, put_rows, put_table, read_given, read_numbers, read_rooms, read_sizes, read_word,
     result_size,
 };
-use saying::{STANDARD_OUTPUT, is_same, part16, part32, room_signed, room16, room32, say};
+use saying::{STANDARD_OUTPUT, part, room, say};
 use std::env::Env;
 use std::fs::Files;
 
@@ -27,86 +26,61 @@ fn points(n: usize) -> usize {
 }
 
 // T and sigma, n numbers each.
-fn put_matrices(
-    got: &mut [u64; NUMBERS],
-    at: usize,
-    basis: &[u32; ROWS],
-    sigma: &[u32; ROWS],
-    n: usize,
-) -> usize
-    requires { at ≤ numbers_most }
-    ensures { result ≤ numbers_most }
-{
-    let a = put_list(got, at, basis, n);
-    put_list(got, a, sigma, n)
+fn put_matrices(got: &mut Numbers, basis: &[u32], sigma: &[u32], n: usize) {
+    put_list(got, basis, n);
+    put_list(got, sigma, n);
 }
 
 // table_value n k TYPE t TABLE => N A B value
-fn table_value(h: Given, numbers: &[u64; NUMBERS], count: usize, got: &mut [u64; NUMBERS]) -> usize
-    requires { count ≤ numbers_most }
-    ensures { result ≤ numbers_most }
-{
-    let table = entries(numbers, count);
-    let r = tables::table_value(h.n, h.k, h.block_type, h.last, part16(&table, count));
-    let a = put_answer(got, r.number, r.a, r.b);
-    put(got, a, r.value)
+fn table_value(h: Given, numbers: &[u64], got: &mut Numbers) {
+    let table = entries(numbers);
+    let r = tables::table_value(h.n, h.k, h.block_type, h.last, part(&table, numbers.len()));
+    put_answer(got, r.number, r.a, r.b);
+    got.put(r.value);
 }
 
 // row_value n k TYPE t ROWS => N A B value
-fn row_value(h: Given, numbers: &[u64; NUMBERS], count: usize, got: &mut [u64; NUMBERS]) -> usize
-    requires { count ≤ numbers_most }
-    ensures { result ≤ numbers_most }
-{
-    let masks = every(numbers, count, 0, 3);
-    let values = every(numbers, count, 1, 3);
-    let words = every(numbers, count, 2, 3);
+fn row_value(h: Given, numbers: &[u64], got: &mut Numbers) {
+    let rows = numbers.len() / 3;
+    let masks = every(numbers, 0, 3);
+    let values = every(numbers, 1, 3);
+    let words = every(numbers, 2, 3);
     let r = lists::row_value(
         h.n,
         h.k,
         h.block_type,
         h.last,
-        part32(&masks, count / 3),
-        part32(&values, count / 3),
-        part32(&words, count / 3),
+        part(&masks, rows),
+        part(&values, rows),
+        part(&words, rows),
     );
-    let a = put_answer(got, r.number, r.a, r.b);
-    put(got, a, r.value)
+    put_answer(got, r.number, r.a, r.b);
+    got.put(r.value);
 }
 
 // fill n k TYPE ROOM ROWS => N A B TABLE
-fn fill(h: Given, numbers: &[u64; NUMBERS], count: usize, got: &mut [u64; NUMBERS]) -> usize
-    requires { count ≤ numbers_most }
-    ensures { result ≤ numbers_most }
-{
-    let masks = every(numbers, count, 0, 3);
-    let values = every(numbers, count, 1, 3);
-    let words = every(numbers, count, 2, 3);
+fn fill(h: Given, numbers: &[u64], got: &mut Numbers) {
+    let rows = numbers.len() / 3;
+    let masks = every(numbers, 0, 3);
+    let values = every(numbers, 1, 3);
+    let words = every(numbers, 2, 3);
     let mut table = [HELD_ENTRY; NUMBERS];
     let r = lists::fill_table(
         h.n,
         h.k,
         h.block_type,
-        part32(&masks, count / 3),
-        part32(&values, count / 3),
-        part32(&words, count / 3),
-        room16(&mut table, h.last),
+        part(&masks, rows),
+        part(&values, rows),
+        part(&words, rows),
+        room(&mut table, h.last),
     );
-    let a = put_answer(got, r.number, r.a, r.b);
-    put_table(got, a, &table, result_size(r.number, points(h.n)))
+    put_answer(got, r.number, r.a, r.b);
+    put_table(got, &table, result_size(r.number, points(h.n)));
 }
 
 // table_method n k TYPE w ROOM_TABLE ROOM_T ROOM_SIGMA TABLE => N A B before after T SIGMA SMALLER_TABLE
-fn table_method(
-    h: Given,
-    rooms: Rooms,
-    numbers: &[u64; NUMBERS],
-    count: usize,
-    got: &mut [u64; NUMBERS],
-) -> usize
-    requires { count ≤ numbers_most }
-    ensures { result ≤ numbers_most }
-{
-    let table = entries(numbers, count);
+fn table_method(h: Given, rooms: Rooms, numbers: &[u64], got: &mut Numbers) {
+    let table = entries(numbers);
     let mut basis = [HELD; ROWS];
     let mut sigma = [HELD; ROWS];
     let mut smaller = [HELD_ENTRY; NUMBERS];
@@ -115,32 +89,24 @@ fn table_method(
         h.k,
         h.block_type,
         h.last,
-        part16(&table, count),
-        room32(&mut basis, rooms.basis),
-        room32(&mut sigma, rooms.sigma),
-        room16(&mut smaller, rooms.smaller),
+        part(&table, numbers.len()),
+        room(&mut basis, rooms.basis),
+        room(&mut sigma, rooms.sigma),
+        room(&mut smaller, rooms.smaller),
     );
-    let a = put_answer(got, r.number, r.a, r.b);
-    let b = put(got, a, r.before);
-    let c = put(got, b, r.after);
-    let d = put_matrices(got, c, &basis, &sigma, result_size(r.number, h.n));
-    put_table(got, d, &smaller, result_size(r.number, points(h.n)))
+    put_answer(got, r.number, r.a, r.b);
+    got.put(r.before);
+    got.put(r.after);
+    put_matrices(got, &basis, &sigma, result_size(r.number, h.n));
+    put_table(got, &smaller, result_size(r.number, points(h.n)));
 }
 
 // row_method n k TYPE w ROOM_ROWS ROOM_T ROOM_SIGMA ROWS => N A B before after count T SIGMA SMALLER_ROWS
-fn row_method(
-    h: Given,
-    rooms: Rooms,
-    numbers: &[u64; NUMBERS],
-    count: usize,
-    got: &mut [u64; NUMBERS],
-) -> usize
-    requires { count ≤ numbers_most }
-    ensures { result ≤ numbers_most }
-{
-    let masks = every(numbers, count, 0, 3);
-    let values = every(numbers, count, 1, 3);
-    let words = every(numbers, count, 2, 3);
+fn row_method(h: Given, rooms: Rooms, numbers: &[u64], got: &mut Numbers) {
+    let rows = numbers.len() / 3;
+    let masks = every(numbers, 0, 3);
+    let values = every(numbers, 1, 3);
+    let words = every(numbers, 2, 3);
     let mut basis = [HELD; ROWS];
     let mut sigma = [HELD; ROWS];
     let mut new_masks = [HELD; ROWS];
@@ -151,47 +117,37 @@ fn row_method(
         h.k,
         h.block_type,
         h.last,
-        part32(&masks, count / 3),
-        part32(&values, count / 3),
-        part32(&words, count / 3),
-        room32(&mut basis, rooms.basis),
-        room32(&mut sigma, rooms.sigma),
-        room32(&mut new_masks, rooms.smaller),
-        room32(&mut new_values, rooms.smaller),
-        room32(&mut new_words, rooms.smaller),
+        part(&masks, rows),
+        part(&values, rows),
+        part(&words, rows),
+        room(&mut basis, rooms.basis),
+        room(&mut sigma, rooms.sigma),
+        room(&mut new_masks, rooms.smaller),
+        room(&mut new_values, rooms.smaller),
+        room(&mut new_words, rooms.smaller),
     );
-    let a = put_answer(got, r.number, r.a, r.b);
-    let b = put(got, a, r.before);
-    let c = put(got, b, r.after);
-    let d = put(got, c, r.count as u64);
-    let e = put_matrices(got, d, &basis, &sigma, result_size(r.number, h.n));
-    put_rows(got, e, &new_masks, &new_values, &new_words, r.count)
+    put_answer(got, r.number, r.a, r.b);
+    got.put(r.before);
+    got.put(r.after);
+    got.put(r.count as u64);
+    put_matrices(got, &basis, &sigma, result_size(r.number, h.n));
+    put_rows(got, &new_masks, &new_values, &new_words, r.count);
 }
 
 // restore n k TYPE ROOM SIGMA SMALLER_TABLE => N A B TABLE
-fn restore(
-    h: Given,
-    sigma: &[u32; ROWS],
-    rows: usize,
-    numbers: &[u64; NUMBERS],
-    count: usize,
-    got: &mut [u64; NUMBERS],
-) -> usize
-    requires { count ≤ numbers_most }
-    ensures { result ≤ numbers_most }
-{
-    let smaller = entries(numbers, count);
+fn restore(h: Given, sigma: &[u32], numbers: &[u64], got: &mut Numbers) {
+    let smaller = entries(numbers);
     let mut table = [HELD_ENTRY; NUMBERS];
     let r = tables::restore_table(
         h.n,
         h.k,
         h.block_type,
-        part32(sigma, rows),
-        part16(&smaller, count),
-        room16(&mut table, h.last),
+        sigma,
+        part(&smaller, numbers.len()),
+        room(&mut table, h.last),
     );
-    let a = put_answer(got, r.number, r.a, r.b);
-    put_table(got, a, &table, result_size(r.number, points(h.n)))
+    put_answer(got, r.number, r.a, r.b);
+    put_table(got, &table, result_size(r.number, points(h.n)));
 }
 
 // What the working numbers hold before a call: none of them is 0.
@@ -208,296 +164,203 @@ fn worked(value: u32, left: i32, due: i32) -> u32 {
 }
 
 // R at every t, and any beyond that does not hold what it held.
-fn put_values(
-    got: &mut [u64; NUMBERS],
-    at: usize,
-    values: &[u32; NUMBERS],
-    working: &[i32; NUMBERS],
-    size: usize,
-) -> usize
-    requires { at ≤ numbers_most }
-    ensures { result ≤ numbers_most }
-{
-    let mut to = at;
+fn put_values(got: &mut Numbers, values: &[u32; NUMBERS], working: &[i32; NUMBERS], size: usize) {
     for t in 0..NUMBERS {
         let value = worked(values[t], working[t], working_due(t < size));
-        to = put_number(got, to, t < size, value);
+        put_number(got, t < size, value);
     }
-    to
 }
 
 // spectrum n k TYPE ROOM_R ROOM_WORK TABLE => N A B R
-fn spectrum_of(
-    h: Given,
-    room_working: usize,
-    numbers: &[u64; NUMBERS],
-    count: usize,
-    got: &mut [u64; NUMBERS],
-) -> usize
-    requires { count ≤ numbers_most }
-    ensures { result ≤ numbers_most }
-{
-    let table = entries(numbers, count);
+fn spectrum_of(h: Given, room_working: usize, numbers: &[u64], got: &mut Numbers) {
+    let table = entries(numbers);
     let mut values = [HELD; NUMBERS];
     let mut working = [HELD_SIGNED; NUMBERS];
     let r = spectrum::table_spectrum(
         h.n,
         h.k,
         h.block_type,
-        part16(&table, count),
-        room32(&mut values, h.last),
-        room_signed(&mut working, room_working),
+        part(&table, numbers.len()),
+        room(&mut values, h.last),
+        room(&mut working, room_working),
     );
-    let a = put_answer(got, r.number, r.a, r.b);
-    put_values(
-        got,
-        a,
-        &values,
-        &working,
-        result_size(r.number, points(h.n)),
-    )
+    put_answer(got, r.number, r.a, r.b);
+    put_values(got, &values, &working, result_size(r.number, points(h.n)));
 }
 
 // gray n k TYPE ROOM_TABLE ROOM_SMALLER WORDS => N A B before after TABLE SMALLER_TABLE
-fn gray(
-    h: Given,
-    room_smaller: usize,
-    numbers: &[u64; NUMBERS],
-    count: usize,
-    got: &mut [u64; NUMBERS],
-) -> usize
-    requires { count ≤ numbers_most }
-    ensures { result ≤ numbers_most }
-{
-    let words = entries(numbers, count);
+fn gray(h: Given, room_smaller: usize, numbers: &[u64], got: &mut Numbers) {
+    let words = entries(numbers);
     let mut table = [HELD_ENTRY; NUMBERS];
     let mut smaller = [HELD_ENTRY; NUMBERS];
     let r = symmetric::symmetric_block(
         h.n,
         h.k,
         h.block_type,
-        part16(&words, count),
-        room16(&mut table, h.last),
-        room16(&mut smaller, room_smaller),
+        part(&words, numbers.len()),
+        room(&mut table, h.last),
+        room(&mut smaller, room_smaller),
     );
-    let a = put_answer(got, r.number, r.a, r.b);
-    let b = put(got, a, r.before);
-    let c = put(got, b, r.after);
+    put_answer(got, r.number, r.a, r.b);
+    got.put(r.before);
+    got.put(r.after);
     let size = result_size(r.number, points(h.n));
-    let d = put_table(got, c, &table, size);
-    put_table(got, d, &smaller, size)
+    put_table(got, &table, size);
+    put_table(got, &smaller, size);
 }
 
 // symmetric n k TYPE TABLE => N A B yes|no
-fn symmetric_of(h: Given, numbers: &[u64; NUMBERS], count: usize, got: &mut [u64; NUMBERS]) -> usize
-    requires { count ≤ numbers_most }
-    ensures { result ≤ numbers_most }
-{
-    let table = entries(numbers, count);
-    let r = symmetric::table_symmetric(h.n, h.k, h.block_type, part16(&table, count));
-    let a = put_answer(got, r.number, r.a, r.b);
-    put(got, a, r.value)
-}
-
-// Runs the operation of a name on one list: nothing for a name that is none.
-fn run_list(
-    name: &[u8],
-    h: Given,
-    numbers: &[u64; NUMBERS],
-    count: usize,
-    got: &mut [u64; NUMBERS],
-) -> usize
-    requires { count ≤ numbers_most }
-    ensures { result ≤ numbers_most }
-{
-    if is_same(name, b"table_value") {
-        return table_value(h, numbers, count, got);
-    }
-    if is_same(name, b"row_value") {
-        return row_value(h, numbers, count, got);
-    }
-    if is_same(name, b"fill") {
-        return fill(h, numbers, count, got);
-    }
-    0
+fn symmetric_of(h: Given, numbers: &[u64], got: &mut Numbers) {
+    let table = entries(numbers);
+    let r = symmetric::table_symmetric(h.n, h.k, h.block_type, part(&table, numbers.len()));
+    put_answer(got, r.number, r.a, r.b);
+    got.put(r.value);
 }
 
 // Reads the rooms and the list of a method, and runs it.
-fn run_method(name: &[u8], h: Given, text: &[u8], got: &mut [u64; NUMBERS]) -> Part
+fn run_method(name: &[u8], h: Given, text: &[u8], got: &mut Numbers) -> usize
     requires { h.next ≤ length text.now }
-    ensures { (result.next ≤ length text.now) × (result.count ≤ numbers_most) }
+    ensures { result ≤ length text.now }
 {
     let rooms = read_rooms(text, h.next);
-    let mut numbers = [0u64; NUMBERS];
-    let list = read_numbers(text, rooms.next, b' ', &mut numbers);
-    let next = list.next;
-    if is_same(name, b"row_method") {
-        let count = row_method(h, rooms, &numbers, list.count, got);
-        return Part { count, next };
+    let mut numbers = Numbers::new();
+    let next = read_numbers(text, rooms.next, b' ', &mut numbers);
+    match name {
+        b"row_method" => row_method(h, rooms, numbers.as_slice(), got),
+        _ => table_method(h, rooms, numbers.as_slice(), got),
     }
-    let count = table_method(h, rooms, &numbers, list.count, got);
-    Part { count, next }
+    next
 }
 
 // Reads the matrix and the table of a restoring, and runs it.
-fn run_restore(h: Given, text: &[u8], got: &mut [u64; NUMBERS]) -> Part
+fn run_restore(h: Given, text: &[u8], got: &mut Numbers) -> usize
     requires { h.next ≤ length text.now }
-    ensures { (result.next ≤ length text.now) × (result.count ≤ numbers_most) }
+    ensures { result ≤ length text.now }
 {
-    let mut numbers = [0u64; NUMBERS];
-    let matrix = read_numbers(text, h.next, b' ', &mut numbers);
-    let sigma = every(&numbers, matrix.count, 0, 1);
-    let list = read_numbers(text, matrix.next, b' ', &mut numbers);
-    let next = list.next;
-    let count = restore(h, &sigma, matrix.count, &numbers, list.count, got);
-    Part { count, next }
+    let mut matrix = Numbers::new();
+    let from = read_numbers(text, h.next, b' ', &mut matrix);
+    let sigma = every(matrix.as_slice(), 0, 1);
+    let mut numbers = Numbers::new();
+    let next = read_numbers(text, from, b' ', &mut numbers);
+    restore(
+        h,
+        part(&sigma, matrix.as_slice().len()),
+        numbers.as_slice(),
+        got,
+    );
+    next
 }
 
 // Reads the second room and the list of a spectrum or of a symmetric block, and runs it.
-fn run_lent(name: &[u8], h: Given, text: &[u8], got: &mut [u64; NUMBERS]) -> Part
+fn run_lent(name: &[u8], h: Given, text: &[u8], got: &mut Numbers) -> usize
     requires { h.next ≤ length text.now }
-    ensures { (result.next ≤ length text.now) × (result.count ≤ numbers_most) }
+    ensures { result ≤ length text.now }
 {
-    let room = read_word(text, h.next);
-    let mut numbers = [0u64; NUMBERS];
-    let list = read_numbers(text, room.next, b' ', &mut numbers);
-    let next = list.next;
-    if is_same(name, b"gray") {
-        let count = gray(h, room.value as usize, &numbers, list.count, got);
-        return Part { count, next };
+    let second = read_word(text, h.next);
+    let mut numbers = Numbers::new();
+    let next = read_numbers(text, second.next, b' ', &mut numbers);
+    match name {
+        b"gray" => gray(h, second.value as usize, numbers.as_slice(), got),
+        _ => spectrum_of(h, second.value as usize, numbers.as_slice(), got),
     }
-    let count = spectrum_of(h, room.value as usize, &numbers, list.count, got);
-    Part { count, next }
+    next
 }
 
 // Reads the sizes and the table of a question whether it is symmetric, and asks.
-fn run_symmetric(text: &[u8], at: usize, got: &mut [u64; NUMBERS]) -> Part
+fn run_symmetric(text: &[u8], at: usize, got: &mut Numbers) -> usize
     requires { at ≤ length text.now }
-    ensures { (result.next ≤ length text.now) × (result.count ≤ numbers_most) }
+    ensures { result ≤ length text.now }
 {
     let h = read_sizes(text, at);
-    let mut numbers = [0u64; NUMBERS];
-    let list = read_numbers(text, h.next, b' ', &mut numbers);
-    let next = list.next;
-    let count = symmetric_of(h, &numbers, list.count, got);
-    Part { count, next }
+    let mut numbers = Numbers::new();
+    let next = read_numbers(text, h.next, b' ', &mut numbers);
+    symmetric_of(h, numbers.as_slice(), got);
+    next
 }
 
-// Reads the list of an operation that is given nothing else, and runs it.
-fn run_listed(name: &[u8], h: Given, text: &[u8], got: &mut [u64; NUMBERS]) -> Part
+// Reads the list of an operation that is given nothing else, and runs it: nothing for a name that is none.
+fn run_listed(name: &[u8], h: Given, text: &[u8], got: &mut Numbers) -> usize
     requires { h.next ≤ length text.now }
-    ensures { (result.next ≤ length text.now) × (result.count ≤ numbers_most) }
+    ensures { result ≤ length text.now }
 {
-    let mut numbers = [0u64; NUMBERS];
-    let list = read_numbers(text, h.next, b' ', &mut numbers);
-    let next = list.next;
-    let count = run_list(name, h, &numbers, list.count, got);
-    Part { count, next }
+    let mut numbers = Numbers::new();
+    let next = read_numbers(text, h.next, b' ', &mut numbers);
+    match name {
+        b"table_value" => table_value(h, numbers.as_slice(), got),
+        b"row_value" => row_value(h, numbers.as_slice(), got),
+        b"fill" => fill(h, numbers.as_slice(), got),
+        _ => (),
+    }
+    next
 }
 
 // Runs the operation of a name that is given t, w or a room, and what follows.
-fn run_given(name: &[u8], h: Given, text: &[u8], got: &mut [u64; NUMBERS]) -> Part
-    requires { h.next ≤ length text.now }
-    ensures { (result.next ≤ length text.now) × (result.count ≤ numbers_most) }
+fn run_given(name: &[u8], text: &[u8], at: usize, got: &mut Numbers) -> usize
+    requires { at ≤ length text.now }
+    ensures { result ≤ length text.now }
 {
-    if is_same(name, b"row_method") || is_same(name, b"table_method") {
-        return run_method(name, h, text, got);
+    let h = read_given(text, at);
+    match name {
+        b"row_method" | b"table_method" => run_method(name, h, text, got),
+        b"restore" => run_restore(h, text, got),
+        b"spectrum" | b"gray" => run_lent(name, h, text, got),
+        _ => run_listed(name, h, text, got),
     }
-    if is_same(name, b"restore") {
-        return run_restore(h, text, got);
-    }
-    if is_same(name, b"spectrum") || is_same(name, b"gray") {
-        return run_lent(name, h, text, got);
-    }
-    run_listed(name, h, text, got)
 }
 
-// Runs the operation of a name on the arguments from a place on, and gathers what it answers.
-fn run(name: &[u8], text: &[u8], at: usize, got: &mut [u64; NUMBERS]) -> Part
+// Runs the operation of a name on the arguments from a place on, gathers what it answers, and answers the place after the arguments.
+fn run(name: &[u8], text: &[u8], at: usize, got: &mut Numbers) -> usize
     requires { at ≤ length text.now }
-    ensures { (result.next ≤ length text.now) × (result.count ≤ numbers_most) }
+    ensures { result ≤ length text.now }
 {
-    if is_same(name, b"symmetric") {
-        return run_symmetric(text, at, got);
+    match name {
+        b"symmetric" => run_symmetric(text, at, got),
+        b"why" => why_cases::run_why(text, at, got),
+        b"join" => join_cases::run_join(text, at, got),
+        b"disjoin" => disjoin_cases::run_disjoin(text, at, got),
+        _ => run_given(name, text, at, got),
     }
-    if is_same(name, b"why") {
-        return why_cases::run_why(text, at, got);
-    }
-    if is_same(name, b"join") {
-        return join_cases::run_join(text, at, got);
-    }
-    if is_same(name, b"disjoin") {
-        return disjoin_cases::run_disjoin(text, at, got);
-    }
-    let h = read_given(text, at);
-    run_given(name, h, text, got)
 }
 
 // Says what a case was answered.
-fn say_otherwise(line: &[u8], got: &[u64; NUMBERS], count: usize)
-    requires { count ≤ numbers_most }
-{
+fn say_otherwise(line: &[u8], got: &[u64]) {
     say(line);
     say(b"  is answered");
-    case_lines::say_numbers(got, count);
+    case_lines::say_numbers(got);
     say(b"\n");
 }
 
-// Whether the case of a line has the answer due: 1 or 0.
-fn compare(line: &[u8]) -> usize
-    ensures { result ≤ 1 }
-{
+// Whether the case of a line has the answer due. One that has another is said.
+fn is_as_due(line: &[u8]) -> bool {
     let stop = case_lines::word_end(line, 0);
-    let mut got = [0u64; NUMBERS];
-    let answered = run(
+    let mut got = Numbers::new();
+    let next = run(
         &line[..stop],
         line,
         case_lines::after_word(line, stop),
         &mut got,
     );
-    let mut due = [0u64; NUMBERS];
-    let expected = read_numbers(line, answered.next, b'\n', &mut due);
-    if case_lines::is_equal(&got, answered.count, &due, expected.count) {
-        return 1;
+    let mut due = Numbers::new();
+    read_numbers(line, next, b'\n', &mut due);
+    if got.as_slice() == due.as_slice() {
+        return true;
     }
-    say_otherwise(line, &got, answered.count);
-    0
-}
-
-// The place after the line that begins at a place.
-fn line_end(text: &[u8], from: usize) -> usize
-    requires { from < length text.now }
-    ensures { (from < result) × (result ≤ length text.now) }
-{
-    let mut at = from;
-    while at + 1 < text.len() {
-        if text[at] == b'\n' {
-            break;
-        }
-        at += 1;
-    }
-    at + 1
+    say_otherwise(line, got.as_slice());
+    false
 }
 
 // How many cases of a text have the answer due.
-fn compare_all(text: &[u8]) -> usize
-    ensures { result ≤ length text.now }
-{
-    let mut at = 0;
-    let mut equal = 0;
-    while at < text.len() {
-        let next = line_end(text, at);
-        equal += compare(&text[at..next]);
-        at = next;
-    }
-    equal
+fn count_as_due(text: &[u8]) -> usize {
+    text.split_inclusive(|b| *b == b'\n')
+        .filter(|line| is_as_due(line))
+        .count()
 }
 
 // The cases of the file that argument i names.
 fn run_file(rt: &(impl Env + Files), i: usize) {
     let mut text = io::large_buffer();
     let count = saying::read_argument(rt, i, &mut text);
-    io::print_decimal(STANDARD_OUTPUT, compare_all(&text[..count]) as u64);
+    io::print_decimal(STANDARD_OUTPUT, count_as_due(&text[..count]) as u64);
     say(b" cases of ");
     saying::say_argument(rt, i);
     say(b" have the answers due\n");

@@ -20,9 +20,10 @@ pub fn refuse_where(holds: bool, number: u32, a: usize, b: usize) -> Answer
     ensures { result ≡ verdict (check holds number a b ∷ []) }
 {
     if holds {
-        return refuse(number, a, b);
+        refuse(number, a, b)
+    } else {
+        refuse(0, 0, 0)
     }
-    refuse(0, 0, 0)
 }
 
 // One check after an earlier answer: a refusal is handed on.
@@ -39,10 +40,7 @@ pub fn then_where(v: Answer, holds: bool, number: u32, a: usize, b: usize) -> An
 pub fn is_outside(low: usize, high: usize, x: usize) -> bool
     ensures { result ≡ outside low high x }
 {
-    if x < low {
-        return true;
-    }
-    high < x
+    x < low || high < x
 }
 
 // 2^n for an n that the sizes let through. Another n, which they refuse, has 0: what compares with it is not asked then.
@@ -59,13 +57,7 @@ pub fn size_of(n: usize) -> usize
 pub fn is_short(n: usize, room_t: usize, room_sigma: usize, most: usize, room: usize) -> bool
     ensures { result ≡ ltb room_t n || (ltb room_sigma n || ltb room most) }
 {
-    if room_t < n {
-        return true;
-    }
-    if room_sigma < n {
-        return true;
-    }
-    room < most
+    room_t < n || room_sigma < n || room < most
 }
 
 // 1, 2 and 3 of the type, with which every operation but reading begins: n from 1 to most, k from 1 to 15, and a number that is a type.

@@ -1,6 +1,6 @@
 -- The first pair of rows that share a point, as an answer (01, Numbers that come back, 7); that two nested loops over masks and
 -- values find it; and check 7 by it. Assumes nothing.
-use Rattle.std.specs.Prelude.{◌≡◌, refl, Bool, true, false, cond, ℕ, ◌≤◌, ◌<◌, ltb}
+use Rattle.std.specs.Prelude.{◌≡◌, refl, Bool, true, false, cond, ℕ, ◌≤◌, ◌<◌, ltb, Option, Some, None}
 use Rattle.std.proofs.Common.{sym, ap, ap₂, subst, ◌∙◌}
 use mathlib.Core.List.{List, [], ◌∷◌}
 use native.Mathlib.Omega.{arith}
@@ -19,23 +19,21 @@ use Rattle.pair_laws.specs.Closed.{demanded}
 use Rattle.pair_laws.specs.Theorem.{Every}
 use Rattle.pair_laws.specs.Share.{Clear, ClearBelow, sharing-none, sharing-at, second_at}
 use Rattle.flat_rows.specs.Listing.{rows-count, row-at}
-use Rattle.shared_points.specs.declared.Pair.{Pair}
-use Rattle.shared_points.specs.declared.Pair.TheVariants.{At, Apart}
 
 -- the first pair of rows that share a point, smallest first row and then smallest second
-unfoldable pub pair_of : ℕ → List Row → Pair
-pair_of n rs = cond (ltb (sharing n rs) (length rs)) (At (sharing n rs) (second n rs (sharing n rs))) Apart
+unfoldable pub pair_of : ℕ → List Row → Option (ℕ × ℕ)
+pair_of n rs = cond (ltb (sharing n rs) (length rs)) (Some (sharing n rs, second n rs (sharing n rs))) None
 
 -- r is that pair for the rows with these masks and values, whatever their words, if they are well formed
-abbrev pub FirstPair : List ℕ → List ℕ → Pair → Type 0
+abbrev pub FirstPair : List ℕ → List ℕ → Option (ℕ × ℕ) → Type 0
 FirstPair masks values r =
     (n : ℕ) (words : List ℕ) → length words ≡ length masks → Every (Sound n) (rows_of masks values words)
     → r ≡ pair_of n (rows_of masks values words)
 
 -- the answer of check 7
-abbrev pub pair_answer : Pair → Answer
-pair_answer (At i j) = answer 7 i j
-pair_answer Apart = answer 0 0 0
+abbrev pub pair_answer : Option (ℕ × ℕ) → Answer
+pair_answer (Some (i, j)) = answer 7 i j
+pair_answer None = answer 0 0 0
 
 -- what two rows demand of t, by places
 abbrev pub demanded_at : List ℕ → List ℕ → ℕ → ℕ → ℕ
@@ -66,7 +64,7 @@ module _ (n : ℕ) (masks values words : List ℕ) (e : length values ≡ length
 
   -- the pair i, j at which the loops are left
   pub pair-at : (i j : ℕ) → i < j → j < length masks → PassedBelow masks values i → Passed masks values i j
-      → demanded_at masks values i j ≡ 0 → At i j ≡ pair_of n (rows_of masks values words)
+      → demanded_at masks values i j ≡ 0 → Some (i, j) ≡ pair_of n (rows_of masks values words)
   unfolding pair_of
   pair-at i j h l p q d =
       let rs : List Row = rows_of masks values words in
@@ -78,7 +76,7 @@ module _ (n : ℕ) (masks values words : List ℕ) (e : length values ≡ length
       rw (a, lt-ltb i (length rs) (omega arith), b)
 
   -- the loops end: no two rows share a point
-  pub pair-none : PassedBelow masks values (length masks) → Apart ≡ pair_of n (rows_of masks values words)
+  pub pair-none : PassedBelow masks values (length masks) → None ≡ pair_of n (rows_of masks values words)
   unfolding pair_of
   pair-none p =
       let rs : List Row = rows_of masks values words in
@@ -92,7 +90,7 @@ pub pair-check : (n : ℕ) (rs : List Row) → pair_answer (pair_of n rs) ≡ ve
 unfolding pair_of verdict
 pair-check n rs = go (ltb (sharing n rs) (length rs))
   where
-    go : (b : Bool) → pair_answer (cond b (At (sharing n rs) (second n rs (sharing n rs))) Apart)
+    go : (b : Bool) → pair_answer (cond b (Some (sharing n rs, second n rs (sharing n rs))) None)
         ≡ cond b (answer 7 (sharing n rs) (second n rs (sharing n rs))) (answer 0 0 0)
     go true = refl
     go false = refl
@@ -108,6 +106,6 @@ module _ (v : Answer) (masks values : List ℕ) where
   pub apart-refused : (v.number ≡ 0 → ⊥) → ApartAfter v masks values v
   apart-refused h n words f sound = then-refused v _ h
 
-  pub apart-asked : v.number ≡ 0 → (p : Pair) (r : Answer) → FirstPair masks values p → r ≡ pair_answer p → ApartAfter v masks values r
+  pub apart-asked : v.number ≡ 0 → (p : Option (ℕ × ℕ)) (r : Answer) → FirstPair masks values p → r ≡ pair_answer p → ApartAfter v masks values r
   apart-asked h p r first e n words f sound =
       e ∙ ap pair_answer (first n words f (sound h)) ∙ pair-check n (rows_of masks values words) ∙ then-answered v _ h

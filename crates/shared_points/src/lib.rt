@@ -8,13 +8,6 @@ ghost use Rattle.shared_points.specs.Pairs.{FirstPair, pair_answer, ApartAfter};
 
 use block::Answer;
 
-// Two rows that share a point, or none.
-#[derive(Clone, Copy)]
-pub enum Pair {
-    At(usize, usize),
-    Apart,
-}
-
 // Whether two rows share a point: no input is fixed in both at different values.
 pub fn meet(mask: u32, value: u32, mask2: u32, value2: u32) -> bool
     ensures { result ≡ eqb (bit_and (bit_and mask mask2) (bit_xor value value2)) 0 }
@@ -22,17 +15,18 @@ pub fn meet(mask: u32, value: u32, mask2: u32, value2: u32) -> bool
     (mask & mask2) & (value ^ value2) == 0
 }
 
-// The first pair of rows that share a point: smallest first, then smallest second.
-pub fn first_pair(masks: &[u32], values: &[u32]) -> Pair
+// The first pair of rows that share a point: smallest first, then smallest second. The loops are left by a label with the pair, which is the form
+// that 01 names for this search.
+pub fn first_pair(masks: &[u32], values: &[u32]) -> Option<(usize, usize)>
     requires { length values.now ≡ length masks.now }
     ensures { FirstPair masks.now values.now result }
 {
     let p = masks.len();
-    let mut found = Pair::Apart;
+    let mut found = None;
     'search: for i in 0..p {
         for j in i + 1..p {
             if meet(masks[i], values[i], masks[j], values[j]) {
-                found = Pair::At(i, j);
+                found = Some((i, j));
                 break 'search;
             }
         }
@@ -41,16 +35,16 @@ pub fn first_pair(masks: &[u32], values: &[u32]) -> Pair
 }
 
 // The answer of check 7.
-pub fn refuse_pair(pair: Pair) -> Answer
+pub fn refuse_pair(pair: Option<(usize, usize)>) -> Answer
     ensures { result ≡ pair_answer pair }
 {
     match pair {
-        Pair::At(i, j) => Answer {
+        Some((i, j)) => Answer {
             number: 7,
             a: i,
             b: j,
         },
-        Pair::Apart => Answer {
+        None => Answer {
             number: 0,
             a: 0,
             b: 0,

@@ -4,7 +4,7 @@
 #![tactic(auto)]
 
 use block::TABLE_POINTS;
-use saying::{part16, part32, say, say_bits, say_number, say_refused};
+use saying::{part, say, say_bits, say_number, say_refused};
 
 // Says how many values there are.
 fn say_count(count: usize) {
@@ -23,10 +23,8 @@ fn say_value(n: usize, t: usize, value: u32) {
 // Says R at every t, a line each.
 fn say_values(n: usize, values: &[u32]) {
     say_count(values.len());
-    let mut t: usize = 0;
-    while t < values.len() {
-        say_value(n, t, values[t]);
-        t += 1;
+    for (t, value) in values.iter().enumerate() {
+        say_value(n, t, *value);
     }
 }
 
@@ -39,7 +37,7 @@ fn say_spectrum(n: usize, k: usize, block_type: usize, table: &[u16]) {
         say_refused(r.number, r.a, r.b);
         return;
     }
-    say_values(n, part32(&values, table.len()));
+    say_values(n, part(&values, table.len()));
 }
 
 // Says R at every t of a text's block, or why not.
@@ -54,6 +52,6 @@ pub fn say_shifts(text: &[u8]) {
         h.n,
         h.k,
         h.block_type,
-        part16(&table, shared_checks::size_of(h.n)),
+        part(&table, shared_checks::size_of(h.n)),
     );
 }

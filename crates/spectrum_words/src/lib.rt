@@ -15,18 +15,14 @@ ghost use Rattle.spectrum_words.specs.Words.{marks, Exact, Nearer, Next};
 fn nearer(w: u16, u: u16, far: u16) -> u16
     ensures { Nearer w u far result }
 {
-    let way = std::num::wrapping_sub_u16(w, u);
-    if way < far { way } else { far }
+    w.wrapping_sub(u).min(far)
 }
 
 // Where a way from u leads, where that is at most 65,535, and else some number from u on.
 fn reached(u: u16, far: u16) -> u16
     ensures { (u ≤ result) × (result ≤ 65535) × (u + far ≤ 65535 → result ≡ u + far) }
 {
-    if 65535 - u < far {
-        return 65535;
-    }
-    u + far
+    u.saturating_add(far)
 }
 
 // A number from u on, at most 65,535, that no entry from u on lies before. It is the least such entry, so that no word is worked on which the
@@ -35,10 +31,8 @@ pub fn next_word(table: &[u16], u: u16) -> u16
     ensures { Next table.now u result }
 {
     let mut far: u16 = 65535;
-    let mut x: usize = 0;
-    while x < table.len() {
-        far = nearer(table[x], u, far);
-        x += 1;
+    for w in table {
+        far = nearer(*w, u, far);
     }
     reached(u, far)
 }
@@ -47,7 +41,7 @@ pub fn next_word(table: &[u16], u: u16) -> u16
 fn mark(w: u16, u: u16) -> i32
     ensures { result ≡ pos (one (w == u)) }
 {
-    if w == u { 1 } else { 0 }
+    i32::from(w == u)
 }
 
 // A 1 at each point with the word u, and else 0.
@@ -55,10 +49,8 @@ pub fn put_marks(table: &[u16], u: u16, s: &mut [i32])
     requires { length table.now ≡ length s.old }
     ensures { s.new ≡ tab (length s.old) (λ x. pos (marks (at table.now) u x)) }
 {
-    let mut x: usize = 0;
-    while x < s.len() {
-        s[x] = mark(table[x], u);
-        x += 1;
+    for (x, w) in table.iter().enumerate() {
+        s[x] = mark(*w, u);
     }
 }
 
@@ -77,12 +69,9 @@ fn divide_by(s: &mut [i32], d: i32, out: &mut [u32])
     ensures { (s.new ≡ tab (length s.old) (λ _. pos 0))
         × (out.new ≡ tab (length s.old) (λ t. at out.old t + unsigned_abs (val s.old t) / length s.old)) }
 {
-    let mut t: usize = 0;
-    while t < s.len() {
-        let a = s[t];
-        out[t] += exact_quotient(a, d);
+    for t in 0..s.len() {
+        out[t] += exact_quotient(s[t], d);
         s[t] = 0;
-        t += 1;
     }
 }
 

@@ -1,6 +1,6 @@
 -- R of a block by the Wiener-Khinchin theorem (02, Ticket 5): "for each output word a signed Walsh transform, squares, transform again, divide
 -- by 2^n", and that each division leaves nothing over. For any block and any number of inputs. Assumes nothing.
-use Rattle.std.specs.Prelude.{◌≡◌, ℕ, ◌*◌, ◌/◌, ◌%◌, ◌≤◌, ◌<◌, ◌^◌, nat_abs}
+use Rattle.std.specs.Prelude.{◌≡◌, ℕ, ◌/◌, ◌%◌, ◌≤◌, ◌<◌, ◌^◌, nat_abs}
 use Rattle.std.proofs.Common.{sym, ap, ◌∙◌, mul-div_cancel, pow_pos}
 use Rattle.std.proofs.Math.Nat.{mul-mod_left}
 use Rattle.sums.specs.Sums.{sum}

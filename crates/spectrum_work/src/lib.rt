@@ -23,26 +23,15 @@ fn add_word(table: &[u16], n: usize, u: u16, working: &mut [i32], values: &mut [
     spectrum_words::add_quotients(working, n, values);
 }
 
-// Zeros in both.
-fn clear(working: &mut [i32], values: &mut [u32])
-    requires { length working.old ≡ length values.old }
-    ensures { (working.new ≡ tab (length working.old) (λ _. pos 0)) × (values.new ≡ tab (length values.old) (λ _. 0)) }
-{
-    let mut x: usize = 0;
-    while x < working.len() {
-        working[x] = 0;
-        values[x] = 0;
-        x += 1;
-    }
-}
-
 // R at every t, over as much room as the table has entries. 65,535, no output, is no word and comes after all of them.
 fn add_words(table: &[u16], n: usize, working: &mut [i32], values: &mut [u32])
     requires { (length table.now ≡ 2 ^ n) × (length working.old ≡ 2 ^ n) × (length values.old ≡ 2 ^ n) × (n ≤ table_inputs) }
     ensures { (working.new ≡ tab (2 ^ n) (λ _. pos 0)) × (values.new ≡ tab (2 ^ n) (shift (of_table table.now) n)) }
 {
-    clear(working, values);
+    working.fill(0);
+    values.fill(0);
     let mut u = spectrum_words::next_word(table, 0);
+    // a while: the step leads to the next word that the table has
     while u < 65535 {
         add_word(table, n, u, working, values);
         u = spectrum_words::next_word(table, u + 1);

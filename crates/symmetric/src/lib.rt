@@ -23,21 +23,13 @@ pub fn symmetric_block(
 {
     let v = table_checks::symmetric_verdict(n, k, block_type, words, table.len(), smaller.len());
     if v.number != 0 {
-        return TableMethodAnswer {
-            number: v.number,
-            a: v.a,
-            b: v.b,
-            before: 0,
-            after: 0,
-        };
+        return TableMethodAnswer::from(v);
     }
     let measures = symmetric_work::make_symmetric(words, n, table, smaller);
     TableMethodAnswer {
-        number: v.number,
-        a: v.a,
-        b: v.b,
         before: measures.before,
         after: measures.after,
+        ..TableMethodAnswer::from(v)
     }
 }
 
@@ -47,18 +39,11 @@ pub fn table_symmetric(n: usize, k: usize, block_type: usize, table: &[u16]) -> 
 {
     let v = table_checks::table_symmetric_verdict(n, k, block_type, table);
     if v.number != 0 {
-        return ValueAnswer {
-            number: v.number,
-            a: v.a,
-            b: v.b,
-            value: 0,
-        };
+        return ValueAnswer::from(v);
     }
     let value = symmetric_work::symmetric_value(table, n);
     ValueAnswer {
-        number: v.number,
-        a: v.a,
-        b: v.b,
         value,
+        ..ValueAnswer::from(v)
     }
 }

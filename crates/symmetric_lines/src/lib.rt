@@ -7,7 +7,7 @@ ghost use Rattle.std.specs.Prelude.{◌≤◌};
 ghost use Rattle.block.specs.Limits.{table_inputs};
 
 use block::{FR, TABLE_INPUTS, TABLE_POINTS, TableMethodAnswer};
-use saying::{STANDARD_OUTPUT, part16, say, say_bits, say_number, say_refused};
+use saying::{STANDARD_OUTPUT, part, say, say_bits, say_number, say_refused};
 
 // The entry of a point without an output.
 const NO_OUTPUT: u16 = 65535;
@@ -63,11 +63,9 @@ fn say_size(n: usize, k: usize, block_type: usize) {
 
 fn say_words(k: usize, words: &[u16]) {
     say_section(b"words", words.len());
-    let mut c: usize = 0;
-    while c < words.len() {
-        say_word(k, words[c]);
+    for word in words {
+        say_word(k, *word);
         say(b"\n");
-        c += 1;
     }
 }
 
@@ -173,7 +171,7 @@ fn say_given_words(n: usize, table: &[u16; TABLE_POINTS])
 
 // Says whether the block of a table is symmetric, and the call by whose words it is made, or why not.
 fn say_symmetric(n: usize, k: usize, block_type: usize, table: &[u16; TABLE_POINTS]) {
-    let r = symmetric::table_symmetric(n, k, block_type, part16(table, shared_checks::size_of(n)));
+    let r = symmetric::table_symmetric(n, k, block_type, part(table, shared_checks::size_of(n)));
     if r.number != 0 {
         say_refused(r.number, r.a, r.b);
         return;

@@ -24,7 +24,7 @@ fn agree(words: &[u16], a: usize, b: usize) -> u32
     if word == 65535 {
         return 0;
     }
-    if words[b] == word { 1 } else { 0 }
+    u32::from(words[b] == word)
 }
 
 // What one input adds that t changes, where c of the others are 1.
@@ -49,10 +49,8 @@ fn fold_once(values: &mut [u32], m: usize)
     requires { (m < length values.old) × ((i : ℕ) → i ≤ m → at values.old i ≤ 16384) }
     ensures { values.new ≡ over (tab m (λ i. at values.old i + at values.old (i + 1))) values.old }
 {
-    let mut i: usize = 0;
-    while i < m {
-        values[i] = values[i] + values[i + 1];
-        i += 1;
+    for i in 0..m {
+        values[i] += values[i + 1];
     }
 }
 
@@ -61,10 +59,8 @@ fn fold_all(values: &mut [u32], m: usize) -> u32
     requires { (m < length values.old) × (m < table_inputs) × ((i : ℕ) → i ≤ m → at values.old i ≤ 4) }
     ensures { result ≡ folded (at values.old) m 0 }
 {
-    let mut left = m;
-    while 0 < left {
-        fold_once(values, left);
-        left -= 1;
+    for left in (0..m).rev() {
+        fold_once(values, left + 1);
     }
     values[0]
 }
@@ -75,10 +71,8 @@ pub fn value_at_one(words: &[u16], n: usize) -> u32
     ensures { result ≡ shift (of_counts words.now) n 1 }
 {
     let mut values = [0u32; TABLE_INPUTS];
-    let mut c: usize = 0;
-    while c < n {
+    for c in 0..n {
         values[c] = one_changed(words, c);
-        c += 1;
     }
     fold_all(&mut values, n - 1)
 }
@@ -89,11 +83,8 @@ pub fn value_at_two(words: &[u16], n: usize) -> u32
     ensures { result ≡ shift (of_counts words.now) n 3 }
 {
     let mut values = [0u32; TABLE_INPUTS];
-    let end = n - 1;
-    let mut c: usize = 0;
-    while c < end {
+    for c in 0..n - 1 {
         values[c] = two_changed(words, c);
-        c += 1;
     }
     fold_all(&mut values, n - 2)
 }

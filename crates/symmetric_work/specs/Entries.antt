@@ -39,6 +39,19 @@ repeat-next start count y l k e h b =
     ∙ ap (at l) same
     ∙ sym (repeated-above start count l (start + y) (omega arith))
 
+-- copied behind, the entries are repeated
+pub repeat-is : (start count : ℕ) (l k : List ℕ) → count ≤ start → start + count ≤ length l → length k ≡ length l
+    → ((x : ℕ) → start ≤ x → x < start + count → at k x ≡ at l (start - count + (x - start))) → ((x : ℕ) → x < start → at k x ≡ at l x)
+    → ((x : ℕ) → start + count ≤ x → at k x ≡ at l x) → k ≡ over (tab (start + count) (repeated start count l)) l
+repeat-is start count l k h b e copied below beyond =
+    over-is (start + count) (repeated start count l) l k 0 b e (λ x w. entry x w (dec_lt x start)) beyond
+  where
+    entry : (x : ℕ) → x < start + count → Dec (x < start) → at k x ≡ repeated start count l x
+    entry x w (yes o) = below x o ∙ sym (repeated-below start count l x o)
+    entry x w (no o) =
+        let same : start - count + (x - start) ≡ x - count = omega arith in
+        copied x (omega arith) w ∙ ap (at l) same ∙ sym (repeated-above start count l x (omega arith))
+
 -- where slice i - 1 of 2^(j + 1) lies
 pub places : (i j end p q : ℕ) → 0 < i → i ≤ j → end ≡ 2 ^ (j + 1) → p ≡ 2 ^ i → q ≡ 2 ^ (i - 1)
     → (q ≤ end - p) × (end - p + q ≡ 2 ^ (j + 1) - 2 ^ (i - 1)) × (p ≤ end) × (end - p + q ≤ end)

@@ -9,6 +9,7 @@ use Rattle.block.specs.Words.{none, of_table}
 use Rattle.block.specs.Symmetric.{is_symmetric}
 use Rattle.symmetric_laws.specs.Slices.{power-more}
 use Rattle.symmetric_laws.specs.Words.{passes-symmetric, with_zero, without_zero, ones-without}
+use Rattle.std.proofs.Math.Pow.{pow-add}
 
 -- the entries at a number whose lowest zero stands at k and at the number without it are equal
 abbrev pub Repeated : List ℕ → ℕ → ℕ → ℕ → Type 0
@@ -90,3 +91,57 @@ module _ (table : List ℕ) (n k : ℕ) where
             let more : l.above ≤ a = omega arith in
             let same : 2 ^ (k + 1) ≤ 2 ^ (k + 1) = omega arith in
             absurd (omega (arith, l.there, mul-le-mul more same))
+
+-- where a number with a above its zero at k stands, and that without the zero, as a step of 2^k leads to them
+module _ (n k a s : ℕ) (e : s ≡ 2 ^ k) where
+  pub stands-with : a * (s + s) + (s - 1) ≡ with_zero k a
+  stands-with = omega (arith, e, power-more k, ap (λ (p : ℕ). a * p) e, ap (λ (p : ℕ). a * p) (power-more k))
+
+  pub stands-without : a * s + (s - 1) ≡ without_zero k a
+  stands-without = omega (arith, e, ap (λ (p : ℕ). a * p) e)
+
+  -- all below 2^n, where a is below 2^(n - 1 - k)
+  pub stands-below : k < n → a < 2 ^ (n - 1 - k) → a * (s + s) + (s + s) ≤ 2 ^ n
+  stands-below h b =
+      let whole : n - 1 - k + (k + 1) ≡ n = omega arith in
+      let two : s + s ≤ 2 ^ (k + 1) = omega (arith, e, power-more k) in
+      let next : a + 1 ≤ 2 ^ (n - 1 - k) = omega arith in
+      omega (arith, mul-le-mul next two, sym (pow-add 2 (n - 1 - k) (k + 1)) ∙ ap (λ (i : ℕ). 2 ^ i) whole)
+
+  -- and no other are
+  pub stands-beyond : k < n → 2 ^ (n - 1 - k) ≤ a → with_zero k a < 2 ^ n → ⊥
+  stands-beyond h b c =
+      let whole : n - 1 - k + (k + 1) ≡ n = omega arith in
+      let same : 2 ^ (k + 1) ≤ 2 ^ (k + 1) = omega arith in
+      omega (arith, mul-le-mul b same, sym (pow-add 2 (n - 1 - k) (k + 1)) ∙ ap (λ (i : ℕ). 2 ^ i) whole)
+
+-- the entries at both, of a table of 2^n
+module _ (table : List ℕ) (n k a with without : ℕ) (len : length table ≡ 2 ^ n) (there : with ≡ with_zero k a) (other : without ≡ without_zero k a) (b : with < 2 ^ n) where
+  -- the number without the zero is not above the one with it
+  below_with : without ≤ with
+  below_with =
+      let same : a ≤ a = omega arith in
+      let more : 2 ^ k ≤ 2 ^ (k + 1) = pow_mono (omega arith) in
+      omega (arith, there, other, mul-le-mul same more)
+
+  pub look-repeated : get_or table with 0 ≡ get_or table without 0 → Repeated table n k a
+  look-repeated d =
+      λ w.
+      ap (of_table table) (sym there)
+      ∙ get_d_any table none 0 with (omega arith)
+      ∙ d
+      ∙ get_d_any table 0 none without (omega (arith, below_with))
+      ∙ ap (of_table table) other
+
+  pub unlike-finds : (get_or table with 0 ≡ get_or table without 0 → ⊥) → is_symmetric table n ≡ false
+  unlike-finds d = go (is_symmetric table n) refl
+    where
+      go : (r : Bool) → is_symmetric table n ≡ r → is_symmetric table n ≡ false
+      go false e = e
+      go true e =
+          absurd
+          (d
+          (get_d_any table 0 none with (omega arith)
+          ∙ passes-symmetric table n e with without b (omega (arith, below_with))
+          (ap ones there ∙ ones-without k a ∙ ap ones (sym other))
+          ∙ get_d_any table none 0 without (omega (arith, below_with))))

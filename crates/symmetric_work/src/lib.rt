@@ -39,12 +39,7 @@ fn repeat_before(start: usize, count: usize, out: &mut [u16])
     requires { (count ≤ start) × (start + count ≤ length out.old) × (start + count ≤ 4096) }
     ensures { out.new ≡ over (tab (start + count) (repeated start count out.old)) out.old }
 {
-    let from = start - count;
-    let mut y: usize = 0;
-    while y < count {
-        out[start + y] = out[from + y];
-        y += 1;
-    }
+    out.copy_within(start - count..start, start);
 }
 
 // The entries of a symmetric block from 2^j on, below 2^(j + 1). Those whose inputs from j down to i + 1 are 1 and whose input i is 0 stand behind
@@ -54,11 +49,8 @@ fn double_entries(words: &[u16], n: usize, j: usize, out: &mut [u16])
     ensures { out.new ≡ over (tab (2 ^ (j + 1)) (of_counts words.now)) out.old }
 {
     let end = bit_work::size(j + 1);
-    let mut i = j;
-    while 0 < i {
-        let start = end - bit_work::size(i);
-        i -= 1;
-        repeat_before(start, bit_work::size(i), out);
+    for i in (0..j).rev() {
+        repeat_before(end - bit_work::size(i + 1), bit_work::size(i), out);
     }
     out[end - 1] = words[j + 1];
 }
@@ -69,10 +61,8 @@ pub fn put_symmetric(words: &[u16], n: usize, out: &mut [u16])
     ensures { out.new ≡ over (symmetric_table words.now n) out.old }
 {
     out[0] = words[0];
-    let mut j: usize = 0;
-    while j < n {
+    for j in 0..n {
         double_entries(words, n, j, out);
-        j += 1;
     }
 }
 
@@ -82,10 +72,8 @@ fn double_points(n: usize, i: usize, column: u16, out: &mut [u16])
     ensures { out.new ≡ over (tab (2 ^ (i + 1)) (columns gray_column n)) out.old }
 {
     let size = bit_work::size(i);
-    let mut z: usize = 0;
-    while z < size {
+    for z in 0..size {
         out[size + z] = out[z] ^ column;
-        z += 1;
     }
 }
 
@@ -96,10 +84,8 @@ fn put_points(n: usize, out: &mut [u16])
 {
     let by_columns = gray_columns();
     out[0] = 0;
-    let mut i: usize = 0;
-    while i < n {
+    for i in 0..n {
         double_points(n, i, by_columns[i], out);
-        i += 1;
     }
 }
 
@@ -109,11 +95,8 @@ pub fn put_gray(table: &[u16], n: usize, out: &mut [u16])
     ensures { out.new ≡ over (tab (2 ^ n) (smaller (of_table table.now) gray_column n)) out.old }
 {
     put_points(n, out);
-    let size = table.len();
-    let mut z: usize = 0;
-    while z < size {
+    for z in 0..table.len() {
         out[z] = table[out[z] as usize];
-        z += 1;
     }
 }
 
@@ -124,14 +107,12 @@ fn is_unlike(table: &[u16], n: usize, k: usize) -> bool
     ensures { Looked table.now n k result }
 {
     let step = bit_work::size(k);
-    let mut with = step - 1;
-    let mut without = step - 1;
-    while with < table.len() {
+    for a in 0..bit_work::size(n - 1 - k) {
+        let with = a * (step + step) + (step - 1);
+        let without = a * step + (step - 1);
         if table[with] != table[without] {
             return true;
         }
-        with += step + step;
-        without += step;
     }
     false
 }
@@ -141,12 +122,10 @@ pub fn is_symmetric(table: &[u16], n: usize) -> bool
     requires { (length table.now ≡ 2 ^ n) × (n ≤ table_inputs) }
     ensures { result ≡ is_symmetric table.now n }
 {
-    let mut k: usize = 0;
-    while k < n {
+    for k in 0..n {
         if is_unlike(table, n, k) {
             return false;
         }
-        k += 1;
     }
     true
 }
@@ -156,7 +135,7 @@ pub fn symmetric_value(table: &[u16], n: usize) -> u64
     requires { (length table.now ≡ 2 ^ n) × (n ≤ table_inputs) }
     ensures { result ≡ one (is_symmetric table.now n) }
 {
-    if is_symmetric(table, n) { 1 } else { 0 }
+    u64::from(is_symmetric(table, n))
 }
 
 // The table of a symmetric block, its smaller table by the Gray columns, and both measures.

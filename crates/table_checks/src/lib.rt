@@ -18,10 +18,8 @@ pub fn is_bad_entry(missing: u32, k: usize, x: u16) -> bool
     requires { k ≤ outputs }
     ensures { result ≡ bad_entry missing k x }
 {
-    if (x as u32) < bit_work::power(k) {
-        return false;
-    }
-    (x as u32) != missing
+    let word = u32::from(x);
+    word >= bit_work::power(k) && word != missing
 }
 
 // The least entry that is malformed, or the table's length.
@@ -29,14 +27,12 @@ pub fn first_bad_entry(missing: u32, k: usize, table: &[u16]) -> usize
     requires { k ≤ outputs }
     ensures { result ≡ first (length table.now) (λ i. bad_entry missing k (at table.now i)) }
 {
-    let mut i: usize = 0;
-    while i < table.len() {
-        if is_bad_entry(missing, k, table[i]) {
+    for (i, x) in table.iter().enumerate() {
+        if is_bad_entry(missing, k, *x) {
             return i;
         }
-        i += 1;
     }
-    i
+    table.len()
 }
 
 // Whether a matrix row is not below 2^n.
@@ -44,8 +40,7 @@ pub fn is_bad_number(n: usize, x: u32) -> bool
     requires { n ≤ list_inputs }
     ensures { result ≡ bad_number n x }
 {
-    let below = x < bit_work::power(n);
-    !below
+    x >= bit_work::power(n)
 }
 
 // The least matrix row that is malformed, or the number of rows.
@@ -53,14 +48,12 @@ pub fn first_bad_number(n: usize, rows: &[u32]) -> usize
     requires { n ≤ list_inputs }
     ensures { result ≡ first (length rows.now) (λ i. bad_number n (at rows.now i)) }
 {
-    let mut i: usize = 0;
-    while i < rows.len() {
-        if is_bad_number(n, rows[i]) {
+    for (i, x) in rows.iter().enumerate() {
+        if is_bad_number(n, *x) {
             return i;
         }
-        i += 1;
     }
-    i
+    rows.len()
 }
 
 // 6 for a matrix.
@@ -126,10 +119,7 @@ pub fn table_method_verdict(
 pub fn is_either_short(size: usize, first: usize, second: usize) -> bool
     ensures { result ≡ ltb first size || ltb second size }
 {
-    if first < size {
-        return true;
-    }
-    second < size
+    first < size || second < size
 }
 
 // The verdict on R at every t, by the spectrum.
@@ -155,10 +145,7 @@ pub fn spectrum_verdict(
 pub fn is_other_count(words: usize, n: usize) -> bool
     ensures { result ≡ not (eqb words (n + 1)) }
 {
-    if words == 0 {
-        return true;
-    }
-    words - 1 != n
+    words == 0 || words - 1 != n
 }
 
 // The verdict on a symmetric block of these words.
@@ -195,10 +182,7 @@ pub fn table_symmetric_verdict(n: usize, k: usize, block_type: usize, table: &[u
 pub fn is_unfit(rows: usize, n: usize, entries: usize, size: usize) -> bool
     ensures { result ≡ not (eqb rows n) || not (eqb entries size) }
 {
-    if rows != n {
-        return true;
-    }
-    entries != size
+    rows != n || entries != size
 }
 
 // The verdict on restoring, but for 8.

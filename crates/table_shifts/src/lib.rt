@@ -18,10 +18,8 @@ fn put_copy(table: &[u16], n: usize, low: usize, copy: &mut [u16])
     requires { (length table.now ≡ 2 ^ n) × (low < 2 ^ n) × (2 ^ n ≤ length copy.old) }
     ensures { copy.new ≡ over (tab (2 ^ n) (λ y. marked (at table.now (bit_xor y low)))) copy.old }
 {
-    let mut y: usize = 0;
-    while y < table.len() {
+    for y in 0..table.len() {
         copy[y] = table_words::mark(table[y ^ low]);
-        y += 1;
     }
 }
 
@@ -30,12 +28,9 @@ fn shift_by_blocks(table: &[u16], copy: &[u16], n: usize, low: usize, high: usiz
     requires { (Copied table.now copy.now n low) × (high < 2 ^ (n - 6)) }
     ensures { result ≡ shift (of_table table.now) n (high * 64 + low) }
 {
-    let end = table.len() / 64;
     let mut r: u32 = 0;
-    let mut b: usize = 0;
-    while b < end {
+    for b in 0..table.len() / 64 {
         r += table_words::blocks_add(table, copy, n, high, b);
-        b += 1;
     }
     r
 }
@@ -47,14 +42,11 @@ fn shifts_at_low(table: &[u16], n: usize, w: usize, low: usize, out: &mut [u32])
 {
     let mut copy = [0u16; TABLE_POINTS];
     put_copy(table, n, low, &mut copy);
-    let end = table.len() / 64;
-    let mut high: usize = 0;
-    while high < end {
+    for high in 0..table.len() / 64 {
         let t = high * 64 + low;
         if table_words::has_few(t, w) {
             out[t] = shift_by_blocks(table, &copy, n, low, high);
         }
-        high += 1;
     }
 }
 
@@ -67,11 +59,9 @@ pub fn shifts_of(table: &[u16], n: usize, w: usize, out: &mut [u32])
         table_values::small_shifts(table, n, out);
         return;
     }
-    let mut low: usize = 0;
-    while low < 64 {
+    for low in 0..64 {
         if table_words::has_few(low, w) {
             shifts_at_low(table, n, w, low, out);
         }
-        low += 1;
     }
 }

@@ -13,15 +13,10 @@ pub fn shift_at(table: &[u16], n: usize, t: usize) -> u32
     ensures { result ≡ shift (of_table table.now) n t }
 {
     let mut r: u32 = 0;
-    let mut x: usize = 0;
-    while x < table.len() {
-        let w = table[x];
-        if w != 65535 {
-            if table[x ^ t] == w {
-                r += 1;
-            }
+    for (x, w) in table.iter().enumerate() {
+        if *w != 65535 && table[x ^ t] == *w {
+            r += 1;
         }
-        x += 1;
     }
     r
 }
@@ -31,9 +26,7 @@ pub fn small_shifts(table: &[u16], n: usize, out: &mut [u32])
     requires { (length table.now ≡ 2 ^ n) × (n ≤ table_inputs) × (2 ^ n ≤ length out.old) }
     ensures { out.new ≡ over (tab (2 ^ n) (shift (of_table table.now) n)) out.old }
 {
-    let mut t: usize = 0;
-    while t < table.len() {
+    for t in 0..table.len() {
         out[t] = shift_at(table, n, t);
-        t += 1;
     }
 }

@@ -24,12 +24,10 @@ pub fn matches(table: &[u16], copy: &[u16], b: usize, c: usize) -> u16
     let x = b * 64;
     let y = c * 64;
     let mut m: u16 = 0;
-    let mut i: usize = 0;
-    while i < 64 {
+    for i in 0..64 {
         if table[x + i] == copy[y + i] {
             m += 1;
         }
-        i += 1;
     }
     m
 }

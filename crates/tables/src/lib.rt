@@ -14,19 +14,12 @@ pub fn table_value(n: usize, k: usize, block_type: usize, t: usize, table: &[u16
 {
     let v = table_checks::table_value_verdict(n, k, block_type, t, table);
     if v.number != 0 {
-        return ValueAnswer {
-            number: v.number,
-            a: v.a,
-            b: v.b,
-            value: 0,
-        };
+        return ValueAnswer::from(v);
     }
     let value = table_values::shift_at(table, n, t);
     ValueAnswer {
-        number: v.number,
-        a: v.a,
-        b: v.b,
         value: value as u64,
+        ..ValueAnswer::from(v)
     }
 }
 
@@ -55,21 +48,13 @@ pub fn table_method(
         smaller.len(),
     );
     if v.number != 0 {
-        return TableMethodAnswer {
-            number: v.number,
-            a: v.a,
-            b: v.b,
-            before: 0,
-            after: 0,
-        };
+        return TableMethodAnswer::from(v);
     }
     let measures = smaller_tables::linearize(table, n, w, basis, sigma, smaller);
     TableMethodAnswer {
-        number: v.number,
-        a: v.a,
-        b: v.b,
         before: measures.before,
         after: measures.after,
+        ..TableMethodAnswer::from(v)
     }
 }
 

@@ -3,7 +3,7 @@
 #![tactic(auto)]
 
 use block::{GIVEN_ROWS, ReadAnswer};
-use saying::part32;
+use saying::part;
 
 // Reads a list and fills its table: the answer is the reader's, or the refusal of the filling.
 pub fn fill_text(text: &[u8], table: &mut [u16]) -> ReadAnswer {
@@ -18,9 +18,9 @@ pub fn fill_text(text: &[u8], table: &mut [u16]) -> ReadAnswer {
         h.n,
         h.k,
         h.block_type,
-        part32(&masks, h.count),
-        part32(&values, h.count),
-        part32(&words, h.count),
+        part(&masks, h.count),
+        part(&values, h.count),
+        part(&words, h.count),
         table,
     );
     ReadAnswer {

@@ -1,6 +1,6 @@
 -- The work of a text, by the reader's answer: its refusal, or the work of the rows that the text says, which lie in working storage.
 -- Assumes nothing.
-use Rattle.std.specs.Prelude.{◌≡◌, refl, Bool, List, map, ℕ, ◌≤◌, min, length, take}
+use Rattle.std.specs.Prelude.{◌≡◌, refl, Bool, List, map, ℕ, ◌≤◌, min, length, take, Result, Ok, Err}
 use Rattle.std.proofs.Math.Path.{sym, ap}
 use Rattle.std.proofs.Common.{◌∙◌, arith}
 use borrow.Author.Tests.{eq-eqb, ne_eqb, le-ltb}
@@ -17,8 +17,6 @@ use Rattle.block.specs.declared.Headings.{Headings}
 use Rattle.block.specs.declared.Refusal.{Refusal}
 use Rattle.block.specs.declared.Kind.{Kind}
 use Rattle.block.specs.declared.Kind.TheVariants.{Inputs, Outputs, Count, Room, Form}
-use Rattle.block.specs.declared.Reading.{Reading}
-use Rattle.block.specs.declared.Reading.TheVariants.{Accepted, Refused}
 use Rattle.refusal_laws.specs.Verdicts.{answered-clear, carried-yes, stored-yes, stored_no}
 use Rattle.shared_checks.specs.Sizes.{inside}
 use Rattle.read_laws.specs.Front.{rows-count}
@@ -65,16 +63,16 @@ refused v = record { number = v.number; a = v.a; b = v.b; before = 0; after = 0;
 no-sheet : (u v : Answer) (x y c l : ℕ) → v ≡ u → (u.number ≡ 0 → ⊥) → refused u ≡ with_sheet v x y c l
 no-sheet u v x y c l e h = rw (e, ne_eqb u.number 0 h)
 
-module _ (input text : List ℕ) (reading : Reading) (cut : text ≡ take read_bytes input) (answers : numbers reading ≡ read_text text given_rows) where
+module _ (input text : List ℕ) (reading : Result Headings Refusal) (cut : text ≡ take read_bytes input) (answers : numbers reading ≡ read_text text given_rows) where
   abbrev u : Answer
   u = read_verdict text given_rows
 
   -- the reader refuses: with its number and places, none of which is 0's
-  module _ (f : Refusal) (e : reading ≡ Refused f) where
+  module _ (f : Refusal) (e : reading ≡ Err f) where
     pub reader-said : answer (kind_number f.kind) f.a f.b ≡ u
     unfolding read_text
     reader-said =
-        let q : numbers (Refused f) ≡ read_text text given_rows = ap numbers (sym e) ∙ answers in
+        let q : numbers (Err f) ≡ read_text text given_rows = ap numbers (sym e) ∙ answers in
         ap (λ (x : ReadAnswer). answer x.number x.a x.b) q
 
     pub reader-some : u.number ≡ 0 → ⊥
@@ -90,8 +88,8 @@ module _ (input text : List ℕ) (reading : Reading) (cut : text ≡ take read_b
           sym (stored_no u (sheet_in input) l reader-some) ∙ ap (λ (v : Answer). stored v (sheet_in input) l) (sym t),
         )
 
-  module _ (h : Headings) (e : reading ≡ Accepted h) where
-    same : numbers (Accepted h) ≡ read_text text given_rows
+  module _ (h : Headings) (e : reading ≡ Ok h) where
+    same : numbers (Ok h) ≡ read_text text given_rows
     same = ap numbers (sym e) ∙ answers
 
     pub reader-zero : u.number ≡ 0

@@ -12,7 +12,7 @@ ghost use Rattle.promises.specs.Texts.{WritePromise};
 ghost use Rattle.sheet_work.specs.Work.{sheet_work};
 ghost use Rattle.text_work.specs.Work.{first_rows, text_verdict, sheet_in, text_work};
 
-use block::{GIVEN_ROWS, READ_BYTES, Reading, SheetWork, TextAnswer};
+use block::{GIVEN_ROWS, READ_BYTES, SheetWork, TextAnswer};
 
 // The weight limit: 3, or n where n is below 3.
 pub fn weight_limit(n: usize) -> usize
@@ -106,7 +106,7 @@ pub fn work_text(input: &[u8], out: &mut [u8]) -> SheetWork
     let mut words = [0u32; GIVEN_ROWS];
     let reading = reading::read_text(text, &mut masks, &mut values, &mut words);
     match reading {
-        Reading::Refused(r) => {
+        Err(r) => {
             let kind = r.kind;
             SheetWork {
                 number: read_kinds::kind_number(kind),
@@ -118,7 +118,7 @@ pub fn work_text(input: &[u8], out: &mut [u8]) -> SheetWork
                 count: 0,
             }
         }
-        Reading::Accepted(h) => work_rows(
+        Ok(h) => work_rows(
             h.n,
             h.k,
             h.block_type,

@@ -53,7 +53,7 @@ module _ (l : List ℕ) (count : ℕ) (s : Ascending l count) where
   pub none_below : (t i : ℕ) → t ≤ at l i → (j : ℕ) → i ≤ j → j < count → t ≤ at l j
   none_below t i h j k b = omega (arith, ascending-le i j k b)
 
-  -- the halving has come to its end
+  -- the place of the first number that is not below t
   pub place_is : (t r : ℕ) → r ≤ count → ((j : ℕ) → j < r → at l j < t) → ((j : ℕ) → r ≤ j → j < count → t ≤ at l j)
       → r ≡ first count (λ i. leb t (at l i))
   place_is t r h low high =

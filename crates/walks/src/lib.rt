@@ -2,8 +2,8 @@
 // that of the printed list the walk is taken from this list (02, Ticket 3), and else it is made. Every function here is inner.
 #![tactic(auto)]
 
-ghost use Rattle.std.specs.Prelude.{◌≡◌, ◌≤◌, ◌<◌, leb, length};
-ghost use Rattle.slices.specs.Places.{at, first, over};
+ghost use Rattle.std.specs.Prelude.{◌≡◌, ◌≤◌, ◌<◌, length};
+ghost use Rattle.slices.specs.Places.{at, over};
 ghost use Rattle.sums.specs.Sums.{sum};
 ghost use Rattle.block.specs.Limits.{list_inputs};
 ghost use Rattle.walks.specs.Walk.{walk, value_at};
@@ -21,17 +21,14 @@ fn put_listed(list: &[u32], n: usize, w: usize, out: &mut [u32]) -> usize
 {
     let size = bit_work::power(n);
     let mut count: usize = 0;
-    let mut place: usize = 0;
-    while place < list.len() {
-        let t = list[place];
-        if size <= t {
+    for t in list {
+        if size <= *t {
             return count;
         }
-        if candidates::is_light(w, t) {
-            out[count] = t;
+        if candidates::is_light(w, *t) {
+            out[count] = *t;
             count += 1;
         }
-        place += 1;
     }
     count
 }
@@ -45,6 +42,7 @@ fn make_walk(n: usize, w: usize, out: &mut [u32]) -> usize
     let size = bit_work::size(n);
     let mut count: usize = 0;
     let mut t: usize = 0;
+    // A while: where a number is not in the walk, the step is its stride.
     while t < size {
         if candidates::is_light(w, t as u32) {
             out[count] = t as u32;
@@ -76,46 +74,23 @@ pub fn next_place(values: &[u32], from: usize, count: usize, top: u32) -> usize
     requires { (from ≤ count) × (count ≤ length values.now) }
     ensures { NextPlace values.now from count top result }
 {
-    let mut place = from;
-    while place < count {
+    for place in from..count {
         if top <= values[place] {
             return place;
         }
-        place += 1;
     }
-    place
+    count
 }
 
-// The place of the first number of the walk that is not below t, or its end: the walk ascends, so that what is left is halved.
-fn place_of(walk: &[u32], count: usize, t: u32) -> usize
-    requires { (count ≤ length walk.now) × Ascending walk.now count }
-    ensures { result ≡ first count (λ i. leb t (at walk.now i)) }
-{
-    let mut low: usize = 0;
-    let mut high = count;
-    while low < high {
-        let middle = low + (high - low) / 2;
-        if walk[middle] < t {
-            low = middle + 1;
-        } else {
-            high = middle;
-        }
-    }
-    low
-}
-
-// The value of a number of the walk, by its place there.
+// The value of a number of the walk, by its place there, which is searched by halves since the walk ascends.
 pub fn value_of(walk: &[u32], values: &[u32], count: usize, t: u32) -> u32
     requires { (count ≤ length walk.now) × (count < length values.now) × Ascending walk.now count }
     ensures { result ≡ value_at walk.now values.now count t }
 {
-    let place = place_of(walk, count, t);
-    if place < count {
-        if walk[place] == t {
-            return values[place];
-        }
+    match walk[..count].binary_search(&t) {
+        Ok(place) => values[place],
+        Err(_) => values[count],
     }
-    values[count]
 }
 
 // The sum of the values of n numbers of the walk.
@@ -124,10 +99,8 @@ pub fn sum_of(walk: &[u32], values: &[u32], count: usize, terms: &[u32], n: usiz
     ensures { result ≡ sum (λ i. value_at walk.now values.now count (at terms.now i)) n }
 {
     let mut r: u64 = 0;
-    let mut i: usize = 0;
-    while i < n {
-        r += value_of(walk, values, count, terms[i]) as u64;
-        i += 1;
+    for term in &terms[..n] {
+        r += u64::from(value_of(walk, values, count, *term));
     }
     r
 }

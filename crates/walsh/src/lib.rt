@@ -13,13 +13,11 @@ fn cross_block(s: &mut [i32], at: usize, h: usize)
     requires { (at + h + h ≤ length s.old) × Small s.old at }
     ensures { Crossed s.old s.new at h h }
 {
-    let mut j: usize = 0;
-    while j < h {
+    for j in 0..h {
         let a = s[at + j];
         let b = s[at + h + j];
         s[at + j] = a + b;
         s[at + h + j] = a - b;
-        j += 1;
     }
 }
 
@@ -28,8 +26,7 @@ fn cross_quad(s: &mut [i32], at: usize, h: usize)
     requires { (at + 4 * h ≤ length s.old) × Small s.old at }
     ensures { CrossedTwice s.old s.new at h h }
 {
-    let mut j: usize = 0;
-    while j < h {
+    for j in 0..h {
         let first = at + j;
         let second = first + h;
         let third = second + h;
@@ -46,7 +43,6 @@ fn cross_quad(s: &mut [i32], at: usize, h: usize)
         s[second] = left_difference + right_difference;
         s[third] = left_sum - right_sum;
         s[fourth] = left_difference - right_difference;
-        j += 1;
     }
 }
 
@@ -55,10 +51,8 @@ fn cross_quads(s: &mut [i32], h: usize, m: usize)
     requires { (m * (4 * h) ≡ length s.old) × Small s.old 0 }
     ensures { PassedTwice s.old s.new h m }
 {
-    let mut b: usize = 0;
-    while b < m {
+    for b in 0..m {
         cross_quad(s, b * (4 * h), h);
-        b += 1;
     }
 }
 
@@ -85,13 +79,11 @@ pub fn transform(s: &mut [i32], n: usize)
 {
     let size = s.len();
     let mut h: usize = 1;
-    let mut i: usize = 0;
-    while i + 1 < n {
+    for _ in 0..n / 2 {
         two_stages(s, h, size / (4 * h));
         h *= 4;
-        i += 2;
     }
-    if i < n {
+    if n % 2 == 1 {
         cross_block(s, 0, h);
     }
 }
@@ -101,10 +93,7 @@ pub fn square(s: &mut [i32])
     requires { (x : ℕ) → x < length s.old → nat_abs (val s.old x) ≤ most_points }
     ensures { s.new ≡ tab (length s.old) (λ x. pos (nat_abs (val s.old x) * nat_abs (val s.old x))) }
 {
-    let mut x: usize = 0;
-    while x < s.len() {
-        let a = s[x];
-        s[x] = a * a;
-        x += 1;
+    for a in s.iter_mut() {
+        *a = *a * *a;
     }
 }

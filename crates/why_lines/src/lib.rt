@@ -4,15 +4,15 @@
 #![tactic(auto)]
 
 use arguments::WhyCall;
-use block::{GIVEN_ROWS, LIST_INPUTS, ReadAnswer, Reason, Why};
-use saying::{part32, say, say_bits, say_number, say_refused};
+use block::{GIVEN_ROWS, LIST_INPUTS, ReadAnswer, Reason};
+use saying::{part, say, say_bits, say_number, say_refused};
 
 // The weight limit: the one that was given, or else a sheet's.
 fn limit_of(call: WhyCall, n: usize) -> usize {
-    if call.limited {
-        return call.w;
+    match call.limit {
+        Some(w) => w,
+        None => text_work::weight_limit(n),
     }
-    text_work::weight_limit(n)
 }
 
 // Says a number as n bits, the highest input first, and in decimal, and R there.
@@ -27,7 +27,7 @@ fn say_shift(h: ReadAnswer, t: usize, masks: &[u32], values: &[u32], words: &[u3
 
 // How many one-bits a number has.
 fn ones_of(x: u64) -> u64 {
-    u64::count_ones(x) as u64
+    u64::from(x.count_ones())
 }
 
 // Says that t is over the weight limit.
@@ -66,10 +66,8 @@ fn say_reason(reason: Reason, t: usize, w: usize) {
 // The set of steps that a reason names: bit j - 1 stands for step j.
 fn set_of(reason: Reason) -> u32 {
     match reason {
-        Reason::Zero => 0,
-        Reason::Over => 0,
-        Reason::Taken(_) => 0,
         Reason::Xor(set) => set,
+        Reason::Zero | Reason::Over | Reason::Taken(_) => 0,
     }
 }
 
@@ -113,8 +111,8 @@ fn say_of_rows(h: ReadAnswer, call: WhyCall, masks: &[u32], values: &[u32], word
         &mut taken,
     );
     match why {
-        Why::Refused(v) => say_refused(v.number, v.a, v.b),
-        Why::Given(reason) => {
+        Err(v) => say_refused(v.number, v.a, v.b),
+        Ok(reason) => {
             say(b"why ");
             say_shift(h, call.t, masks, values, words);
             say_reason(reason, call.t, w);
@@ -136,8 +134,8 @@ pub fn say_why(text: &[u8], call: WhyCall) {
     say_of_rows(
         h,
         call,
-        part32(&masks, h.count),
-        part32(&values, h.count),
-        part32(&words, h.count),
+        part(&masks, h.count),
+        part(&values, h.count),
+        part(&words, h.count),
     );
 }

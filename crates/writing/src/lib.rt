@@ -25,18 +25,11 @@ pub fn write_text(
 {
     let v = put_text::write_checks(n, k, block_type, type_line, masks, values, words, out.len());
     if v.number != 0 {
-        return TextAnswer {
-            number: v.number,
-            a: v.a,
-            b: v.b,
-            count: 0,
-        };
+        return TextAnswer::from(v);
     }
     let count = put_text::put_text(out, n, k, block_type, type_line, masks, values, words);
     TextAnswer {
-        number: v.number,
-        a: v.a,
-        b: v.b,
         count,
+        ..TextAnswer::from(v)
     }
 }

@@ -8,8 +8,8 @@ slice_bounds-line-end g c =
     let made = c.import_text-r.ensures in
     line-fits c.args.name.now c.args.text.now _ _ _ made.answer made.line
 
-pub slice_bounds-say-end : goal.slice_bounds-say-end
-slice_bounds-say-end g c =
+pub slice_bounds-said-end : goal.slice_bounds-said-end
+slice_bounds-said-end g c =
     let made = c.import_text-r.ensures in
     simp length-take (omega (arith, line-fits c.args.name.now c.args.text.now _ _ _ made.answer made.line))
 
@@ -25,13 +25,3 @@ slice_bounds-put_beside-end g c =
       arith,
       sheet-fits c.args.name.now c.args.text.now _ _ _ made.answer made.sheet c.if-r-ne0.false,
     ))
-
-pub slice_bounds-line-end-2 : goal.slice_bounds-line-end-2
-slice_bounds-line-end-2 g c =
-    let made = c.import_text-r.ensures in
-    line-fits c.args.name.now c.args.text.now _ _ _ made.answer made.line
-
-pub slice_bounds-say-end-2 : goal.slice_bounds-say-end-2
-slice_bounds-say-end-2 g c =
-    let made = c.import_text-r.ensures in
-    simp length-take (omega (arith, line-fits c.args.name.now c.args.text.now _ _ _ made.answer made.line))

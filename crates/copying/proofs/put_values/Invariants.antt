@@ -1,13 +1,8 @@
 -- `copying::put_values` meets its contract. The loop's invariant: the first i values are stored, and the rest holds what it
--- held. The measure is what is left. Assumes nothing.
+-- held. Assumes nothing.
 use mathlib.Core.Path.{◌≡◌}
-use Prim.Native.Nat.{◌≤◌, ◌-◌}
-use lib.ListN.{length}
 use Rattle.slices.specs.Places.{at, tab, over}
 use Rattle.copying.proofs.put_values.Given as goal
 
 abbrev pub invariant-loop-i : goal.invariant-loop-i
-invariant-loop-i l = (l.i ≤ l.count) × (length l.out ≡ length l.initial.out) × (l.out ≡ over (tab l.i (λ j. at l.by_t (at l.walk j))) l.initial.out)
-
-abbrev pub decreases-loop-i : goal.decreases-loop-i
-decreases-loop-i l = l.count - l.i
+invariant-loop-i l = l.out ≡ over (tab l.i (λ j. at l.by_t (at l.walk j))) l.initial.out

@@ -10,51 +10,51 @@ use Rattle.disjoin_text_work.proofs.disjoin_text.Goals as goal
 pub slice_bounds-masks-end : goal.slice_bounds-masks-end
 slice_bounds-masks-end c =
     let a = c.args in
-    let h = reader-count a.input.now _ _ c.first_bytes-text.ensures c.read_text-reading.ensures.answer _ c.in-Accepted.is in
+    let h = reader-count a.input.now _ _ c.first_bytes-text.ensures c.read_text-reading.ensures.answer _ c.in-Ok.is in
     omega arith
 
 pub slice_bounds-disjoin_list-end : goal.slice_bounds-disjoin_list-end
 slice_bounds-disjoin_list-end c =
     let a = c.args in
-    let h = reader-count a.input.now _ _ c.first_bytes-text.ensures c.read_text-reading.ensures.answer _ c.in-Accepted.is in
+    let h = reader-count a.input.now _ _ c.first_bytes-text.ensures c.read_text-reading.ensures.answer _ c.in-Ok.is in
     simp length-take (omega arith)
 
 pub slice_bounds-values-end : goal.slice_bounds-values-end
 slice_bounds-values-end c =
     let a = c.args in
-    let h = reader-count a.input.now _ _ c.first_bytes-text.ensures c.read_text-reading.ensures.answer _ c.in-Accepted.is in
+    let h = reader-count a.input.now _ _ c.first_bytes-text.ensures c.read_text-reading.ensures.answer _ c.in-Ok.is in
     omega arith
 
-pub slice_bounds-disjoin_list-end-in-Accepted : goal.slice_bounds-disjoin_list-end-in-Accepted
-slice_bounds-disjoin_list-end-in-Accepted c =
+pub slice_bounds-disjoin_list-end-in-Ok : goal.slice_bounds-disjoin_list-end-in-Ok
+slice_bounds-disjoin_list-end-in-Ok c =
     let a = c.args in
-    let h = reader-count a.input.now _ _ c.first_bytes-text.ensures c.read_text-reading.ensures.answer _ c.in-Accepted.is in
+    let h = reader-count a.input.now _ _ c.first_bytes-text.ensures c.read_text-reading.ensures.answer _ c.in-Ok.is in
     simp length-take (omega arith)
 
 pub slice_bounds-words-end : goal.slice_bounds-words-end
 slice_bounds-words-end c =
     let a = c.args in
-    let h = reader-count a.input.now _ _ c.first_bytes-text.ensures c.read_text-reading.ensures.answer _ c.in-Accepted.is in
+    let h = reader-count a.input.now _ _ c.first_bytes-text.ensures c.read_text-reading.ensures.answer _ c.in-Ok.is in
     omega arith
 
-pub slice_bounds-disjoin_list-end-in-Accepted-2 : goal.slice_bounds-disjoin_list-end-in-Accepted-2
-slice_bounds-disjoin_list-end-in-Accepted-2 c =
+pub slice_bounds-disjoin_list-end-in-Ok-2 : goal.slice_bounds-disjoin_list-end-in-Ok-2
+slice_bounds-disjoin_list-end-in-Ok-2 c =
     let a = c.args in
-    let h = reader-count a.input.now _ _ c.first_bytes-text.ensures c.read_text-reading.ensures.answer _ c.in-Accepted.is in
+    let h = reader-count a.input.now _ _ c.first_bytes-text.ensures c.read_text-reading.ensures.answer _ c.in-Ok.is in
     simp length-take (omega arith)
 
-pub returns-in-Refused : goal.returns-in-Refused
-returns-in-Refused c =
+pub returns-in-Err : goal.returns-in-Err
+returns-in-Err c =
     let a = c.args in
     let whole = text-refused a.input.now _ _ c.first_bytes-text.ensures c.read_text-reading.ensures.answer _ a.out.now
-    c.in-Refused.is in
+    c.in-Err.is in
     record { value = rw c.kind_number.ensures whole.0; out_after = whole.1 }
 
-pub returns-in-Accepted : goal.returns-in-Accepted
-returns-in-Accepted c =
+pub returns-in-Ok : goal.returns-in-Ok
+returns-in-Ok c =
     let r = c.read_text-reading.ensures in
     let whole =
-    text-accepted c.args.input.now _ _ c.first_bytes-text.ensures r.answer _ c.in-Accepted.is
+    text-accepted c.args.input.now _ _ c.first_bytes-text.ensures r.answer _ c.in-Ok.is
     _ _ _ _ _ _ r.rows.masks r.rows.values r.rows.words
     c.args.out.now _ _ (c.disjoin_list.ensures.result_value, c.disjoin_list.ensures.out_after) in
     record { value = whole.0; out_after = whole.1 }

@@ -8,8 +8,8 @@ use Rattle.disjoining.proofs.disjoin_rows.Goals as goal
 pub returns-then-v-ne0 : goal.returns-then-v-ne0
 returns-then-v-ne0 c =
     let a = c.args in
-    refused-early a.n a.k _ (rows_of a.masks.now a.values.now a.words.now) a.disjoint_masks.now a.disjoint_values.now a.disjoint_words.now
-    c.least_room-room.ensures _ c.disjoin_checked-v.ensures c.if-v-ne0.true
+    rw c.from.ensures (refused-early a.n a.k _ (rows_of a.masks.now a.values.now a.words.now) a.disjoint_masks.now a.disjoint_values.now a.disjoint_words.now
+    c.least_room-room.ensures _ c.disjoin_checked-v.ensures c.if-v-ne0.true)
 
 pub put_disjoint-count-requires : goal.put_disjoint-count-requires
 put_disjoint-count-requires c =

@@ -1,10 +1,9 @@
-use mathlib.Core.Path.{◌≡◌, refl, sym, ap, ◌∙◌}
+use mathlib.Core.Path.{◌≡◌, sym, ap, ◌∙◌}
 use Prim.Native.Nat.{ℕ, suc, ◌<◌, ◌-◌}
 use native.Mathlib.Omega.{arith}
 use borrow.Author.Tests.{eq-eqb, ne_eqb}
 use Rattle.bits.specs.Digits.{bit}
 use Rattle.block.specs.Rows.{highest}
-use borrow.Author.Rules.{rules}
 use Rattle.exchanges.proofs.highest_bit.Goals as goal
 
 -- the position below m is the highest where it has a one, and else it does not count
@@ -20,18 +19,14 @@ down-no m y h n =
     let d : m ≡ suc (m - 1) = omega arith in
     ap (λ (k : ℕ). highest k y) d ∙ rw (ne_eqb (bit y (m - 1)) 1 n)
 
-pub loop-m-init : goal.loop-m-init
-loop-m-init c = (search rules, refl)
-
 pub returns-then-bit_of-eq1 : goal.returns-then-bit_of-eq1
-returns-then-bit_of-eq1 c = down-yes _ _ (omega arith) (sym c.bit_of.ensures ∙ c.if-bit_of-eq1.true) ∙ c.loop-m.invariant.1
+returns-then-bit_of-eq1 c = down-yes _ _ (omega arith) (sym c.bit_of.ensures ∙ c.if-bit_of-eq1.true) ∙ c.loop-m.invariant
 
 pub loop-m-preserved : goal.loop-m-preserved
-loop-m-preserved c =
-    (search rules, sym (down-no _ _ (omega arith) (λ e. c.if-bit_of-eq1.false (c.bit_of.ensures ∙ e))) ∙ c.loop-m.invariant.1)
+loop-m-preserved c = sym (down-no _ _ (omega arith) (λ e. c.if-bit_of-eq1.false (c.bit_of.ensures ∙ e))) ∙ c.loop-m.invariant
 
 pub returns : goal.returns
 unfolding highest
 returns c =
     let end : c.loop-m.m ≡ 0 = omega arith in
-    sym (ap (λ (m : ℕ). highest m c.args.y) end) ∙ c.loop-m.invariant.1
+    sym (ap (λ (m : ℕ). highest m c.args.y) end) ∙ c.loop-m.invariant

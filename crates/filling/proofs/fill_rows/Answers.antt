@@ -10,16 +10,9 @@ use Rattle.filling.proofs.fill_rows.Goals as goal
 
 pub loop-i-init : goal.loop-i-init
 loop-i-init c =
-    let l = c.requires.n_le_table_inputs.2 in (
-      search rules,
-      search rules,
-      search rules,
-      table_none _ _ _ _ (length c.args.masks.now) _ _ c.size.ensures (sym (rows-count c.args.masks.now c.args.values.now c.args.words.now l.values-too l.words-too))
-          c.clear.ensures,
-    )
-
-pub overflow_cast-words : goal.overflow_cast-words
-overflow_cast-words c = omega (arith, c.requires.missing_bound.1 (c.loop-i.i - 1) (omega arith))
+    let l = c.requires.n_le_table_inputs.2 in
+    table_none _ _ _ _ (length c.args.masks.now) _ _ c.size.ensures (sym (rows-count c.args.masks.now c.args.values.now c.args.words.now l.values-too l.words-too))
+    c.clear.ensures
 
 pub put_row-requires : goal.put_row-requires
 put_row-requires c =
@@ -27,13 +20,9 @@ put_row-requires c =
 
 pub loop-i-preserved : goal.loop-i-preserved
 loop-i-preserved c =
-    let l = c.loop-i in (
-      search rules,
-      search rules,
-      search rules,
-      table-row c.args.n smaller_rows c.args.masks.now c.args.values.now c.args.words.now c.requires.n_le_table_inputs.2 (l.i - 1) (omega arith)
-          c.args.missing l.i _ _ _ (omega arith) l.invariant.1 l.invariant.3 c.put_row.ensures,
-    )
+    let l = c.loop-i in
+    table-row c.args.n smaller_rows c.args.masks.now c.args.values.now c.args.words.now c.requires.n_le_table_inputs.2 (l.i - 1) (omega arith)
+    c.args.missing l.i _ _ _ (omega arith) (search rules) l.invariant c.put_row.ensures
 
 pub returns : goal.returns
-returns c = table-all _ _ _ _ c.loop-i.i _ _ _ c.size.ensures (omega arith) c.clear.ensures c.loop-i.invariant.3
+returns c = table-all _ _ _ _ c.loop-i.i _ _ _ c.size.ensures (omega arith) c.clear.ensures c.loop-i.invariant

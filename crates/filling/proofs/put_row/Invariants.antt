@@ -1,7 +1,7 @@
 -- `filling::put_row` meets its contract. The loop's invariant: the word stands at the points of the parts above `part`, which is itself a
 -- part of the free inputs. The measure is the part. Assumes nothing.
 use mathlib.Core.Path.{◌≡◌}
-use Prim.Native.Nat.{◌+◌, ◌-◌}
+use Prim.Native.Nat.{◌+◌}
 use lib.Bits.{bit_and}
 use Rattle.block.specs.Words.{row}
 use Rattle.filling.specs.Points.{free_of, PartsPut}

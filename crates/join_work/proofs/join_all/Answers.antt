@@ -1,8 +1,7 @@
 use mathlib.Core.Path.{refl}
-use Prim.Native.Nat.{◌-◌}
 use native.Mathlib.Omega.{arith}
 use borrow.Author.Rules.{rules}
-use Rattle.join_work.specs.All.{so-far-none, in_place, pair-in-place, less-left, so_far_more, so-far-next, all-joined}
+use Rattle.join_work.specs.All.{so-far-none, in_place, pair-in-place, so_far_more, so-far-next, all-joined}
 use Rattle.join_work.proofs.join_all.Goals as goal
 
 pub loop-count-init : goal.loop-count-init
@@ -21,23 +20,6 @@ join_pair-requires c =
     let few = l.invariant.3.few in
     let o = pair-in-place _ _ _ _ _ _ _ _ _ l.invariant.3 _ c.find_nearest-q.ensures c.if-q-count.true _ _ c.in_order-pair.ensures in
     (o.0, o.1, omega (arith, few), omega (arith, few), omega (arith, few))
-
-pub overflow_sub-count : goal.overflow_sub-count
-overflow_sub-count c =
-    let l = c.loop-count in
-    let o = pair-in-place _ _ _ _ _ _ _ _ _ l.invariant.3 _ c.find_nearest-q.ensures c.if-q-count.true _ _ c.in_order-pair.ensures in
-    omega (arith, o.1)
-
-pub still_seen-seen-requires : goal.still_seen-seen-requires
-still_seen-seen-requires c =
-    let l = c.loop-count in
-    let p = in_place _ _ _ _ _ _ _ _ _ l.invariant.3 _ c.find_nearest-q.ensures in
-    omega (arith, p.0)
-
-pub loop-count-smaller-then-q-count : goal.loop-count-smaller-then-q-count
-loop-count-smaller-then-q-count c =
-    let l = c.loop-count in
-    less-left _ _ _ _ _ _ _ _ _ l.invariant.3 _ c.find_nearest-q.ensures c.if-q-count.true _ _ c.in_order-pair.ensures _ c.still_seen-seen.ensures
 
 pub loop-count-preserved-then-q-count : goal.loop-count-preserved-then-q-count
 loop-count-preserved-then-q-count c =

@@ -19,7 +19,7 @@ returns-then-v-ne0 c =
     let e = c.join_verdict-v.ensures in
     let no = c.if-v-ne0.true in
     record {
-      answer = count-refused a.n a.k rs _ e no;
+      answer = c.from.ensures ∙ count-refused a.n a.k rs _ e no;
       rows =
           record {
             masks = kept _ _ (map mask_part (joined_room rs)) a.masks.now e no;
@@ -47,8 +47,8 @@ returns c =
     let s = stored-all _ a.masks.now a.values.now a.words.now _ _ _ l.values-too l.words-too j in
     record {
       answer =
-          count-answered a.n a.k rs _ _ e yes
-          (joined-count _ a.masks.now a.values.now a.words.now _ _ _ l.values-too l.words-too j);
+          rw c.from-2.ensures (count-answered a.n a.k rs _ _ e yes
+          (joined-count _ a.masks.now a.values.now a.words.now _ _ _ l.values-too l.words-too j));
       rows =
           record {
             masks = s.masks ∙ given _ _ (map mask_part (joined_room rs)) a.masks.now e yes;

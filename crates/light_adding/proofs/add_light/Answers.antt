@@ -3,7 +3,6 @@
 use Prim.Native.Nat.{◌^◌, ◌≤◌, ◌<◌}
 use native.Mathlib.Omega.{arith}
 use lib.Bits.{and_le_r}
-use lib.Count.{ones-le}
 use Rattle.block.specs.Limits.{list_inputs}
 use Rattle.light_laws.specs.Free.{frees-length}
 use Rattle.light_adding.specs.Cubes.{raised-light, raised-none, frees-inside}
@@ -14,10 +13,6 @@ use Rattle.light_adding.proofs.add_light.Goals.{Start}
 value-lt : (s : goal.Start) → s.args.value < 2 ^ s.args.n
 value-lt s =
     omega (arith, s.requires.n_le_list_inputs.2, s.requires.n_le_list_inputs.3, and_le_r s.args.value s.args.mask)
-
-pub overflow_cast-ones : goal.overflow_cast-ones
-overflow_cast-ones c =
-    omega (arith, c.requires.n_le_list_inputs.0, ones-le c.args.n c.args.value (value-lt (goal.at.overflow_cast-ones c).Start))
 
 pub returns-then-w-ones : goal.returns-then-w-ones
 returns-then-w-ones c =

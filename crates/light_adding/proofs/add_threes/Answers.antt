@@ -1,30 +1,24 @@
-use Prim.Native.Nat.{◌+◌, ◌*◌, ◌^◌, ◌-◌}
+use Prim.Native.Nat.{◌+◌, ◌*◌, ◌^◌}
 use native.Mathlib.Omega.{arith}
 use Rattle.light_laws.specs.Ways.{ways}
 use Rattle.light_laws.specs.Counted.{ways-three-le}
-use Rattle.light_adding.specs.Raised.{Raised, Below, most_weight, raised-room, raised-whole, since_none, since-more}
-use borrow.Author.Rules.{rules}
+use Rattle.light_adding.specs.Raised.{Raised, Below, most_weight, raised-room, since_none, since-more}
 use Rattle.light_adding.proofs.add_threes.Goals as goal
 use Rattle.light_adding.proofs.add_threes.Goals.{At-loop-k}
 
 -- what the array was raised by
 raised : (c : goal.At-loop-k) → Raised c.args.weight (ways 3 c.args.ps.now c.loop-k.k c.args.b) c.args.acc.now c.loop-k.acc
 raised c =
-    c.loop-k.invariant.2 _ c.add_here.ensures
+    c.loop-k.invariant _ c.add_here.ensures
 
 -- how high its entries are
 room : (c : goal.At-loop-k) → Below (2 ^ 28 + most_weight * 697) c.loop-k.acc
 room c =
     raised-room _ 697 (2 ^ 28) _ _ _ (raised c) c.requires.b_in_bounds.1
-    (λ t. ways-three-le _ c.loop-k.k _ t (omega (arith, c.loop-k.invariant.0, c.requires.b_in_bounds.2))) c.requires.inside.1
-
-pub add_here-requires : goal.add_here-requires
-add_here-requires c =
-    let p = c.requires in
-    (p.b_in_bounds.0, p.b_in_bounds.1, λ t h. omega (arith, p.inside.1 t h))
+    (λ t. ways-three-le _ c.loop-k.k _ t (omega (arith, c.requires.b_in_bounds.2))) c.requires.inside.1
 
 pub loop-k-init : goal.loop-k-init
-loop-k-init c = (search rules, search rules, since_none _ 3 _ _ _)
+loop-k-init c = since_none _ 3 _ _ _
 
 pub add_twos-requires : goal.add_twos-requires
 add_twos-requires c =
@@ -37,13 +31,10 @@ add_twos-requires c =
         omega arith,
       );
       inside = (
-        λ x k h l. omega (arith, long, p.inside.0 x k (omega (arith, long)) (omega (arith, c.loop-k.invariant.0))),
+        λ x k h l. omega (arith, long, p.inside.0 x k (omega (arith, long)) (omega arith)),
         λ t h. omega (arith, room (goal.at.add_twos-requires c).At-loop-k t h),
       );
     }
 
 pub loop-k-preserved : goal.loop-k-preserved
-loop-k-preserved c = (search rules, search rules, since-more _ 2 _ _ _ _ _ _ c.loop-k.invariant.2 c.add_twos.ensures)
-
-pub returns : goal.returns
-returns c = raised-whole _ 3 _ _ _ _ _ _ (omega arith) (raised (goal.at.returns c).At-loop-k)
+loop-k-preserved c = since-more _ 2 _ _ _ _ _ _ c.loop-k.invariant c.add_twos.ensures

@@ -1,13 +1,9 @@
 -- `light_shifts::add_pair` meets its contract: the parts that it hands on are those of the pair's cube. Assumes nothing.
-use mathlib.Core.Path.{ap, ◌∙◌}
-use Prim.Native.Nat.{ℕ, ◌+◌, ◌^◌}
 use native.Mathlib.Omega.{arith}
 use lib.Bits.{bit_and, bit_xor, bit_or, and_le_l}
 use lib.Count.{ones}
 use lib.Dec.{eqb}
-use Rattle.slices.specs.Places.{at, tab}
-use Rattle.pair_laws.specs.Symmetric.{cube, hit}
-use Rattle.light_laws.specs.Ways.{lit}
+use Rattle.slices.specs.Places.{at}
 use Rattle.light_shifts.specs.Adding.{part-again, weight-most}
 use Rattle.light_shifts.proofs.add_pair.Goals as goal
 
@@ -26,14 +22,3 @@ add_light-requires c =
       );
       acc_len = p.acc_len;
     }
-
-pub returns : goal.returns
-returns c =
-    let a = c.args in
-    let mask = bit_and (at a.masks.now a.i) (at a.masks.now a.j) in
-    c.add_light.ensures
-    ∙ ap
-    (λ (x : ℕ).
-    tab (2 ^ a.n)
-    (λ t. at a.acc.now t + lit a.w t (hit t (cube mask (bit_and mask (bit_xor (at a.values.now a.i) (at a.values.now a.j))) x))))
-    c.weight_of-weight.ensures

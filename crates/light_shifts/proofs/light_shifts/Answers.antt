@@ -1,6 +1,6 @@
 -- `light_shifts::light_shifts` meets its contract: the array is one of zeros, with a place for each number, and the word that goes on gives
 -- the same R. Assumes nothing.
-use mathlib.Core.Path.{sym, ap, ◌∙◌}
+use mathlib.Core.Path.{ap, ◌∙◌}
 use mathlib.Core.List.{List}
 use Prim.Native.Nat.{ℕ, ◌≤◌}
 use native.Mathlib.Omega.{arith}
@@ -16,13 +16,6 @@ use Rattle.light_shifts.proofs.light_shifts.Goals.{After-size-size}
 fits : (c : goal.After-size-size) → c.size-size.result ≤ 65536
 fits c =
     omega (arith, c.size-size.ensures, pow_mono {j = list_inputs} c.requires.n_le_list_inputs.0)
-
-pub slice_bounds-acc-end : goal.slice_bounds-acc-end
-slice_bounds-acc-end c = fits (goal.at.slice_bounds-acc-end c).After-size-size
-
-pub slice_bounds-shifts_in-end : goal.slice_bounds-shifts_in-end
-slice_bounds-shifts_in-end c =
-    sym (zeros-length c.size-size.result 65536 (fits (goal.at.slice_bounds-shifts_in-end c).After-size-size))
 
 pub shifts_in-requires : goal.shifts_in-requires
 shifts_in-requires c = record {

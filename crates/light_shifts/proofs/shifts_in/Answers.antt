@@ -44,14 +44,6 @@ sums c i h =
     c.requires.disjoint once list_inputs c.requires.n_le_list_inputs.0 _ c.add_pairs.ensures (at a.ts.now i) (c.requires.places_in_bounds.2 i h) (c.requires.by_index i h)
     c.missing_counts-more.ensures _ _ c.points_of-points.ensures c.taken_of-less.ensures
 
-pub add_pairs-requires : goal.add_pairs-requires
-add_pairs-requires c =
-    record {
-      n_le_list_inputs = (c.requires.n_le_list_inputs.0, c.requires.n_le_list_inputs.1, once (goal.at.add_pairs-requires c).After-taken_of-less, c.requires.n_le_list_inputs.2);
-      disjoint = c.requires.disjoint;
-      acc_len = c.requires.acc_len;
-    }
-
 pub put_at-requires : goal.put_at-requires
 put_at-requires c =
     let a = c.args in

@@ -11,7 +11,7 @@ use Rattle.lists.proofs.row_value.Goals as goal
 
 pub returns-then-v-ne0 : goal.returns-then-v-ne0
 unfolding row_value
-returns-then-v-ne0 c = record { answer = rw (← c.row_value_verdict-v.ensures, ne_eqb _ _ c.if-v-ne0.true) }
+returns-then-v-ne0 c = record { answer = rw (c.from.ensures, ← c.row_value_verdict-v.ensures, ne_eqb _ _ c.if-v-ne0.true) }
 
 pub overflow_cast-t : goal.overflow_cast-t
 overflow_cast-t c =
@@ -35,6 +35,7 @@ unfolding row_value
 returns c =
     record {
       answer = rw (
+        c.from-2.ensures,
         ← c.row_value_verdict-v.ensures,
         eq-eqb _ _ c.if-v-ne0.false,
         c.shift_of_rows-value.ensures,

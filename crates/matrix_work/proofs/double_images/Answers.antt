@@ -1,8 +1,8 @@
 use mathlib.Core.Path.{◌≡◌, refl}
-use Prim.Native.Nat.{suc, ◌+◌, ◌≤◌, ◌-◌, ◌^◌}
+use Prim.Native.Nat.{suc, ◌+◌, ◌≤◌, ◌^◌}
 use native.Mathlib.Omega.{arith}
 use lib.Pow.{pow_mono}
-use Rattle.matrix_laws.specs.Images.{images-more, images-doubled}
+use Rattle.matrix_laws.specs.Images.{images-more}
 use borrow.Author.Rules.{rules}
 use Rattle.matrix_work.proofs.double_images.Goals as goal
 
@@ -11,17 +11,11 @@ loop-z-init c =
     let e = c.size-size.ensures in
     let none : 2 ^ c.args.i + 0 ≡ 2 ^ c.args.i = omega arith in
     let twice : 2 ^ suc c.args.i ≤ 2 ^ c.args.n = pow_mono (omega arith) in
-    (search rules, e, omega arith, search rules, rw none c.requires.images)
+    (omega arith, rw none c.requires.images)
 
 pub loop-z-preserved : goal.loop-z-preserved
 loop-z-preserved c =
     let i = c.loop-z.invariant in (
       search rules,
-      search rules,
-      search rules,
-      search rules,
-      rw i.1 (images-more _ _ c.args.i _ _ _ (omega arith) (omega arith) i.4 (omega arith) refl),
+      rw c.size-size.ensures (images-more _ _ c.args.i _ _ _ (omega arith) (omega arith) i.1 (omega arith) refl),
     )
-
-pub returns : goal.returns
-returns c = images-doubled _ _ _ c.loop-z.z _ (omega arith) c.loop-z.invariant.4

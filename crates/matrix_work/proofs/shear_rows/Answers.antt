@@ -1,14 +1,12 @@
-use mathlib.Core.Path.{◌≡◌, ap, ap₂, ◌∙◌}
+use mathlib.Core.Path.{◌≡◌, refl, ap, ap₂, ◌∙◌}
 use mathlib.Core.List.{List}
-use Prim.Native.Nat.{ℕ, ◌-◌, ◌*◌}
+use Prim.Native.Nat.{ℕ, ◌*◌}
 use native.Mathlib.Omega.{arith}
 use lib.Bits.{bit_xor}
 use Rattle.bits.specs.Digits.{bit}
-use Rattle.bits.specs.Bit.{bit-lt}
 use Rattle.slices.specs.Places.{at, tab, over}
 use Rattle.slices.specs.Filled.{over_none, over-more, over-beyond}
 use Rattle.matrix_laws.specs.Reach.{shear_rows}
-use borrow.Author.Rules.{rules}
 use Rattle.matrix_work.proofs.shear_rows.Goals as goal
 
 -- a turn's value: row j is still as it was
@@ -19,22 +17,10 @@ turn l s k v j r d e f g =
     ap₂ bit_xor (ap (λ t. at t j) e ∙ over-beyond j (shear_rows k v (at l)) l 0 j (omega arith)) (ap₂ ◌*◌ f g)
 
 pub loop-j-init : goal.loop-j-init
-loop-j-init c = (search rules, search rules, search rules, over_none _ _)
-
-pub xor_where-requires : goal.xor_where-requires
-xor_where-requires c = rw c.bit_of.ensures (bit-lt _ _)
+loop-j-init c = over_none _ _
 
 pub loop-j-preserved : goal.loop-j-preserved
 loop-j-preserved c =
-    let i = c.loop-j.invariant in (
-      search rules,
-      search rules,
-      search rules,
-      over-more _ (shear_rows c.args.k c.args.v (at c.args.s.now)) _ _ _ i.3
-          (c.xor_where.ensures ∙ turn c.args.s.now _ c.args.k c.args.v c.loop-j.j _ _ i.3 i.2 c.bit_of.ensures) (omega arith),
-    )
-
-pub returns : goal.returns
-returns c =
-    let end : c.loop-j.j ≡ c.args.n = omega arith in
-    rw end at c.loop-j.invariant.3
+    let i = c.loop-j.invariant in
+    over-more _ (shear_rows c.args.k c.args.v (at c.args.s.now)) _ _ _ i
+    (c.xor_where.ensures ∙ turn c.args.s.now _ c.args.k c.args.v c.loop-j.j _ _ i refl c.bit_of.ensures) (omega arith)

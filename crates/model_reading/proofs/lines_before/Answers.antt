@@ -1,46 +1,26 @@
-use mathlib.Core.Path.{◌≡◌, sym, ap, ap₂, ◌∙◌}
-use Prim.Native.Nat.{ℕ, ◌+◌, ◌-◌}
-use native.Mathlib.Omega.{arith}
-use lib.ListN.{length, take}
+-- `model_reading::lines_before` meets its contract: as many lines end as bytes are LF. Assumes nothing.
+use Rattle.std.proofs.Common.{◌≡◌, refl, Bool, true, false, cond, List, ℕ, ◌+◌, eqb, take, arith}
+use Rattle.std.specs.List.{count_by}
+use Rattle.std.proofs.lemmas.Grind.{common_steps}
+use borrow.Author.Rules.{rules}
+use Rattle.std.proofs.lemmas.List.Recursion.{is_count_by}
+use Rattle.sums.specs.Sums.{one}
 use Rattle.read_names.specs.Fate.{ends}
-use Rattle.model_reading.specs.Reading.{ends-none, ends_more, ends-all}
 use Rattle.model_reading.proofs.lines_before.Goals as goal
 
-pub loop-i-init : goal.loop-i-init
-loop-i-init c = (omega arith, omega arith, sym (ends-none c.args.text.now), omega arith)
+-- the lines that end are counted by their last bytes
+line_count : (l : List ℕ) → ends l ≡ count_by (λ b. eqb b 10) l
+unfolding ends
+line_count = is_count_by ends (λ b. eqb b 10) refl (λ b l. go (eqb b 10) (ends l))
+  where
+    go : (q : Bool) (n : ℕ) → one q + n ≡ cond q (1 + n) n
+    go true n = refl
+    go false n = omega arith
 
-pub returns-then-at-i : goal.returns-then-at-i
-returns-then-at-i c =
-    let l = c.loop-i in
+pub returns-clause-value : goal.returns-clause-value
+returns-clause-value c =
     let a = c.args in
-    let e : l.i ≡ a.at = omega arith in
-    record {
-      value = l.invariant.2 ∙ ap (λ (j : ℕ). ends (take j a.text.now)) e;
-      upper_bound = omega arith;
-    }
-
-pub bounds-text-i : goal.bounds-text-i
-bounds-text-i c = omega arith
-
-pub overflow_add-count : goal.overflow_add-count
-overflow_add-count c = omega arith
-
-pub loop-i-preserved : goal.loop-i-preserved
-loop-i-preserved c =
-    let l = c.loop-i in
-    let a = c.args in (
-      omega arith,
-      omega arith,
-      ap₂ (λ (x y : ℕ). x + y) l.invariant.2 c.line_end-count.ensures.value ∙ sym (ends_more a.text.now l.i (omega arith)),
-      omega arith,
-    )
-
-pub returns : goal.returns
-returns c =
-    let l = c.loop-i in
-    let a = c.args in
-    let e : l.i ≡ length a.text.now = omega arith in
-    record {
-      value = l.invariant.2 ∙ ends-all a.text.now l.i a.at e l.invariant.1;
-      upper_bound = omega arith;
-    }
+    let m = c.min.ensures in
+    let s : take c.min.result a.text.now ≡ take a.at a.text.now = grind (arith, common_steps) in
+    let e : c.count.result ≡ count_by (λ b. eqb b 10) (take c.min.result a.text.now) = search rules in
+    rw (line_count (take a.at a.text.now), ← s) e

@@ -21,7 +21,7 @@ returns-then-v-ne0 c =
     let m = a.masks.now in
     let v = a.values.now in
     let e : c.model_answer-v.result ≡ read_model t (length s) (length n) (min (length m) (length v)) =
-    c.model_answer-v.ensures ∙ ap (read_model t (length s) (length n)) c.lesser-room.ensures in
+    c.model_answer-v.ensures ∙ ap (read_model t (length s) (length n)) c.min-room.ensures in
     let u = read_model_verdict t (length s) (length n) (min (length m) (length v)) in
     let d : u.number ≡ 0 → ⊥ = λ z. c.if-v-ne0.true (ap (λ (x : ModelAnswer). x.number) e ∙ z) in
     record {
@@ -42,7 +42,7 @@ returns c =
     let m = a.masks.now in
     let v = a.values.now in
     let e : c.model_answer-v.result ≡ read_model t (length s) (length n) (min (length m) (length v)) =
-    c.model_answer-v.ensures ∙ ap (read_model t (length s) (length n)) c.lesser-room.ensures in
+    c.model_answer-v.ensures ∙ ap (read_model t (length s) (length n)) c.min-room.ensures in
     let u = read_model_verdict t (length s) (length n) (min (length m) (length v)) in
     let d : u.number ≡ 0 = sym (ap (λ (x : ModelAnswer). x.number) e) ∙ c.if-v-ne0.false in
     let h = all-stored t s n m v _ _ _ _ c.read_model.result c.read_model.ensures d in

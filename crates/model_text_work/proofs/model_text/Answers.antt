@@ -9,22 +9,22 @@ use Rattle.model_text_work.proofs.model_text.Goals as goal
 pub model_rows-requires : goal.model_rows-requires
 model_rows-requires c =
     let a = c.args in
-    let h = reader-count a.input.now _ _ c.first_bytes-text.ensures c.read_text-reading.ensures.answer _ c.in-Accepted.is in
+    let h = reader-count a.input.now _ _ c.first_bytes-text.ensures c.read_text-reading.ensures.answer _ c.in-Ok.is in
     omega arith
 
-pub returns-in-Refused : goal.returns-in-Refused
-returns-in-Refused c =
+pub returns-in-Err : goal.returns-in-Err
+returns-in-Err c =
     let a = c.args in
     let whole = text-refused a.input.now _ _ c.first_bytes-text.ensures c.read_text-reading.ensures.answer _ a.out.now
-    c.in-Refused.is in
+    c.in-Err.is in
     record { value = rw c.kind_number.ensures whole.0; out_after = whole.1 }
 
-pub returns-in-Accepted : goal.returns-in-Accepted
-returns-in-Accepted c =
+pub returns-in-Ok : goal.returns-in-Ok
+returns-in-Ok c =
     let r = c.read_text-reading.ensures in
     let e = c.model_rows.ensures in
     let whole =
-    text-accepted c.args.input.now _ _ c.first_bytes-text.ensures r.answer _ c.in-Accepted.is
+    text-accepted c.args.input.now _ _ c.first_bytes-text.ensures r.answer _ c.in-Ok.is
     _ _ _ _ _ _ r.rows.masks r.rows.values r.rows.words
     c.args.out.now _ _ c.requires e.result_value e.out_after in
     record { value = whole.0; out_after = whole.1 }

@@ -1,12 +1,7 @@
--- `model_values::first_bad_pattern` meets its contract. The loop's invariant: no pattern passed is malformed. The measure is what is left.
--- Assumes nothing.
-use Prim.Native.Nat.{◌-◌}
+-- `model_values::first_bad_pattern` meets its contract. The loop's invariant: no pattern passed is malformed. Assumes nothing.
 use Rattle.table_checks.specs.Search.{Searched}
 use Rattle.model_values.specs.Checks.{bad_at}
 use Rattle.model_values.proofs.first_bad_pattern.Given as goal
 
 abbrev pub invariant-loop-i : goal.invariant-loop-i
 invariant-loop-i l = Searched (bad_at l.n l.masks l.values) l.count l.i
-
-abbrev pub decreases-loop-i : goal.decreases-loop-i
-decreases-loop-i l = l.count - l.i

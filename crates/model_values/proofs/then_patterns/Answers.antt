@@ -1,11 +1,7 @@
 -- `model_values::then_patterns` meets its contract: the earlier refusal, or one check. Assumes nothing.
 use native.Mathlib.Omega.{arith}
-use Rattle.refusal_laws.specs.Verdicts.{then-refused}
 use Rattle.model_values.specs.Checks.{flat-rooms, patterns-asked}
 use Rattle.model_values.proofs.then_patterns.Goals as goal
-
-pub returns-then-v-ne0 : goal.returns-then-v-ne0
-returns-then-v-ne0 c = then-refused _ _ c.if-v-ne0.true
 
 pub first_bad_pattern-i-requires : goal.first_bad_pattern-i-requires
 first_bad_pattern-i-requires c =

@@ -4,24 +4,6 @@ use Rattle.block.specs.ModelRead.{patterns_flat}
 use Rattle.model_values.specs.Checks.{told, whole-inputs, matrix-inputs, checked-verdict}
 use Rattle.model_values.proofs.value_checked.Goals as goal
 
-pub sizes-sizes-requires : goal.sizes-sizes-requires
-sizes-sizes-requires c = tt
-
-pub size_of-size-requires : goal.size_of-size-requires
-size_of-size-requires c = tt
-
-pub then_where-point-requires : goal.then_where-point-requires
-then_where-point-requires c = tt
-
-pub pattern_count-count-requires : goal.pattern_count-count-requires
-pattern_count-count-requires c = tt
-
-pub is_unfit-unfit-requires : goal.is_unfit-unfit-requires
-is_unfit-unfit-requires c = tt
-
-pub then_where-whole-requires : goal.then_where-whole-requires
-then_where-whole-requires c = tt
-
 pub then_matrix-matrix-requires : goal.then_matrix-matrix-requires
 then_matrix-matrix-requires c =
     let a = c.args in

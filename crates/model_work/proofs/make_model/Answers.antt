@@ -7,44 +7,33 @@ use Rattle.model_work.proofs.make_model.Goals as goal
 
 pub returns-then-r-ne0 : goal.returns-then-r-ne0
 returns-then-r-ne0 c =
-    let a = c.args in
-    let whole =
-    model-refused a.out.now c.method_rows-r.ensures c.if-r-ne0.true in
+    let whole = model-refused c.args.out.now c.method_rows-r.ensures c.if-r-ne0.true in
     record { result_value = whole.0; out_after = whole.1 }
 
 pub slice_bounds-sigma-end : goal.slice_bounds-sigma-end
 slice_bounds-sigma-end c =
-    let a = c.args in
-    omega (arith, model-inputs a.out.now c.method_rows-r.ensures c.if-r-ne0.false)
+    omega (arith, model-inputs c.args.out.now c.method_rows-r.ensures c.if-r-ne0.false)
 
 pub slice_bounds-put_model-end : goal.slice_bounds-put_model-end
 slice_bounds-put_model-end c =
-    let a = c.args in
-    simp length-take (omega (arith, model-inputs a.out.now c.method_rows-r.ensures c.if-r-ne0.false))
+    simp length-take (omega (arith, model-inputs c.args.out.now c.method_rows-r.ensures c.if-r-ne0.false))
 
-pub put_model-count-requires : goal.put_model-count-requires
-put_model-count-requires c =
-    let a = c.args in
+pub put_model-count-requires-clause-n_bound : goal.put_model-count-requires-clause-n_bound
+put_model-count-requires-clause-n_bound c =
     let g = c.method_rows-r.ensures in
     let h = c.if-r-ne0.false in
-    let ready = model-ready a.out.now g h (omega (arith, model-inputs a.out.now g h)) in
-    record {
-      n_bound = ready;
-      p_in_bounds = (omega (arith, ready.2), omega (arith, ready.2), omega (arith, ready.2));
-    }
+    model-ready c.args.out.now g h (omega (arith, model-inputs c.args.out.now g h))
 
 pub returns-then-room-count : goal.returns-then-room-count
 returns-then-room-count c =
-    let a = c.args in
     let p = c.put_model-count.ensures in
     let whole =
-    model-short a.out.now c.method_rows-r.ensures c.if-r-ne0.false _ _ p.result_value p.out_after (omega arith) in
+    model-short c.args.out.now c.method_rows-r.ensures c.if-r-ne0.false _ _ p.result_value p.out_after (omega arith) in
     record { result_value = whole.0; out_after = whole.1 }
 
 pub returns : goal.returns
 returns c =
-    let a = c.args in
     let p = c.put_model-count.ensures in
     let whole =
-    model-written a.out.now c.method_rows-r.ensures c.if-r-ne0.false _ _ p.result_value p.out_after (omega arith) in
+    model-written c.args.out.now c.method_rows-r.ensures c.if-r-ne0.false _ _ p.result_value p.out_after (omega arith) in
     record { result_value = whole.0; out_after = whole.1 }

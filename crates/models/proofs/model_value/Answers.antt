@@ -1,5 +1,6 @@
 -- `models::model_value` meets its contract: the checks before 8, then 8, and on 0 the word by the patterns that drive each output.
 -- Assumes nothing.
+use mathlib.Core.Path.{◌∙◌}
 use Prim.Native.Nat.{ℕ, ◌^◌, ◌≤◌, ◌<◌}
 use native.Mathlib.Omega.{arith}
 use lib.Pow.{pow_mono}
@@ -16,7 +17,7 @@ pub returns-then-v-ne0 : goal.returns-then-v-ne0
 returns-then-v-ne0 c =
     let a = c.args in
     record {
-      answer = value-refused-early a.n a.k a.x a.matrix.now a.counts.now (patterns_flat a.masks.now a.values.now) _
+      answer = c.from.ensures ∙ value-refused-early a.n a.k a.x a.matrix.now a.counts.now (patterns_flat a.masks.now a.values.now) _
           c.value_checked-v.ensures c.if-v-ne0.true;
     }
 

@@ -3,11 +3,5 @@ use native.Mathlib.Omega.{arith}
 use lib.Count.{ones-le}
 use Rattle.pair_weights.proofs.row_points.Goals as goal
 
-pub overflow_cast-mask : goal.overflow_cast-mask
-overflow_cast-mask c = omega (arith, ones-le c.args.n c.args.mask c.requires.1)
-
 pub overflow_sub-n : goal.overflow_sub-n
 overflow_sub-n c = omega (arith, ones-le c.args.n c.args.mask c.requires.1)
-
-pub returns : goal.returns
-returns c = c.power.ensures

@@ -1,6 +1,5 @@
 -- `pair_weights::weight_of` meets its contract: the two fix at most n inputs, so the power is one of 0 to n. Assumes nothing.
 use Prim.Native.Nat.{◌≤◌, ◌-◌, ◌*◌, ◌^◌}
-use native.Mathlib.Nat.{mul-one}
 use native.Mathlib.Omega.{arith}
 use lib.Bits.{bit_or, or_lt}
 use lib.Count.{ones, ones-le}
@@ -14,9 +13,6 @@ few : (c : goal.Start) → ones (bit_or c.args.mask c.args.mask2) ≤ c.args.n
 few c =
     ones-le c.args.n _ (or_lt c.args.n c.args.mask c.args.mask2 c.requires.1 c.requires.2)
 
-pub overflow_cast-mask : goal.overflow_cast-mask
-overflow_cast-mask c = omega (arith, few (goal.at.overflow_cast-mask c).Start)
-
 pub overflow_sub-n : goal.overflow_sub-n
 overflow_sub-n c = omega (arith, few (goal.at.overflow_sub-n c).Start)
 
@@ -25,14 +21,5 @@ small : (c : goal.Start) → 2 ^ (c.args.n - ones (bit_or c.args.mask c.args.mas
 small c =
     weight-small c.args.n (ones (bit_or c.args.mask c.args.mask2)) c.args.times list_inputs c.requires.0 c.requires.3
 
-pub overflow_mul-once : goal.overflow_mul-once
-overflow_mul-once c = rw c.power.ensures (omega (arith, small (goal.at.overflow_mul-once c).Start))
-
-pub returns-then-single : goal.returns-then-single
-returns-then-single c = rw (c.if-single.true, c.power.ensures, mul-one)
-
 pub overflow_mul-result : goal.overflow_mul-result
 overflow_mul-result c = rw c.power.ensures (omega (arith, small (goal.at.overflow_mul-result c).Start))
-
-pub returns : goal.returns
-returns c = rw (c.if-single.false, c.power.ensures) (omega arith)

@@ -1,15 +1,8 @@
--- `put_bytes::put_rows` meets its contract. The loop's invariant: the lines of the first i rows are put. The measure is the number of rows
--- left. Assumes nothing.
-use Prim.Native.Nat.{◌-◌, ◌≤◌}
-use mathlib.Core.Path.{◌≡◌}
-use lib.ListN.{length}
+-- `put_bytes::put_rows` meets its contract. The loop's invariant: the lines of the first i rows are put. Assumes nothing.
 use Rattle.block.specs.Text.{row_lines}
 use Rattle.flat_rows.specs.Listing.{rows_from}
 use Rattle.put_bytes.specs.Puts.{Put}
 use Rattle.put_bytes.proofs.put_rows.Given as goal
 
 abbrev pub invariant-loop-i : goal.invariant-loop-i
-invariant-loop-i l = (l.i ≤ l.p) × (length l.out ≡ length l.initial.out) × Put l.initial.out l.at (row_lines l.n l.k (rows_from l.i l.masks l.values l.words)) l.out l.to
-
-abbrev pub decreases-loop-i : goal.decreases-loop-i
-decreases-loop-i l = l.p - l.i
+invariant-loop-i l = Put l.initial.out l.at (row_lines l.n l.k (rows_from l.i l.masks l.values l.words)) l.out l.to

@@ -1,11 +1,6 @@
 -- `put_names::emit_part` meets its contract: the row's name, an underscore, and the number of the part. Assumes nothing.
 use Rattle.put_names.specs.Fitting.{next}
-use borrow.Author.Rules.{rules}
 use Rattle.put_names.proofs.emit_part.Goals as goal
 
-pub returns : goal.returns
-returns c =
-    record {
-      fitted = next c.emit_name-a.ensures.fitted (next c.emit-b.ensures.fitted c.emit_number.ensures.fitted);
-      upper_bound = search rules;
-    }
+pub returns-clause-fitted : goal.returns-clause-fitted
+returns-clause-fitted c = next c.emit_name-a.ensures.fitted (next c.emit-b.ensures.fitted c.emit_number.ensures.fitted)

@@ -1,6 +1,4 @@
-use Prim.Native.Nat.{ℕ, ◌-◌, ◌*◌}
-use mathlib.Core.Path.{◌≡◌, refl, ap, ◌∙◌}
-use native.Mathlib.Omega.{arith}
+use Rattle.std.proofs.Common.{◌≡◌, ℕ, ◌*◌, refl, ap, ◌∙◌, arith}
 use Rattle.block.specs.Model.{patterns_of}
 use Rattle.flat_rows.specs.Listing.{rows_from}
 use Rattle.put_names.specs.Fitting.{next, none-fitted}
@@ -9,34 +7,22 @@ use Rattle.put_outputs.specs.Outputs.{back_none, back_more}
 use Rattle.put_outputs.proofs.emit_back.Goals as goal
 
 pub loop-j-init : goal.loop-j-init
-loop-j-init c = (omega arith, refl, omega arith, refl, rw back_none (none-fitted _ _))
+loop-j-init c = (refl, omega arith, rw back_none (none-fitted _ _))
 
 pub overflow_mul-power : goal.overflow_mul-power
 overflow_mul-power c = omega (arith, power_le c.loop-j.j (omega arith))
-
-pub overflow_add-j : goal.overflow_add-j
-overflow_add-j c = omega arith
-
-pub loop-j-smaller : goal.loop-j-smaller
-loop-j-smaller c = omega arith
 
 pub loop-j-preserved : goal.loop-j-preserved
 loop-j-preserved c =
     let l = c.loop-j in
     let a = c.args in (
-      omega arith,
-      ap (λ (x : ℕ). x * 2) l.invariant.1 ∙ power-more l.j,
+      ap (λ (x : ℕ). x * 2) l.invariant.0 ∙ power-more l.j,
       omega (arith, c.emit_output-to.ensures.upper_bound),
-      omega (arith, c.emit_output-to.auto.out),
       rw (back_more a.n (λ (i : ℕ). patterns_of i (rows_from a.p a.masks.now a.values.now a.words.now)) l.j)
-          (next l.invariant.4 c.emit_output-to.ensures.fact),
+          (next l.invariant.2 c.emit_output-to.ensures.fact),
     )
 
-pub returns : goal.returns
-returns c =
-    let l = c.loop-j in
-    let e : l.j ≡ c.args.k = omega arith in
-    record {
-      fact = rw e at l.invariant.4;
-      upper_bound = omega arith;
-    }
+pub returns-clause-fact : goal.returns-clause-fact
+returns-clause-fact c =
+    let e : c.loop-j.j ≡ c.args.k = omega arith in
+    rw e at c.loop-j.invariant.2

@@ -10,13 +10,9 @@ pub put_section-a-requires : goal.put_section-a-requires
 unfolding table_text
 put_section-a-requires c = omega (arith, simp (length-append, length-tab) at c.requires.words_in_bounds)
 
-pub put_rows-requires : goal.put_rows-requires
+pub put_rows-requires-clause-words_in_bounds : goal.put_rows-requires-clause-words_in_bounds
 unfolding table_text
-put_rows-requires c =
-    record {
-      words_in_bounds = omega (arith, simp (length-append, length-tab) at c.requires.words_in_bounds);
-      p_in_bounds = c.requires.count_in_bounds;
-    }
+put_rows-requires-clause-words_in_bounds c = omega (arith, simp (length-append, length-tab) at c.requires.words_in_bounds)
 
 pub returns : goal.returns
 unfolding table_text

@@ -4,15 +4,14 @@ use mathlib.Core.Path.{sym, ◌∙◌}
 use Rattle.read_body.specs.Kept.{filled-not, none-broken, filled-copied}
 use Rattle.read_body.proofs.read_rows.Goals as goal
 
-pub returns-then-fault-p : goal.returns-then-fault-p
-returns-then-fault-p c =
-    let h = c.if-fault-p.true in
-    record {
-      value = c.first_fault-fault.ensures;
-      masks_after = filled-not _ _ _ _ h;
-      values_after = filled-not _ _ _ _ h;
-      words_after = filled-not _ _ _ _ h;
-    }
+pub returns-then-fault-p-clause-masks_after : goal.returns-then-fault-p-clause-masks_after
+returns-then-fault-p-clause-masks_after c = filled-not _ _ _ _ c.if-fault-p.true
+
+pub returns-then-fault-p-clause-values_after : goal.returns-then-fault-p-clause-values_after
+returns-then-fault-p-clause-values_after c = filled-not _ _ _ _ c.if-fault-p.true
+
+pub returns-then-fault-p-clause-words_after : goal.returns-then-fault-p-clause-words_after
+returns-then-fault-p-clause-words_after c = filled-not _ _ _ _ c.if-fault-p.true
 
 pub returns : goal.returns
 returns c =

@@ -1,7 +1,6 @@
 -- `read_chains::linked` meets its contract: each return is what the test says by the places on the way. Assumes nothing.
 use mathlib.Core.Path.{sym, ◌∙◌}
 use native.Mathlib.Omega.{arith}
-use Rattle.slices.specs.Places.{at}
 use Rattle.read_names.specs.Met.{lost-is}
 use Rattle.read_chains.specs.Chains.{linked-low, linked-ends, linked-over, linked-goes}
 use Rattle.read_chains.proofs.linked.Goals as goal

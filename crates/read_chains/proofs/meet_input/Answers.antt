@@ -2,7 +2,6 @@
 use mathlib.Core.List.{[]}
 use mathlib.Core.List.{◌∷◌}
 use native.Mathlib.Omega.{arith}
-use Rattle.slices.specs.Places.{at}
 use Rattle.block.specs.Model.{x_name}
 use Rattle.read_names.specs.Met.{met-and}
 use Rattle.read_chains.proofs.meet_input.Goals as goal

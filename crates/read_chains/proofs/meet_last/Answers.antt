@@ -1,9 +1,7 @@
 -- `read_chains::meet_last` meets its contract: the line's pieces are met one after the other. Assumes nothing.
 use mathlib.Core.List.{[]}
 use mathlib.Core.List.{◌∷◌, ◌++◌}
-use Prim.Native.Nat.{◌+◌}
 use native.Mathlib.Omega.{arith}
-use Rattle.slices.specs.Places.{at}
 use Rattle.block.specs.Model.{x_name, z_name}
 use Rattle.read_names.specs.Met.{met-and}
 use Rattle.read_chains.proofs.meet_last.Goals as goal

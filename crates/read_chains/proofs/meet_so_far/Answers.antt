@@ -1,7 +1,6 @@
 -- `read_chains::meet_so_far` meets its contract: the word and the name are met one after the other. Assumes nothing.
 use mathlib.Core.List.{[]}
 use native.Mathlib.Omega.{arith}
-use Rattle.slices.specs.Places.{at}
 use Rattle.block.specs.Model.{part_name}
 use Rattle.read_names.specs.Met.{met-and}
 use Rattle.read_chains.specs.Chains.{opening}

@@ -1,10 +1,10 @@
 use mathlib.Core.Path.{sym, ◌∙◌}
-use Prim.Native.Nat.{◌+◌, ◌-◌}
+use Prim.Native.Nat.{◌+◌}
 use native.Mathlib.Omega.{arith}
-use Rattle.slices.specs.Places.{at}
 use Rattle.read_chains.specs.Chains.{power_small}
 use Rattle.read_chains.specs.Chains.{Grown, going-first, going-none, going-last, going-broken, going-part, few-parts, parts_more}
 use borrow.Author.Rules.{rules}
+use Rattle.std.proofs.lemmas.Result.{err_from_is_err_and}
 use Rattle.read_chains.proofs.read_chain.Goals as goal
 
 pub loop-all-init : goal.loop-all-init
@@ -31,14 +31,15 @@ returns-in-Last c =
     (sym c.in-Last.is ∙ c.read_link.ensures.value) (rw c.in-Last.is at c.read_link.ensures.grown)
     c.end_row.result c.end_row.ensures
 
-pub returns-in-Stop : goal.returns-in-Stop
-returns-in-Stop c =
+pub returns-in_err-next-in-Part : goal.returns-in_err-next-in-Part
+returns-in_err-next-in-Part c =
     let a = c.args in
     let l = c.loop-all in
-    λ st h.
+    let p = err_from_is_err_and c.from_residual.result c.from_residual.ensures.1 in
+    rw (p.1, p.2) (λ st h.
     going-broken a.text.now (omega arith) a.n a.i st a.at l.m l.part l.from l.begun (l.invariant.3 st h) c.in-Part.more c.in-Part.to
-    (sym c.in-Part.is ∙ c.read_link.ensures.value) c.in-Stop.bad
-    (rw c.in-Stop.is at c.read_xor.ensures)
+    (sym c.in-Part.is ∙ c.read_link.ensures.value) _
+    c.in_err-next-in-Part.ensures)
 
 pub meet_so_far-begun-requires : goal.meet_so_far-begun-requires
 meet_so_far-begun-requires c = omega arith
@@ -65,6 +66,6 @@ loop-all-preserved c =
       few-parts c.in-Part.more (l.part + 1) (omega (arith, g.0, power_small a.n (omega arith))) d,
       λ st h.
           going-part a.text.now (omega arith) a.n a.i st a.at l.m l.part l.from l.begun (l.invariant.3 st h) c.in-Part.more c.in-Part.to
-          (sym c.in-Part.is ∙ k.value) c.in-After.next
-          (rw c.in-After.is at c.read_xor.ensures) c.meet_so_far-begun.result c.meet_so_far-begun.ensures,
+          (sym c.in-Part.is ∙ k.value) c.in_ok-next-in-Part.next
+          c.in_ok-next-in-Part.ensures c.meet_so_far-begun.result c.meet_so_far-begun.ensures,
     )

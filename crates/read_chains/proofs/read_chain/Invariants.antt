@@ -2,7 +2,6 @@
 -- far, which more than doubled with each part. The measure is what they can still grow. Assumes nothing.
 use mathlib.Core.List.{List}
 use Prim.Native.Nat.{ℕ, ◌+◌, ◌-◌, ◌^◌, ◌≤◌, ◌<◌}
-use Rattle.slices.specs.Places.{at}
 use Rattle.read_chains.specs.Chains.{Chaining, Going}
 use Rattle.block.specs.ModelRead.{State}
 use Rattle.read_chains.proofs.read_chain.Given as goal

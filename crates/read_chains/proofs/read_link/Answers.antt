@@ -2,11 +2,10 @@
 use mathlib.Core.Path.{sym, ap, ◌∙◌}
 use Prim.Native.Nat.{ℕ, ◌+◌}
 use native.Mathlib.Omega.{arith}
-use Rattle.slices.specs.Places.{at}
 use mathlib.Core.Path.{ap₂}
 use Rattle.read_names.specs.Met.{lost-is}
 use Rattle.read_chains.specs.declared.Link.TheVariants.{Last, Part}
-use Rattle.read_chains.specs.Chains.{link-told, link-none, link-last, link-part, power_small}
+use Rattle.read_chains.specs.Chains.{link-told, link-none, link-last, link-part}
 use Rattle.read_chains.proofs.read_link.Goals as goal
 
 pub returns-then-n-b : goal.returns-then-n-b
@@ -16,12 +15,6 @@ returns-then-n-b c =
     link-told a.text.now a.at a.n a.m a.i a.p
     (link-none a.text.now (omega arith) a.at a.n a.m a.i a.p c.link_input-b.result c.link_input-b.ensures c.if-n-b.true) in
     record { value = whole.0; grown = whole.1 }
-
-pub overflow_add-inputs : goal.overflow_add-inputs
-overflow_add-inputs c =
-    let a = c.args in
-    let b = c.link_input-b.result in
-    omega (arith, c.power.ensures, power_small b (omega arith), power_small a.n (omega arith))
 
 pub returns-then-last : goal.returns-then-last
 returns-then-last c =

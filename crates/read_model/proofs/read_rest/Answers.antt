@@ -1,5 +1,6 @@
 -- `read_model::read_rest` meets its contract: the rows are read, and the outputs where the rows are whole. Assumes nothing.
-use mathlib.Core.Path.{◌∙◌}
+use Rattle.std.proofs.Common.{◌∙◌}
+use Rattle.std.proofs.lemmas.Result.{err_from_is_err_and}
 use Rattle.read_names.specs.Fate.{stop-after}
 use Rattle.read_sigma.specs.Rows.{Rows}
 use Rattle.read_outputs.specs.Outputs.{Ending}
@@ -14,24 +15,24 @@ pub read_outputs-requires : goal.read_outputs-requires
 unfolding Sized
 read_outputs-requires c = (c.requires.1, c.requires.2, c.requires.3)
 
-pub returns-in-Stop : goal.returns-in-Stop
+pub returns-in_err-next : goal.returns-in_err-next
 unfolding Sized Rows Modelled
-returns-in-Stop c =
+returns-in_err-next c =
     let a = c.args in
-    model-broken a.text.now c.in-Stop.bad (stop-after c.requires.4 ((rw c.in-Stop.is at c.read_rows.ensures) a.k))
+    let p = err_from_is_err_and c.from_residual.result c.from_residual.ensures.1 in
+    rw (p.1, p.2) (model-broken a.text.now _ (stop-after c.requires.4 (c.in_err-next.ensures a.k)))
 
-pub returns-in-Broken : goal.returns-in-Broken
+pub returns-in_err-patterns : goal.returns-in_err-patterns
 unfolding Sized Rows Ending Modelled
-returns-in-Broken c =
+returns-in_err-patterns c =
     let a = c.args in
-    let rows = rw c.in-After.is at c.read_rows.ensures in
-    model-broken a.text.now c.in-Broken.bad
-    (stop-after (c.requires.4 ∙ rows.goes a.k) ((rw c.in-Broken.is at c.read_outputs.ensures) rows.rows))
+    let rows = c.in_ok-next.ensures in
+    let p = err_from_is_err_and c.from_residual-in_err-patterns.result c.from_residual-in_err-patterns.ensures.1 in
+    rw (p.1, p.2) (model-broken a.text.now _ (stop-after (c.requires.4 ∙ rows.goes a.k) (c.in_err-patterns.ensures rows.rows)))
 
-pub returns-in-All : goal.returns-in-All
+pub returns : goal.returns
 unfolding Sized Rows Ending Modelled
-returns-in-All c =
+returns c =
     let a = c.args in
-    model-held a.text.now a.matrix.now a.counts.now a.masks.now a.values.now a.n a.k c.in-All.patterns _ _ _ _ a.at
-    c.in-After.next c.requires.1 c.requires.4 (rw c.in-After.is at c.read_rows.ensures)
-    (rw c.in-All.is at c.read_outputs.ensures)
+    model-held a.text.now a.matrix.now a.counts.now a.masks.now a.values.now a.n a.k c.in_ok-patterns.patterns _ _ _ _ a.at
+    c.in_ok-next.next c.requires.1 c.requires.4 c.in_ok-next.ensures c.in_ok-patterns.ensures

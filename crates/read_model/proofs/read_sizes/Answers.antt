@@ -1,5 +1,6 @@
 -- `read_model::read_sizes` meets its contract: the first line is read, and then the inputs' and the outputs'. Assumes nothing.
-use mathlib.Core.Path.{refl}
+use Rattle.std.proofs.Common.{refl}
+use Rattle.std.proofs.lemmas.Result.{err_from_is_err_and}
 use Rattle.block.specs.Model.{spaced}
 use Rattle.block.specs.ModelRead.{InputsDue}
 use Rattle.model_laws.specs.WordLines.{is_line}
@@ -11,13 +12,13 @@ pub read_line-requires : goal.read_line-requires
 unfolding is_line
 read_line-requires c = refl
 
-pub returns-in-Stop : goal.returns-in-Stop
+pub returns-in_err-next : goal.returns-in_err-next
 unfolding Came Sized spaced
-returns-in-Stop c = (rw c.in-Stop.is at c.read_line.ensures) InputsDue
+returns-in_err-next c =
+    let p = err_from_is_err_and c.from_residual.result c.from_residual.ensures.1 in
+    rw (p.1, p.2) (c.in_err-next.ensures InputsDue)
 
-pub returns-in-After : goal.returns-in-After
+pub returns : goal.returns
 unfolding Came spaced
-returns-in-After c =
-    let a = c.args in
-    in-sized a.text.now c.in-After.next c.read_inputs_line.result ((rw c.in-After.is at c.read_line.ensures) InputsDue)
-    c.read_inputs_line.ensures
+returns c =
+    in-sized c.args.text.now c.in_ok-next.next c.read_inputs_line.result (c.in_ok-next.ensures InputsDue) c.read_inputs_line.ensures

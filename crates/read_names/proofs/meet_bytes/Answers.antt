@@ -1,24 +1,22 @@
 use mathlib.Core.Path.{◌≡◌, sym, ap, ◌∙◌}
-use Prim.Native.Nat.{◌-◌}
 use native.Mathlib.Omega.{arith}
-use lib.ListN.{length, take}
+use lib.ListN.{length}
 use lib.Seq.{take-length}
-use Rattle.slices.specs.Places.{at}
 use Rattle.read_names.specs.Met.{met_at, met-none, met-more}
 use Rattle.read_names.proofs.meet_bytes.Goals as goal
 
-pub loop-i-init : goal.loop-i-init
-loop-i-init c = (omega arith, sym (met-none _ _))
+pub loop-b-init : goal.loop-b-init
+loop-b-init c = sym (met-none _ _)
 
-pub loop-i-preserved : goal.loop-i-preserved
-loop-i-preserved c =
-    let l = c.loop-i in
+pub loop-b-preserved : goal.loop-b-preserved
+loop-b-preserved c =
+    let l = c.loop-b in
     let a = c.args in
-    (omega arith, c.meet_byte-to.ensures ∙ rw l.invariant.1 (met-more a.text.now (omega arith) a.at l.i a.s.now (omega arith)))
+    c.meet_byte-to.ensures ∙ rw l.invariant (met-more a.text.now (omega arith) a.at l.b-index a.s.now (omega arith))
 
 pub returns : goal.returns
 returns c =
-    let l = c.loop-i in
+    let l = c.loop-b in
     let a = c.args in
-    let e : l.i ≡ length a.s.now = omega arith in
-    l.invariant.1 ∙ ap (met_at a.text.now a.at) (rw e (take-length a.s.now))
+    let e : l.b-index ≡ length a.s.now = omega arith in
+    l.invariant ∙ ap (met_at a.text.now a.at) (rw e (take-length a.s.now))

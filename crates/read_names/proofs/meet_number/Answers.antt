@@ -2,7 +2,6 @@
 use mathlib.Core.List.{[]}
 use mathlib.Core.List.{◌∷◌}
 use native.Mathlib.Omega.{arith}
-use Rattle.slices.specs.Places.{at}
 use Rattle.read_names.specs.Met.{one-digit, two_digits, met-and}
 use Rattle.read_names.proofs.meet_number.Goals as goal
 

@@ -2,7 +2,6 @@
 use mathlib.Core.List.{[]}
 use mathlib.Core.List.{◌∷◌}
 use native.Mathlib.Omega.{arith}
-use Rattle.slices.specs.Places.{at}
 use Rattle.block.specs.Text.{decimal}
 use Rattle.model_laws.specs.Spaced.{lettered}
 use Rattle.read_names.specs.Met.{met-and}

@@ -1,7 +1,6 @@
 -- `read_names::read_line` meets its contract: the line is met at the place, or another one stands there. Assumes nothing.
 use mathlib.Core.Path.{sym, ◌∙◌}
 use native.Mathlib.Omega.{arith}
-use Rattle.slices.specs.Places.{at}
 use Rattle.read_names.specs.Met.{lost-is}
 use Rattle.read_names.specs.Fate.{Came, due-came, due-lost}
 use Rattle.read_names.proofs.read_line.Goals as goal

@@ -1,7 +1,7 @@
 use mathlib.Core.Path.{◌≡◌, sym, ap, ap₂, ◌∙◌}
 use mathlib.Core.Bool.{true, not}
 use mathlib.Core.List.{List}
-use Prim.Native.Nat.{ℕ, ◌+◌, ◌-◌}
+use Prim.Native.Nat.{ℕ, ◌+◌}
 use native.Mathlib.Omega.{arith}
 use borrow.Author.Count.{below_more}
 use lib.Dec.{eqb}
@@ -20,11 +20,7 @@ more text from i s f b d e g h =
     ap₂ (λ (x y : ℕ). x + y) e (h ∙ ap (λ (x : ℕ). f x i) g) ∙ sym (sum_more (λ j. f (get_or text (from + j) 0) j) i)
 
 pub loop-i-init : goal.loop-i-init
-loop-i-init c =
-    (omega arith, λ j l. absurd (omega arith), sym (sum-zero _), sym (sum-zero _), omega arith, omega arith)
-
-pub overflow_add-at : goal.overflow_add-at
-overflow_add-at c = omega arith
+loop-i-init c = (λ j l. absurd (omega arith), sym (sum-zero _), sym (sum-zero _), omega arith, omega arith)
 
 pub returns-then-not-is_symbol : goal.returns-then-not-is_symbol
 returns-then-not-is_symbol c =
@@ -33,16 +29,10 @@ returns-then-not-is_symbol c =
     no_symbol a.text.now (omega arith) a.n a.at l.i (omega arith)
     (ap is_symbol (sym c.byte-b.ensures.value) ∙ sym c.is_symbol.ensures ∙ c.if-not-is_symbol.true)
 
-pub mask_bit-m-requires : goal.mask_bit-m-requires
-mask_bit-m-requires c = omega arith
-
 pub overflow_add-m : goal.overflow_add-m
 overflow_add-m c =
     let l = c.loop-i in
     omega (arith, c.mask_bit-m.ensures, bit-small (not (eqb c.byte-b.result 45)) l.m l.i (omega arith), power_small (l.i + 1) (omega arith))
-
-pub value_bit-v-requires : goal.value_bit-v-requires
-value_bit-v-requires c = omega arith
 
 pub overflow_add-v : goal.overflow_add-v
 overflow_add-v c =
@@ -54,17 +44,13 @@ loop-i-preserved c =
     let l = c.loop-i in
     let a = c.args in
     let b = c.byte-b in (
-      omega arith,
-      below_more (λ j. is_symbol (get_or a.text.now (a.at + j) 0) ≡ true) l.i l.invariant.1
+      below_more (λ j. is_symbol (get_or a.text.now (a.at + j) 0) ≡ true) l.i l.invariant.0
           (ap is_symbol (sym b.ensures.value) ∙ sym c.is_symbol.ensures ∙ c.if-not-is_symbol.false),
-      more a.text.now a.at l.i l.m mask_bit b.result c.mask_bit-m.result l.invariant.2 b.ensures.value c.mask_bit-m.ensures,
-      more a.text.now a.at l.i l.v value_bit b.result c.value_bit-v.result l.invariant.3 b.ensures.value c.value_bit-v.ensures,
-      rw c.mask_bit-m.ensures (bit-small (not (eqb b.result 45)) l.m l.i l.invariant.4),
-      rw c.value_bit-v.ensures (bit-small (eqb b.result 49) l.v l.i l.invariant.5),
+      more a.text.now a.at l.i l.m mask_bit b.result c.mask_bit-m.result l.invariant.1 b.ensures.value c.mask_bit-m.ensures,
+      more a.text.now a.at l.i l.v value_bit b.result c.value_bit-v.result l.invariant.2 b.ensures.value c.value_bit-v.ensures,
+      rw c.mask_bit-m.ensures (bit-small (not (eqb b.result 45)) l.m l.i l.invariant.3),
+      rw c.value_bit-v.ensures (bit-small (eqb b.result 49) l.v l.i l.invariant.4),
     )
-
-pub overflow_add-at-2 : goal.overflow_add-at-2
-overflow_add-at-2 c = omega arith
 
 pub returns-then-to : goal.returns-then-to
 returns-then-to c =
@@ -76,5 +62,5 @@ returns c =
     let l = c.loop-i in
     let a = c.args in
     let e : l.i ≡ a.n = omega arith in
-    cube-there a.text.now (omega arith) a.n a.at (λ j k. l.invariant.1 j (omega arith)) l.m l.v c.meet_bytes-to.result
-    (rw e at l.invariant.2) (rw e at l.invariant.3) c.meet_bytes-to.ensures (λ w. c.if-to.false (w ∙ lost-is))
+    cube-there a.text.now (omega arith) a.n a.at (λ j k. l.invariant.0 j (omega arith)) l.m l.v c.meet_bytes-to.result
+    (rw e at l.invariant.1) (rw e at l.invariant.2) c.meet_bytes-to.ensures (λ w. c.if-to.false (w ∙ lost-is))

@@ -7,5 +7,5 @@ pub returns : goal.returns
 returns c =
     let arg = c.args in
     let read = c.read_into in
-    read_whole arg.text.now (numbers read.result.answer) arg.room c.fits-m.result read.result.flat
-    read.result.count c.fits-m.ensures read.ensures
+    read_whole arg.text.now (numbers read.result.answer) arg.room c.fits.result read.result.flat
+    read.result.count c.fits.ensures read.ensures

@@ -1,9 +1,8 @@
 use mathlib.Core.Path.{◌≡◌, refl, sym, ◌∙◌}
-use Prim.Native.Nat.{◌^◌, ◌≤◌, ◌<◌, ◌-◌}
+use Prim.Native.Nat.{◌^◌, ◌≤◌, ◌<◌}
 use native.Mathlib.Numerals.{add-one}
 use native.Mathlib.Omega.{arith}
 use lib.Pow.{pow_mono}
-use borrow.Author.Rules.{rules}
 use Rattle.read_row.specs.Told.{told-small, bit-more, step-told}
 use Rattle.read_laws.specs.ByPlace.{spelled_at}
 use Rattle.read_row.proofs.spelling.Goals as goal
@@ -15,14 +14,11 @@ small c =
     let l = c.loop-i in
     let h : l.i ≤ 31 = omega arith in
     let p : 2 ^ l.i ≤ 2 ^ 31 = pow_mono h in
-    omega (arith, p, l.invariant.1, l.invariant.2, l.invariant.3)
+    omega (arith, p, l.invariant.0, l.invariant.1, l.invariant.2)
 
 pub loop-i-init : goal.loop-i-init
 unfolding spelled_at
-loop-i-init c = (search rules, omega arith, omega arith, omega arith, refl)
-
-pub overflow_add-from : goal.overflow_add-from
-overflow_add-from c = omega arith
+loop-i-init c = (omega arith, omega arith, omega arith, refl)
 
 pub overflow_mul-m : goal.overflow_mul-m
 overflow_mul-m c = omega (arith, small (goal.at.overflow_mul-m c).In-loop-i)
@@ -43,12 +39,6 @@ overflow_add-bad c =
     let free = c.args.free in
     omega (arith, small (goal.at.overflow_add-bad c).In-loop-i, c.strange-bad.ensures, told-small c.byte-b.result free)
 
-pub overflow_add-i : goal.overflow_add-i
-overflow_add-i c = omega arith
-
-pub loop-i-smaller : goal.loop-i-smaller
-loop-i-smaller c = omega arith
-
 pub loop-i-preserved : goal.loop-i-preserved
 unfolding spelled_at
 loop-i-preserved c =
@@ -59,15 +49,14 @@ loop-i-preserved c =
     let fixed = c.fixed.ensures in
     let one = c.one.ensures in
     let strange = c.strange-bad.ensures in (
-      omega arith,
-      bit-more l.m _ l.i l.invariant.1 (rw fixed few.0),
-      bit-more l.v _ l.i l.invariant.2 (rw one few.1),
+      bit-more l.m _ l.i l.invariant.0 (rw fixed few.0),
+      bit-more l.v _ l.i l.invariant.1 (rw one few.1),
       omega (arith, strange, few.2),
-      rw (add-one, l.invariant.4, ← byte.ensures.value, fixed, one, strange) (step-told l.bad l.m l.v byte.result free),
+      rw (add-one, l.invariant.3, ← byte.ensures.value, fixed, one, strange) (step-told l.bad l.m l.v byte.result free),
     )
 
 pub returns : goal.returns
 returns c =
     let l = c.loop-i in
     let e : l.i ≡ c.args.count = omega arith in
-    c.told.ensures ∙ rw (← e) (sym l.invariant.4)
+    c.told.ensures ∙ rw (← e) (sym l.invariant.3)

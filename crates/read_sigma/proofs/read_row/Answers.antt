@@ -1,6 +1,5 @@
 -- `read_sigma::read_row` meets its contract: the row's first line is a copy, begins a chain, or is neither. Assumes nothing.
 use native.Mathlib.Omega.{arith}
-use Rattle.slices.specs.Places.{at}
 use Rattle.block.specs.ModelRead.{RowDue}
 use Rattle.read_chains.specs.Chains.{Chained, power-lt, power_pos}
 use Rattle.read_sigma.specs.Rows.{row-none}

@@ -1,33 +1,20 @@
-use mathlib.Core.Path.{refl}
-use Prim.Native.Nat.{◌-◌}
 use native.Mathlib.Omega.{arith}
-use Rattle.slices.specs.Places.{at}
+use Rattle.std.proofs.lemmas.Result.{err_from_is_err_and}
 use Rattle.read_sigma.specs.Rows.{Rows, rows-first, rows-stop, rows_more, rows_all}
 use Rattle.read_sigma.proofs.read_rows.Goals as goal
 
 pub loop-i-init : goal.loop-i-init
-loop-i-init c = let a = c.args in (omega arith, refl, rows-first a.text.now a.n a.at a.sigma.now (omega arith))
+loop-i-init c = let a = c.args in rows-first a.text.now a.n a.at a.sigma.now (omega arith)
 
-pub read_row-requires : goal.read_row-requires
-read_row-requires c = omega arith
-
-pub returns-in-Broken : goal.returns-in-Broken
+pub returns-in_err-row : goal.returns-in_err-row
 unfolding Rows
-returns-in-Broken c =
-    let l = c.loop-i in
-    rows-stop l.invariant.2 (omega arith) c.in-Broken.bad (rw c.in-Broken.is at c.read_row.ensures)
+returns-in_err-row c =
+    let p = err_from_is_err_and c.from_residual.result c.from_residual.ensures.1 in
+    rw (p.1, p.2) (rows-stop c.loop-i.invariant (omega arith) _ c.in_err-row.ensures)
 
 pub loop-i-preserved : goal.loop-i-preserved
-loop-i-preserved c =
-    let l = c.loop-i in (
-      omega arith,
-      omega (arith, c.store.auto.out),
-      rows_more l.invariant.2 (omega arith) c.in-Row.row c.in-Row.next (rw c.in-Row.is at c.read_row.ensures) _
-          c.store.ensures,
-    )
+loop-i-preserved c = rows_more c.loop-i.invariant (omega arith) c.in_ok-row.row c.in_ok-row.next c.in_ok-row.ensures _ c.store.ensures
 
 pub returns : goal.returns
 unfolding Rows
-returns c =
-    let l = c.loop-i in
-    rows_all l.invariant.2 (omega arith)
+returns c = rows_all c.loop-i.invariant (omega arith)

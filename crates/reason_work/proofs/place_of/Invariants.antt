@@ -1,14 +1,10 @@
--- `reason_work::place_of` meets its contract. The loop's invariant: none of the numbers passed is t. The measure is how many are left.
--- Assumes nothing.
+-- `reason_work::place_of` meets its contract. The loop's invariant: none of the numbers passed is t. Assumes nothing.
 use mathlib.Core.Path.{◌≡◌}
 use mathlib.Core.Bool.{false}
-use Prim.Native.Nat.{ℕ, ◌≤◌, ◌<◌, ◌-◌}
+use Prim.Native.Nat.{ℕ, ◌<◌}
 use lib.Dec.{eqb}
 use Rattle.slices.specs.Places.{at}
 use Rattle.reason_work.proofs.place_of.Given as goal
 
 abbrev pub invariant-loop-j : goal.invariant-loop-j
-invariant-loop-j l = (l.j ≤ l.n) × ((i : ℕ) → i < l.j → eqb (at l.taken i) l.t ≡ false)
-
-abbrev pub decreases-loop-j : goal.decreases-loop-j
-decreases-loop-j l = l.n - l.j
+invariant-loop-j l = (i : ℕ) → i < l.j → eqb (at l.taken i) l.t ≡ false

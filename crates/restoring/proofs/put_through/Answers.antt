@@ -1,8 +1,8 @@
 use mathlib.Core.Path.{◌≡◌, ap, ◌∙◌}
-use Prim.Native.Nat.{ℕ, ◌<◌, ◌-◌, ◌^◌}
+use Prim.Native.Nat.{ℕ, ◌<◌, ◌^◌}
 use native.Mathlib.Omega.{arith}
 use lib.Pow.{pow_mono}
-use Rattle.slices.specs.Places.{at, over}
+use Rattle.slices.specs.Places.{at}
 use Rattle.slices.specs.Filled.{over_none, over-more, get_d_any}
 use Rattle.block.specs.Words.{none, of_table}
 use Rattle.block.specs.Basis.{columns}
@@ -27,28 +27,15 @@ pub put_images-requires : goal.put_images-requires
 put_images-requires c = (search rules, search rules, pow_mono c.requires.1)
 
 pub loop-z-init : goal.loop-z-init
-loop-z-init c = (search rules, omega (arith, pow_mono c.requires.1), search rules, over_none _ _)
+loop-z-init c = over_none _ _
 
-pub overflow_cast-out : goal.overflow_cast-out
-overflow_cast-out c = omega (arith, within (goal.at.overflow_cast-out c).In-loop-z (omega arith))
-
-pub offset_bounds-table-images : goal.offset_bounds-table-images
-offset_bounds-table-images c = omega (arith, within (goal.at.offset_bounds-table-images c).In-loop-z (omega arith))
+pub bounds-images-z : goal.bounds-images-z
+bounds-images-z c = omega (arith, pow_mono c.requires.1)
 
 pub bounds-table-images : goal.bounds-table-images
 bounds-table-images c = omega (arith, within (goal.at.bounds-table-images c).In-loop-z (omega arith))
 
 pub loop-z-preserved : goal.loop-z-preserved
 loop-z-preserved c =
-    let i = c.loop-z.invariant in (
-      search rules,
-      search rules,
-      search rules,
-      over-more _ (λ (z : ℕ). of_table c.args.table.now (columns (at c.args.by_columns.now) c.args.n z)) _ _ _ i.3
-          (get_d_any c.args.table.now 0 none _ (omega (arith, within (goal.at.loop-z-preserved c).In-loop-z (omega arith))) ∙ ap (of_table c.args.table.now) (value (goal.at.loop-z-preserved c).In-loop-z (omega arith))) (omega arith),
-    )
-
-pub returns : goal.returns
-returns c =
-    let end : c.loop-z.z ≡ 2 ^ c.args.n = omega arith in
-    rw end at c.loop-z.invariant.3
+    over-more _ (λ (z : ℕ). of_table c.args.table.now (columns (at c.args.by_columns.now) c.args.n z)) _ _ _ c.loop-z.invariant
+    (get_d_any c.args.table.now 0 none _ (omega (arith, within (goal.at.loop-z-preserved c).In-loop-z (omega arith))) ∙ ap (of_table c.args.table.now) (value (goal.at.loop-z-preserved c).In-loop-z (omega arith))) (omega arith)

@@ -1,5 +1,4 @@
 use mathlib.Core.Path.{sym, ap, ◌∙◌}
-use Prim.Native.Nat.{◌-◌}
 use native.Mathlib.Omega.{arith}
 use Rattle.block.specs.Limits.{list_inputs}
 use Rattle.pair_laws.specs.Symmetric.{added, added_none, cubes-none}
@@ -10,10 +9,7 @@ use Rattle.row_shifts.proofs.pairs_add.Goals as goal
 use Rattle.row_shifts.proofs.pairs_add.Goals.{then-times-gt0, else-times-gt0}
 
 pub loop-i-init : goal.loop-i-init
-loop-i-init c = (search rules, rw (cubes-none _ _ _) (sym (added_none c.args.t)))
-
-pub loop-j-init : goal.loop-j-init
-loop-j-init c = (search rules, search rules, search rules, c.loop-i.invariant.1)
+loop-i-init c = rw (cubes-none _ _ _) (sym (added_none c.args.t))
 
 pub pair_adds-sum-requires : goal.pair_adds-sum-requires
 pair_adds-sum-requires c =
@@ -33,7 +29,7 @@ overflow_add-sum c =
     omega (
       arith,
       sum-put a.missing a.more a.n l i o.j (omega arith) (omega arith) (omega arith)
-          _ c.times_of-times.ensures.value c.if-times-gt0.true a.t _ _ o.invariant.3 c.pair_adds-sum.ensures,
+          _ c.times_of-times.ensures.value c.if-times-gt0.true a.t _ _ o.invariant c.pair_adds-sum.ensures,
       sum-small a.missing a.more a.n l i o.j (omega arith) (omega arith) c.requires.disjoint c.requires.n_le_list_inputs.2
           list_inputs a.t c.requires.n_le_list_inputs.1 c.requires.n_le_list_inputs.0,
     )
@@ -44,26 +40,22 @@ loop-j-preserved c =
     let i = c.loop-i.i in
     let a = c.args in
     let l = c.requires.n_le_list_inputs.3 in
-    let times = c.times_of-times in (
-      search rules,
-      search rules,
-      search rules,
-      elim c.if-times-gt0.branch [
-        | then-times-gt0 w ↦
-            w.sum-is
-            ∙ sum-put a.missing a.more a.n l i o.j (omega arith) (omega arith) (omega arith)
-            _ times.ensures.value w.if-times-gt0.true a.t _ _ o.invariant.3 w.pair_adds-sum.ensures
-        | else-times-gt0 w ↦
-            w.sum-is ∙ o.invariant.3
-            ∙ ap (added a.t) (sym (cubes-pass a.missing a.more a.n l i o.j (omega arith) (omega arith) _ times.ensures.value w.if-times-gt0.false))
-      ],
-    )
+    let times = c.times_of-times in
+    elim c.if-times-gt0.branch [
+      | then-times-gt0 w ↦
+          w.sum-is
+          ∙ sum-put a.missing a.more a.n l i o.j (omega arith) (omega arith) (omega arith)
+          _ times.ensures.value w.if-times-gt0.true a.t _ _ o.invariant w.pair_adds-sum.ensures
+      | else-times-gt0 w ↦
+          w.sum-is ∙ o.invariant
+          ∙ ap (added a.t) (sym (cubes-pass a.missing a.more a.n l i o.j (omega arith) (omega arith) _ times.ensures.value w.if-times-gt0.false))
+    ]
 
 pub loop-i-preserved : goal.loop-i-preserved
 loop-i-preserved c =
-    (search rules, rw (row_done c.args.missing c.args.more c.args.n c.requires.n_le_list_inputs.3 c.loop-i.i c.loop-j.j (omega arith)) c.loop-j.invariant.3)
+    rw (row_done c.args.missing c.args.more c.args.n c.requires.n_le_list_inputs.3 c.loop-i.i c.loop-j.j (omega arith)) c.loop-j.invariant
 
 pub returns : goal.returns
 returns c =
-    c.loop-i.invariant.1
+    c.loop-i.invariant
     ∙ ap (added c.args.t) (sym (rows-done c.args.missing c.args.more c.args.n c.requires.n_le_list_inputs.3 c.loop-i.i (omega arith)))

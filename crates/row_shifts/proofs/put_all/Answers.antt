@@ -1,20 +1,16 @@
-use mathlib.Core.Path.{◌≡◌, refl}
-use Prim.Native.Nat.{ℕ, ◌-◌}
-use native.Mathlib.Omega.{arith}
-use Rattle.slices.specs.Places.{over}
-use Rattle.slices.specs.Filled.{over_none, over-more}
-use borrow.Author.Rules.{rules}
+-- `row_shifts::put_all` meets its contract: what is filled is a list of one number. Assumes nothing.
+use Rattle.std.proofs.Common.{◌≡◌, ℕ, refl, sym, ◌∙◌}
+use Rattle.std.proofs.Math.ListN.{replicate}
+use Rattle.std.proofs.lemmas.List.{length-take-le, length-replicate, get_or-replicate}
+use Rattle.slices.specs.Places.{tab}
+use Rattle.slices.specs.Filled.{tab-list, tab-cong, over-part}
 use Rattle.row_shifts.proofs.put_all.Goals as goal
 
-pub loop-i-init : goal.loop-i-init
-loop-i-init c = (search rules, search rules, over_none _ _)
-
-pub loop-i-preserved : goal.loop-i-preserved
-loop-i-preserved c =
-    let x : ℕ = c.args.x in
-    (search rules, search rules, over-more _ (λ _. x) _ _ _ c.loop-i.invariant.2 refl (omega arith))
+all : (m x : ℕ) → replicate m x ≡ tab m (λ _. x)
+all m x = sym (tab-list 0 (replicate m x)) ∙ rw (length-replicate m x) (tab-cong m _ _ (λ i b. get_or-replicate m i x 0 b))
 
 pub returns : goal.returns
 returns c =
-    let end : c.loop-i.i ≡ c.args.places = omega arith in
-    rw end at c.loop-i.invariant.2
+    let a = c.args in
+    over-part a.places a.places (λ _. a.x) _ _
+    (c.fill.ensures.after (λ y e. e) ∙ rw (length-take-le a.places a.out.now c.requires) (all a.places a.x)) refl

@@ -1,5 +1,5 @@
-use mathlib.Core.Path.{refl, ◌∙◌}
-use Prim.Native.Nat.{◌<◌, ◌+◌, ◌-◌, ◌*◌}
+use mathlib.Core.Path.{◌∙◌}
+use Prim.Native.Nat.{◌<◌, ◌+◌, ◌*◌}
 use native.Mathlib.Omega.{arith}
 use lib.ListN.{length}
 use Rattle.block.specs.Words.{rows_of}
@@ -21,22 +21,9 @@ fits c =
 
 pub loop-i-init : goal.loop-i-init
 loop-i-init c =
-    let a = c.args in (
-      search rules,
-      search rules,
-      search rules,
-      search rules,
-      rw (cubes-none (often a.missing a.more) a.n (rows_of a.masks.now a.values.now a.words.now))
-          (cubes-at-none a.cube_masks.now a.cube_values.now a.cube_weights.now),
-    )
-
-pub loop-j-init : goal.loop-j-init
-loop-j-init c = (
-  search rules,
-  search rules,
-  search rules,
-  record { masks = refl; values = refl; weights = refl; count = c.loop-i.invariant.4.count; lie = λ m₀ v₀ w₀ a b d s. s },
-)
+    let a = c.args in
+    rw (cubes-none (often a.missing a.more) a.n (rows_of a.masks.now a.values.now a.words.now))
+    (cubes-at-none a.cube_masks.now a.cube_values.now a.cube_weights.now)
 
 pub put_cube-requires : goal.put_cube-requires
 put_cube-requires c =
@@ -58,35 +45,26 @@ loop-j-preserved c =
     let a = c.args in
     let l = c.requires.n_le_list_inputs.2 in
     let small = fits (goal.at.loop-j-preserved c).In-loop-j in
-    let times = c.times_of-times in (
-      search rules,
-      search rules,
-      search rules,
-      elim c.if-times-gt0.branch [
-        | then-times-gt0 w ↦
-            grown-more _ _ _ _ _ _ _ _ _ _ _ _ _ _ _ o.invariant.3
-            (cube_of a.n times.result a.masks.now a.values.now i o.j)
-            (omega arith) (omega arith) (omega arith)
-            (cubes-put a.missing a.more a.n l i o.j (omega arith) (omega arith) (omega arith) _ times.ensures.value w.if-times-gt0.true)
-            (w.cube_masks-is ∙ w.put_cube.ensures.cube_masks_after) (w.cube_values-is ∙ w.put_cube.ensures.cube_values_after) (w.cube_weights-is ∙ w.put_cube.ensures.cube_weights_after) w.count-is
-        | else-times-gt0 w ↦
-            grown-same _ _ _ _ _ _ _ _ _ _ _ _ _ _ _ o.invariant.3
-            (cubes-pass a.missing a.more a.n l i o.j (omega arith) (omega arith) _ times.ensures.value w.if-times-gt0.false)
-            w.cube_masks-is w.cube_values-is w.cube_weights-is w.count-is
-      ],
-    )
+    let times = c.times_of-times in
+    elim c.if-times-gt0.branch [
+      | then-times-gt0 w ↦
+          grown-more _ _ _ _ _ _ _ _ _ _ _ _ _ _ _ o.invariant
+          (cube_of a.n times.result a.masks.now a.values.now i o.j)
+          (omega arith) (omega arith) (omega arith)
+          (cubes-put a.missing a.more a.n l i o.j (omega arith) (omega arith) (omega arith) _ times.ensures.value w.if-times-gt0.true)
+          (w.cube_masks-is ∙ w.put_cube.ensures.cube_masks_after) (w.cube_values-is ∙ w.put_cube.ensures.cube_values_after) (w.cube_weights-is ∙ w.put_cube.ensures.cube_weights_after) w.count-is
+      | else-times-gt0 w ↦
+          grown-same _ _ _ _ _ _ _ _ _ _ _ _ _ _ _ o.invariant
+          (cubes-pass a.missing a.more a.n l i o.j (omega arith) (omega arith) _ times.ensures.value w.if-times-gt0.false)
+          w.cube_masks-is w.cube_values-is w.cube_weights-is w.count-is
+    ]
 
 pub loop-i-preserved : goal.loop-i-preserved
 loop-i-preserved c =
-    let o = c.loop-i in (
-      search rules,
-      omega arith,
-      omega arith,
-      omega arith,
-      rw (row_done c.args.missing c.args.more c.args.n c.requires.n_le_list_inputs.2 o.i c.loop-j.j (omega arith))
-          (c.loop-j.invariant.3.lie _ _ _ o.invariant.1 o.invariant.2 o.invariant.3 o.invariant.4),
-    )
+    let o = c.loop-i in
+    rw (row_done c.args.missing c.args.more c.args.n c.requires.n_le_list_inputs.2 o.i c.loop-j.j (omega arith))
+    (c.loop-j.invariant.lie _ _ _ o.auto.cube_masks o.auto.cube_values o.auto.cube_weights o.invariant)
 
 pub returns : goal.returns
 returns c =
-    rw (rows-done c.args.missing c.args.more c.args.n c.requires.n_le_list_inputs.2 c.loop-i.i (omega arith)) c.loop-i.invariant.4
+    rw (rows-done c.args.missing c.args.more c.args.n c.requires.n_le_list_inputs.2 c.loop-i.i (omega arith)) c.loop-i.invariant

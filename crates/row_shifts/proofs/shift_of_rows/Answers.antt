@@ -6,17 +6,10 @@ use lib.Pow.{pow_mono}
 use Rattle.block.specs.Limits.{list_inputs}
 use Rattle.block.specs.Words.{of_rows, rows_of}
 use Rattle.block.specs.Measure.{shift}
-use Rattle.pair_laws.specs.Theorem.{counts-le, taken-le, shift_le}
+use Rattle.pair_laws.specs.Theorem.{taken-le, shift_le}
 use Rattle.missing_points.specs.Looped.{shift-parts}
 use Rattle.row_shifts.proofs.shift_of_rows.Goals as goal
 use Rattle.row_shifts.proofs.shift_of_rows.Goals.{After-pairs_add}
-
-pub pairs_add-requires : goal.pairs_add-requires
-pairs_add-requires c =
-    record {
-      n_le_list_inputs = (c.requires.n_le_list_inputs.0, c.requires.n_le_list_inputs.1, omega (arith, c.missing_counts-more.ensures, counts-le c.args.missing), c.requires.n_le_list_inputs.2);
-      disjoint = c.requires.disjoint;
-    }
 
 -- what the points and the pairs add
 sums : (c : goal.After-pairs_add) → c.points_of-points.result + c.pairs_add.result

@@ -2,28 +2,20 @@ use mathlib.Core.Path.{◌≡◌, ap, ap₂, ◌∙◌}
 use mathlib.Core.List.{List}
 use Prim.Native.Nat.{ℕ, ◌+◌, ◌-◌}
 use native.Mathlib.Omega.{arith}
-use Rattle.slices.specs.Places.{at, over}
+use Rattle.slices.specs.Places.{at}
 use Rattle.slices.specs.Filled.{over_none, over-more, over-beyond}
 use Rattle.row_shifts.specs.Stored.{added_by}
-use borrow.Author.Rules.{rules}
 use Rattle.row_shifts.proofs.shifts_by_cubes.Goals as goal
 use Rattle.row_shifts.proofs.shifts_by_cubes.Goals.{At-loop-i}
 
 -- the entry at i still holds what it held
 held : (c : goal.At-loop-i) → at c.loop-i.out c.loop-i.i ≡ at c.args.out.now c.loop-i.i
 held c =
-    ap (λ (l : List ℕ). at l c.loop-i.i) c.loop-i.invariant.2
+    ap (λ (l : List ℕ). at l c.loop-i.i) c.loop-i.invariant
     ∙ over-beyond c.loop-i.i _ c.args.out.now 0 c.loop-i.i (omega arith)
 
 pub loop-i-init : goal.loop-i-init
-loop-i-init c = (search rules, search rules, over_none _ _)
-
-pub shift_by_cubes-more-requires : goal.shift_by_cubes-more-requires
-shift_by_cubes-more-requires c =
-    record {
-      count_in_bounds = c.requires.count_in_bounds;
-      t_bound = c.requires.by_index_2 c.loop-i.i (omega arith);
-    }
+loop-i-init c = over_none _ _
 
 pub overflow_add-out : goal.overflow_add-out
 overflow_add-out c =
@@ -36,13 +28,5 @@ overflow_sub-out c =
 pub loop-i-preserved : goal.loop-i-preserved
 loop-i-preserved c =
     let a = c.args in
-    let f : ℕ → ℕ = λ j. at a.out.now j + added_by a.cube_masks.now a.cube_values.now a.cube_weights.now a.count (at a.ts.now j) - a.less in (
-      search rules,
-      search rules,
-      over-more _ f _ _ _ c.loop-i.invariant.2 (ap₂ (λ (x y : ℕ). x + y - a.less) (held (goal.at.loop-i-preserved c).At-loop-i) c.shift_by_cubes-more.ensures) (omega arith),
-    )
-
-pub returns : goal.returns
-returns c =
-    let end : c.loop-i.i ≡ c.args.places = omega arith in
-    rw end at c.loop-i.invariant.2
+    let f : ℕ → ℕ = λ j. at a.out.now j + added_by a.cube_masks.now a.cube_values.now a.cube_weights.now a.count (at a.ts.now j) - a.less in
+    over-more _ f _ _ _ c.loop-i.invariant (ap₂ (λ (x y : ℕ). x + y - a.less) (held (goal.at.loop-i-preserved c).At-loop-i) c.shift_by_cubes-more.ensures) (omega arith)

@@ -8,15 +8,6 @@ use Rattle.missing_points.specs.Looped.{cubes-few}
 use Rattle.row_shifts.specs.Due.{due-done, all-due}
 use Rattle.row_shifts.proofs.shifts_in_room.Goals as goal
 
-pub put_cubes-count-requires : goal.put_cubes-count-requires
-put_cubes-count-requires c =
-    let counted = c.missing_counts-more.ensures in
-    record {
-      n_le_list_inputs = (c.requires.n_le_list_inputs.0, omega (arith, counted, counts-le c.args.missing), c.requires.n_le_list_inputs.1);
-      every = c.requires.disjoint.sound;
-      roomy = c.requires.roomy;
-    }
-
 pub shifts_by_cubes-requires : goal.shifts_by_cubes-requires
 shifts_by_cubes-requires c =
     let a = c.args in

@@ -7,12 +7,6 @@ use Rattle.block.specs.Rows.{split_rows}
 use Rattle.row_adding.specs.Held.{held-past, held-copied, rows-exchanged}
 use Rattle.row_splits.proofs.step_rows.Goals as goal
 
-pub copy_first-requires-then-count-le-SMALLER_ROWS : goal.copy_first-requires-then-count-le-SMALLER_ROWS
-copy_first-requires-then-count-le-SMALLER_ROWS c = omega (arith, c.split_rows-count.auto, c.requires.3)
-
-pub copy_first-requires-then-count-le-SMALLER_ROWS-2 : goal.copy_first-requires-then-count-le-SMALLER_ROWS-2
-copy_first-requires-then-count-le-SMALLER_ROWS-2 c = omega (arith, c.split_rows-count.auto, c.requires.3)
-
 pub returns-then-count-le-SMALLER_ROWS : goal.returns-then-count-le-SMALLER_ROWS
 returns-then-count-le-SMALLER_ROWS c =
     let a = c.args in

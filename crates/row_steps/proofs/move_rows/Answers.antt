@@ -1,10 +1,10 @@
 use mathlib.Core.Path.{◌≡◌, refl, sym, ap, ◌∙◌}
 use mathlib.Core.List.{List}
-use Prim.Native.Nat.{suc, ◌<◌, ◌-◌}
+use Prim.Native.Nat.{suc, ◌<◌}
 use native.Mathlib.Numerals.{add-one}
 use native.Mathlib.Omega.{arith}
 use lib.ListN.{length}
-use Rattle.slices.specs.Places.{at, tab}
+use Rattle.slices.specs.Places.{at}
 use Rattle.slices.specs.Filled.{length-tab}
 use Rattle.block.specs.Rows.{moved}
 use Rattle.block.specs.declared.Row.{Row}
@@ -15,10 +15,10 @@ use Rattle.matrix_steps.specs.Steps.{partner-lt, reach-start, reach-turn}
 use Rattle.row_steps.specs.Passed.{step-held, replay-stopped, replay-done}
 use borrow.Author.Rules.{rules}
 use Rattle.row_steps.proofs.move_rows.Goals as goal
-use Rattle.row_steps.proofs.move_rows.Goals.{After-step_rows-count, At-loop-k}
+use Rattle.row_steps.proofs.move_rows.Goals.{After-step_rows-count}
 
 -- the rows after one step more
-abbrev after : goal.At-loop-k → List Row
+abbrev after : goal.After-step_rows-count → List Row
 after c =
     let a = c.args in
     moved a.n (at a.basis.now) (suc c.loop-k.k) (rows_from a.p a.masks.now a.values.now a.words.now)
@@ -26,29 +26,22 @@ after c =
 -- what a step makes of the rows of the turn
 stepped : (c : goal.After-step_rows-count) → step_rows c.loop-k.k c.advance-m.result.partner c.advance-m.result.rest
     (rows_from c.loop-k.count c.loop-k.masks c.loop-k.values c.loop-k.words)
-    ≡ (let it : List Row = let a = c.args in
-    moved a.n (at a.basis.now) (suc c.loop-k.k) (rows_from a.p a.masks.now a.values.now a.words.now) in it)
+    ≡ after c
 stepped c =
     let a = c.args in
     let l = c.loop-k in
     let made = c.advance-m.ensures in
     step-held a.n (at a.basis.now) (rows_from a.p a.masks.now a.values.now a.words.now) l.k _ _ _ l.s _
-    (omega arith) c.requires.n_le_list_inputs.3 l.invariant.6 made.exchanged made.flipped l.invariant.7
+    (omega arith) c.requires.n_le_list_inputs.3 l.invariant.1 made.exchanged made.flipped l.invariant.2
 
 -- how many there are
-counted : (c : goal.After-step_rows-count) → c.step_rows-count.result ≡ length ((let it : List Row = let a = c.args in
-    moved a.n (at a.basis.now) (suc c.loop-k.k) (rows_from a.p a.masks.now a.values.now a.words.now) in it))
+counted : (c : goal.After-step_rows-count) → c.step_rows-count.result ≡ length (after c)
 counted c =
     c.step_rows-count.ensures.value ∙ ap length (stepped c)
 
 pub loop-k-init : goal.loop-k-init
 loop-k-init c =
     let a = c.args in (
-      search rules,
-      search rules,
-      search rules,
-      search rules,
-      search rules,
       search rules,
       reach-start a.n (at a.basis.now) _ _ c.put_units.ensures,
       sym (moved_none a.n (at a.basis.now) _),
@@ -66,7 +59,7 @@ returns-then-count-gt-SMALLER_ROWS c =
     let a = c.args in
     let l = c.loop-k in
     let e = counted (goal.at.returns-then-count-gt-SMALLER_ROWS c).After-step_rows-count in
-    let m = sym (length-tab l.count _) ∙ ap length l.invariant.7 in
+    let m = sym (length-tab l.count _) ∙ ap length l.invariant.2 in
     replay-stopped a.n (at a.basis.now) _ l.k _ _ _ (omega arith) (omega arith) (omega arith)
 
 pub loop-k-preserved : goal.loop-k-preserved
@@ -75,12 +68,7 @@ loop-k-preserved c =
     let l = c.loop-k in
     let n = counted (goal.at.loop-k-preserved c).After-step_rows-count in (
       search rules,
-      search rules,
-      search rules,
-      search rules,
-      search rules,
-      search rules,
-      reach-turn a.n (at a.basis.now) l.k _ _ l.s _ (omega arith) l.invariant.6 refl c.advance-m.ensures.rows,
+      reach-turn a.n (at a.basis.now) l.k _ _ l.s _ (omega arith) l.invariant.1 refl c.advance-m.ensures.rows,
       rw (n, add-one l.k) ((rw (stepped (goal.at.loop-k-preserved c).After-step_rows-count) at c.step_rows-count.ensures.held).front (omega arith)),
     )
 
@@ -89,4 +77,4 @@ returns c =
     let a = c.args in
     let l = c.loop-k in
     let end : l.k ≡ a.n = omega arith in
-    replay-done a.n (at a.basis.now) _ l.count _ _ _ (omega arith) (rw end at l.invariant.7)
+    replay-done a.n (at a.basis.now) _ l.count _ _ _ (omega arith) (rw end at l.invariant.2)

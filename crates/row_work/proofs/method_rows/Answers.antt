@@ -11,9 +11,9 @@ use Rattle.row_work.proofs.method_rows.Goals as goal
 pub returns-then-v-ne0 : goal.returns-then-v-ne0
 returns-then-v-ne0 c =
     let a = c.args in
-    method-refused a.n a.k a.block_type a.w (rows_of a.masks.now a.values.now a.words.now) a.short a.basis.now a.sigma.now
+    rw c.from.ensures (method-refused a.n a.k a.block_type a.w (rows_of a.masks.now a.values.now a.words.now) a.short a.basis.now a.sigma.now
     a.out_masks.now a.out_values.now a.out_words.now _ c.method_checked-v.ensures
-    (λ e. omega (arith, c.if-v-ne0.true))
+    (λ e. omega (arith, c.if-v-ne0.true)))
 
 pub work_rows-done-requires : goal.work_rows-done-requires
 work_rows-done-requires c =

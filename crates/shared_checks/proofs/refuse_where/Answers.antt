@@ -6,5 +6,5 @@ use Rattle.shared_checks.proofs.refuse_where.Goals as goal
 pub returns-then-holds : goal.returns-then-holds
 returns-then-holds c = c.refuse.ensures ∙ sym (verdict-hit _ _ c.if-holds.true)
 
-pub returns : goal.returns
-returns c = c.refuse-2.ensures ∙ sym (verdict-miss _ _ c.if-holds.false ∙ verdict-none)
+pub returns-else-holds : goal.returns-else-holds
+returns-else-holds c = c.refuse-else-holds.ensures ∙ sym (verdict-miss _ _ c.if-holds.false ∙ verdict-none)

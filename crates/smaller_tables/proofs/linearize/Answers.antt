@@ -26,8 +26,7 @@ agree : (c : goal.After-put_values) → Agree (value_at c.put_walk-count.new.out
     c.args.n c.args.w
 agree c =
     let a = c.args in
-    laid-agree (of_table a.table.now) a.n a.w _ _ _ _ _ c.shifts_of.ensures ((let it : Walked c.args.n c.args.w c.put_walk-count.new.out c.put_walk-count.result = let a = c.args in
-    walked a.n a.w (replicate (2 ^ table_inputs) 0) _ _ c.put_walk-count.ensures.out_after c.put_walk-count.ensures.value in it))
+    laid-agree (of_table a.table.now) a.n a.w _ _ _ _ _ c.shifts_of.ensures (walked a.n a.w (replicate (2 ^ table_inputs) 0) _ _ c.put_walk-count.ensures.out_after c.put_walk-count.ensures.value)
     c.put_values.ensures
 
 pub shifts_of-requires : goal.shifts_of-requires

@@ -1,6 +1,6 @@
-use Rattle.std.proofs.Common.{◌≡◌, ◌+◌, ◌-◌, ◌/◌, ◌%◌, ◌<◌, ◌≤◌, length, ℤ, pos, nat_abs, sym, refl, ap, ◌∙◌, subst, ap₂, div-le_self, arith, length-set, w32, to_z, of_z, rules}
+use Rattle.std.proofs.Common.{◌≡◌, ◌+◌, ◌/◌, ◌%◌, ◌<◌, ◌≤◌, length, ℤ, pos, nat_abs, sym, refl, ap, ◌∙◌, subst, ap₂, div-le_self, arith, w32, to_z, of_z}
 use Rattle.walsh_laws.specs.Machine.{back, quotient-asks, quotient-gives}
-use Rattle.slices.specs.Places.{at, over}
+use Rattle.slices.specs.Places.{at}
 use Rattle.slices.specs.Filled.{over_none, over-more, over-beyond, over-whole}
 use Rattle.walsh_laws.specs.Walsh.{most_number}
 use Rattle.walsh_laws.specs.Passes.{val}
@@ -14,12 +14,12 @@ here c =
 
 kept : (c : goal.In-loop-t) → here c ≡ val c.args.s.now c.loop-t.t
 kept c =
-    ap (λ l. val l c.loop-t.t) c.loop-t.invariant.3
+    ap (λ l. val l c.loop-t.t) c.loop-t.invariant.cleared
     ∙ over-beyond c.loop-t.t _ c.args.s.now (pos 0) c.loop-t.t (omega arith)
 
 stood : (c : goal.In-loop-t) → at c.loop-t.out c.loop-t.t ≡ at c.args.out.now c.loop-t.t
 stood c =
-    ap (λ l. at l c.loop-t.t) c.loop-t.invariant.4
+    ap (λ l. at l c.loop-t.t) c.loop-t.invariant.added
     ∙ over-beyond c.loop-t.t _ c.args.out.now 0 c.loop-t.t (omega arith)
 
 -- what the argument divides by
@@ -41,7 +41,7 @@ given : (c : goal.After-exact_quotient) → c.exact_quotient.result
     ≡ nat_abs (val c.args.s.now c.loop-t.t) / length c.args.s.now
 given c =
     let same : val c.loop-t.s c.loop-t.t ≡ val c.args.s.now c.loop-t.t
-    = ap (λ l. val l c.loop-t.t) c.loop-t.invariant.3 ∙ over-beyond c.loop-t.t _ c.args.s.now (pos 0) c.loop-t.t (omega arith) in
+    = ap (λ l. val l c.loop-t.t) c.loop-t.invariant.cleared ∙ over-beyond c.loop-t.t _ c.args.s.now (pos 0) c.loop-t.t (omega arith) in
     let low : nat_abs (val c.loop-t.s c.loop-t.t) ≤ most_number
     = subst (λ z. nat_abs z ≤ most_number) (sym same) (c.requires.3.small _ (omega arith)) in
     let by : to_z w32 (of_z w32 c.args.d) ≡ pos (length c.args.s.now)
@@ -50,7 +50,7 @@ given c =
     ∙ ap (λ (z : ℤ). nat_abs z / length c.args.s.now) same
 
 pub loop-t-init : goal.loop-t-init
-loop-t-init c = (search rules, search rules, search rules, over_none _ _, over_none _ _)
+loop-t-init c = record { cleared = over_none _ _; added = over_none _ _ }
 
 pub exact_quotient-requires : goal.exact_quotient-requires
 exact_quotient-requires c =
@@ -70,19 +70,16 @@ overflow_add-out c =
     )
 
 pub loop-t-preserved : goal.loop-t-preserved
-loop-t-preserved c = (
-  search rules,
-  simp length-set (omega arith),
-  simp length-set (omega arith),
-  over-more _ _ _ _ _ c.loop-t.invariant.3 refl (omega arith),
-  over-more _ _ _ _ _ c.loop-t.invariant.4 (ap₂ ◌+◌ (stood (goal.at.loop-t-preserved c).In-loop-t) (given (goal.at.loop-t-preserved c).After-exact_quotient)) (omega arith),
-)
+loop-t-preserved c = record {
+  cleared = over-more _ _ _ _ _ c.loop-t.invariant.cleared refl (omega arith);
+  added = over-more _ _ _ _ _ c.loop-t.invariant.added (ap₂ ◌+◌ (stood (goal.at.loop-t-preserved c).In-loop-t) (given (goal.at.loop-t-preserved c).After-exact_quotient)) (omega arith);
+}
 
 pub returns : goal.returns
 returns c =
     let a = c.args in
     let m = length a.s.now in
     let end : c.loop-t.t ≡ m = omega arith in (
-      (rw end at c.loop-t.invariant.3) ∙ over-whole m (λ _. pos 0) a.s.now refl,
-      (rw end at c.loop-t.invariant.4) ∙ over-whole m (λ t. at a.out.now t + nat_abs (val a.s.now t) / m) a.out.now c.requires.1,
+      (rw end at c.loop-t.invariant.cleared) ∙ over-whole m (λ _. pos 0) a.s.now refl,
+      (rw end at c.loop-t.invariant.added) ∙ over-whole m (λ t. at a.out.now t + nat_abs (val a.s.now t) / m) a.out.now c.requires.1,
     )

@@ -21,7 +21,7 @@ returns-then-v-ne0 c =
     let x = measure f a.n in
     let y = measure (smaller f gray_column a.n) a.n in
     record {
-      answer = measures-refused v x y c.if-v-ne0.true ∙ ap (λ (v : Answer). with_measures v x y) e;
+      answer = c.from.ensures ∙ measures-refused v x y c.if-v-ne0.true ∙ ap (λ (v : Answer). with_measures v x y) e;
       table = kept v _ (symmetric_table a.words.now a.n) a.table.now e c.if-v-ne0.true;
       smaller = kept v _ (gray_table a.words.now a.n) a.smaller.now e c.if-v-ne0.true;
     }
@@ -45,8 +45,7 @@ returns c =
     let y = measure (smaller f gray_column a.n) a.n in
     let done = c.make_symmetric-measures.ensures in
     record {
-      answer = ap₂ (λ (x y : ℕ). record { number = v.number; a = v.a; b = v.b; before = x; after = y }) done.earlier done.later
-          ∙ measures-answered v x y l ∙ ap (λ (v : Answer). with_measures v x y) e;
+      answer = rw (c.from-2.ensures, done.earlier, done.later) (measures-answered v x y l ∙ ap (λ (v : Answer). with_measures v x y) e);
       table = done.table ∙ given v _ (symmetric_table a.words.now a.n) a.table.now e l;
       smaller = done.smaller ∙ given v _ (gray_table a.words.now a.n) a.smaller.now e l;
     }

@@ -15,7 +15,7 @@ returns-then-v-ne0 c =
     let a = c.args in
     let x = one (is_symmetric a.table.now a.n) in
     let v = c.table_symmetric_verdict-v in
-    record { answer = value-refused v.result x c.if-v-ne0.true ∙ ap (λ (v : Answer). with_value v x) v.ensures }
+    record { answer = c.from.ensures ∙ value-refused v.result x c.if-v-ne0.true ∙ ap (λ (v : Answer). with_value v x) v.ensures }
 
 pub symmetric_value-value-requires : goal.symmetric_value-value-requires
 symmetric_value-value-requires c =
@@ -30,7 +30,6 @@ returns c =
     let x = one (is_symmetric a.table.now a.n) in
     let v = c.table_symmetric_verdict-v.result in
     record {
-      answer = ap (λ (y : ℕ). record { number = v.number; a = v.a; b = v.b; value = y }) c.symmetric_value-value.ensures
-          ∙ value-answered v x c.if-v-ne0.false
-          ∙ ap (λ (v : Answer). with_value v x) c.table_symmetric_verdict-v.ensures;
+      answer = rw (c.from-2.ensures, c.symmetric_value-value.ensures) (value-answered v x c.if-v-ne0.false
+          ∙ ap (λ (v : Answer). with_value v x) c.table_symmetric_verdict-v.ensures);
     }

@@ -3,7 +3,6 @@ use mathlib.Core.Path.{refl, sym, ap, ◌∙◌}
 use Rattle.block.specs.Symmetric.{symmetric_block}
 use Rattle.block.specs.declared.TableMethodAnswer.{TableMethodAnswer}
 use Rattle.table_checks.specs.Passed.{symmetric-passed}
-use borrow.Author.Rules.{rules}
 use Rattle.symmetric_lines.proofs.say_block.Goals as goal
 
 pub say_linearized-requires : goal.say_linearized-requires

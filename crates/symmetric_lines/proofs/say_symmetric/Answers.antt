@@ -3,7 +3,6 @@ use mathlib.Core.Path.{refl, sym, ap, ◌∙◌}
 use Rattle.block.specs.Symmetric.{table_symmetric}
 use Rattle.block.specs.declared.ValueAnswer.{ValueAnswer}
 use Rattle.table_checks.specs.Passed.{table-symmetric-passed}
-use borrow.Author.Rules.{rules}
 use Rattle.symmetric_lines.proofs.say_symmetric.Goals as goal
 
 pub say_given_words-requires : goal.say_given_words-requires

@@ -1,14 +1,13 @@
 use mathlib.Core.Path.{◌≡◌, ap, ap₂, ◌∙◌}
 use mathlib.Core.List.{List}
-use Prim.Native.Nat.{ℕ, ◌+◌, ◌-◌, ◌≤◌}
+use Prim.Native.Nat.{ℕ, ◌+◌, ◌≤◌}
 use native.Mathlib.Omega.{arith}
 use Rattle.slices.specs.Places.{at, tab, over}
 use Rattle.slices.specs.Filled.{over_none, over-more, over-beyond}
-use borrow.Author.Rules.{rules}
 use Rattle.symmetric_values.proofs.fold_once.Goals as goal
 
 pub loop-i-init : goal.loop-i-init
-loop-i-init c = (search rules, search rules, over_none _ _)
+loop-i-init c = over_none _ _
 
 -- from i on the values are those that were lent
 held : (i j : ℕ) (l values : List ℕ) → values ≡ over (tab i (λ j. at l j + at l (j + 1))) l → i ≤ j → at values j ≡ at l j
@@ -20,8 +19,8 @@ overflow_add-values-in-loop-i c =
     let l = c.args.values.now in
     omega (
       arith,
-      held i i l _ c.loop-i.invariant.2 (omega arith),
-      held i (i + 1) l _ c.loop-i.invariant.2 (omega arith),
+      held i i l _ c.loop-i.invariant (omega arith),
+      held i (i + 1) l _ c.loop-i.invariant (omega arith),
       c.requires.1 i (omega arith),
       c.requires.1 (i + 1) (omega arith),
     )
@@ -29,14 +28,6 @@ overflow_add-values-in-loop-i c =
 pub loop-i-preserved : goal.loop-i-preserved
 loop-i-preserved c =
     let i = c.loop-i.i in
-    let l = c.args.values.now in (
-      search rules,
-      search rules,
-      over-more i (λ j. at l j + at l (j + 1)) l _ _ c.loop-i.invariant.2
-          (ap₂ ◌+◌ (held i i l _ c.loop-i.invariant.2 (omega arith)) (held i (i + 1) l _ c.loop-i.invariant.2 (omega arith))) (omega arith),
-    )
-
-pub returns : goal.returns
-returns c =
-    let end : c.loop-i.i ≡ c.args.m = omega arith in
-    rw end at c.loop-i.invariant.2
+    let l = c.args.values.now in
+    over-more i (λ j. at l j + at l (j + 1)) l _ _ c.loop-i.invariant
+    (ap₂ ◌+◌ (held i i l _ c.loop-i.invariant (omega arith)) (held i (i + 1) l _ c.loop-i.invariant (omega arith))) (omega arith)

@@ -1,15 +1,10 @@
--- `symmetric_values::value_at_one` meets its contract. The loop's invariant: the values of the first c counts are there. The measure is what is left.
+-- `symmetric_values::value_at_one` meets its contract. The loop's invariant: the values of the first c counts are there.
 -- Assumes nothing.
 use mathlib.Core.Path.{◌≡◌}
-use Prim.Native.Nat.{◌-◌, ◌≤◌}
-use lib.ListN.{length}
 use Rattle.slices.specs.Places.{tab, over}
 use Rattle.symmetric_laws.specs.Weights.{changed, equal}
 use Rattle.symmetric_laws.specs.Blocks.{word_for}
 use Rattle.symmetric_values.proofs.value_at_one.Given as goal
 
 abbrev pub invariant-loop-c : goal.invariant-loop-c
-invariant-loop-c l = (l.c ≤ l.n) × (length l.values ≡ 12) × (l.values ≡ over (tab l.c (λ i. changed (equal (word_for l.words)) i i)) l.initial.values)
-
-abbrev pub decreases-loop-c : goal.decreases-loop-c
-decreases-loop-c l = l.n - l.c
+invariant-loop-c l = l.values ≡ over (tab l.c (λ i. changed (equal (word_for l.words)) i i)) l.initial.values

@@ -1,50 +1,46 @@
-use mathlib.Core.Path.{refl}
-use Prim.Native.Nat.{ℕ, ◌≤◌, ◌<◌, ◌-◌, ◌^◌}
-use native.Mathlib.Omega.{arith}
-use lib.Pow.{pow_pos, pow_mono}
-use Rattle.block.specs.Limits.{table_inputs}
-use Rattle.symmetric_work.specs.Looks.{look-starts, look-goes-on, look-finds, look-ends, looked-some, looked-none}
-use borrow.Author.Rules.{rules}
+use Rattle.std.proofs.Common.{ℕ, ◌+◌, ◌-◌, ◌*◌, ◌≤◌, ◌<◌, ◌^◌, arith, pow_pos, below_more}
+use Rattle.std.proofs.Math.Decide.{dec_lt}
+use Rattle.symmetric_work.specs.Looks.{Repeated, stands-with, stands-without, stands-below, stands-beyond, look-repeated, unlike-finds, looked-some, looked-none}
 use Rattle.symmetric_work.proofs.is_unlike.Goals as goal
+use Rattle.symmetric_work.proofs.is_unlike.Goals.{In-loop-a}
 
-pub overflow_sub-with : goal.overflow_sub-with
-overflow_sub-with c = omega (arith, c.size-step.ensures, pow_pos c.args.k)
+-- both numbers of the turn are below 2^n
+within : (c : goal.In-loop-a) → c.loop-a.a * (c.size-step.result + c.size-step.result) + (c.size-step.result + c.size-step.result) ≤ 2 ^ c.args.n
+within c =
+    let b : c.loop-a.a < 2 ^ (c.args.n - 1 - c.args.k) = omega (arith, c.size-a-end.ensures) in
+    stands-below c.args.n c.args.k c.loop-a.a c.size-step.result c.size-step.ensures c.requires.2 b
 
-pub overflow_sub-without : goal.overflow_sub-without
-overflow_sub-without c = omega (arith, c.size-step.ensures, pow_pos c.args.k)
+pub bounds-table-with : goal.bounds-table-with
+bounds-table-with c =
+    omega (arith, within (goal.at.bounds-table-with c).In-loop-a, c.size-step.ensures, pow_pos c.args.k, c.requires.0)
 
-few : (k n : ℕ) → k < n → n ≤ table_inputs → 2 ^ k ≤ 4096
-few k n h l = let b : k ≤ table_inputs = omega arith in pow_mono b
-
-pub loop-with-init : goal.loop-with-init
-loop-with-init c =
-    let e = c.size-step.ensures in (
-      e,
-      omega (arith, e, pow_pos c.args.k),
-      omega (arith, e, few c.args.k c.args.n c.requires.2 c.requires.1),
-      omega (arith, c.requires.0, pow_mono c.requires.1),
-      search rules,
-      look-starts _ _ _ _ _ _ e refl refl,
-    )
+pub bounds-table-without : goal.bounds-table-without
+bounds-table-without c =
+    omega (arith, within (goal.at.bounds-table-without c).In-loop-a, c.size-step.ensures, pow_pos c.args.k, c.requires.0)
 
 pub returns-then-table-with : goal.returns-then-table-with
 returns-then-table-with c =
-    let l = c.loop-with in
-    looked-some _ _ _ (look-finds _ c.args.n _ l.with l.without l.invariant.5 c.requires.0 (omega (arith, c.requires.0)) c.if-table-with.true)
+    let a = c.args in
+    let x = c.loop-a.a in
+    let s = c.size-step in
+    looked-some _ _ _
+    (unlike-finds a.table.now a.n a.k x _ _ c.requires.0 (stands-with a.n a.k x _ s.ensures) (stands-without a.n a.k x _ s.ensures)
+    (omega (arith, within (goal.at.returns-then-table-with c).In-loop-a, s.ensures, pow_pos a.k)) c.if-table-with.true)
 
-pub loop-with-preserved : goal.loop-with-preserved
-loop-with-preserved c =
-    let l = c.loop-with in
-    let i = l.invariant in (
-      i.0,
-      i.1,
-      i.2,
-      i.3,
-      omega arith,
-      look-goes-on _ _ _ l.with l.without i.5 _ i.0 c.requires.0 (omega (arith, c.requires.0)) c.if-table-with.false,
-    )
+pub loop-a-preserved : goal.loop-a-preserved
+loop-a-preserved c =
+    let a = c.args in
+    let x = c.loop-a.a in
+    let s = c.size-step in
+    below_more _ _ c.loop-a.invariant
+    (look-repeated a.table.now a.n a.k x _ _ c.requires.0 (stands-with a.n a.k x _ s.ensures) (stands-without a.n a.k x _ s.ensures)
+    (omega (arith, within (goal.at.loop-a-preserved c).In-loop-a, s.ensures, pow_pos a.k)) c.if-table-with.false)
 
 pub returns : goal.returns
-returns c =
-    let l = c.loop-with in
-    looked-none _ _ _ (look-ends _ c.args.n _ l.with l.without l.invariant.5 (omega (arith, c.requires.0)))
+returns c = looked-none _ _ _ (λ x. all x (dec_lt x c.loop-a.a))
+  where
+    all : (x : ℕ) → Dec (x < c.loop-a.a) → Repeated c.args.table.now c.args.n c.args.k x
+    all x (yes b) = c.loop-a.invariant x b
+    all x (no b) =
+        let e : 2 ^ (c.args.n - 1 - c.args.k) ≤ x = omega (arith, c.size-a-end.ensures) in
+        λ w. absurd (stands-beyond c.args.n c.args.k x c.size-step.result c.size-step.ensures c.requires.2 e w)

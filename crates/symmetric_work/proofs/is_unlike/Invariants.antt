@@ -1,13 +1,7 @@
--- `symmetric_work::is_unlike` meets its contract. The loop's invariant: it has come to some number, and no entry before it is unlike. The measure
--- is what is left. Assumes nothing.
-use mathlib.Core.Path.{◌≡◌}
-use Prim.Native.Nat.{◌≤◌, ◌<◌, ◌-◌, ◌^◌}
-use lib.ListN.{length}
-use Rattle.symmetric_work.specs.Looks.{Looking}
+-- `symmetric_work::is_unlike` meets its contract. The loop's invariant: no entry with less than a above its zero is unlike. Assumes nothing.
+use Rattle.std.proofs.Common.{ℕ, ◌<◌}
+use Rattle.symmetric_work.specs.Looks.{Repeated}
 use Rattle.symmetric_work.proofs.is_unlike.Given as goal
 
-abbrev pub invariant-loop-with : goal.invariant-loop-with
-invariant-loop-with l = (l.step ≡ 2 ^ l.k) × (0 < l.step) × (l.step ≤ 4096) × (length l.table ≤ 4096) × (l.without ≤ l.with) × Looking l.table l.n l.k l.with l.without
-
-abbrev pub decreases-loop-with : goal.decreases-loop-with
-decreases-loop-with l = length l.table - l.with
+abbrev pub invariant-loop-a : goal.invariant-loop-a
+invariant-loop-a l = (a : ℕ) → a < l.a → Repeated l.table l.n l.k a

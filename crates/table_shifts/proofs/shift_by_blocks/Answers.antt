@@ -3,11 +3,9 @@ use Prim.Native.Nat.{◌-◌, ◌/◌, ◌^◌}
 use native.Mathlib.Omega.{arith}
 use lib.ListN.{length}
 use lib.Pow.{pow_mono}
-use Rattle.sums.specs.Sums.{sum}
 use Rattle.sums.specs.Laws.{sum-zero, sum_more}
 use Rattle.table_words.specs.Matching.{pair_adds, number-of-blocks}
 use Rattle.table_shifts.specs.Blocks.{shift-blocks, pairs_small}
-use borrow.Author.Rules.{rules}
 use Rattle.table_shifts.proofs.shift_by_blocks.Goals as goal
 use Rattle.table_shifts.proofs.shift_by_blocks.Goals.{At-loop-b}
 
@@ -17,7 +15,7 @@ number c =
     number-of-blocks _ _ h.least h.entries
 
 pub loop-b-init : goal.loop-b-init
-loop-b-init c = (search rules, sym (sum-zero _))
+loop-b-init c = sym (sum-zero _)
 
 pub blocks_add-r-requires : goal.blocks_add-r-requires
 blocks_add-r-requires c =
@@ -38,9 +36,9 @@ overflow_add-r c =
 
 pub loop-b-preserved : goal.loop-b-preserved
 loop-b-preserved c =
-    (omega (arith, number (goal.at.loop-b-preserved c).At-loop-b), rw sum_more (omega (arith, c.blocks_add-r.ensures)))
+    rw sum_more (omega (arith, c.blocks_add-r.ensures))
 
 pub returns : goal.returns
 returns c =
     let end : c.loop-b.b ≡ 2 ^ (c.args.n - 6) = omega (arith, number (goal.at.returns c).At-loop-b) in
-    (rw end at c.loop-b.invariant.1) ∙ sym (shift-blocks _ _ _ _ _ c.requires.0 c.requires.1)
+    (rw end at c.loop-b.invariant) ∙ sym (shift-blocks _ _ _ _ _ c.requires.0 c.requires.1)

@@ -7,7 +7,6 @@ use Rattle.block.specs.Limits.{table_inputs}
 use Rattle.table_words.specs.Matching.{number-of-blocks, point-lt, whole}
 use Rattle.table_shifts.specs.Blocks.{copy-made}
 use Rattle.table_shifts.specs.Light.{low-none, low-more, low-skip}
-use borrow.Author.Rules.{rules}
 use Rattle.table_shifts.proofs.shifts_at_low.Goals as goal
 use Rattle.table_shifts.proofs.shifts_at_low.Goals.{At-loop-high, In-loop-high, then-has_few, else-has_few}
 
@@ -26,7 +25,7 @@ put_copy-requires c =
     (h.0.entries, omega (arith, pow_mono h.0.least), pow_mono h.0.most)
 
 pub loop-high-init : goal.loop-high-init
-loop-high-init c = (search rules, low-none _ _ _ _)
+loop-high-init c = low-none _ _ _ _
 
 pub overflow_mul-t : goal.overflow_mul-t
 overflow_mul-t c = omega (arith, within (goal.at.overflow_mul-t c).In-loop-high)
@@ -47,25 +46,23 @@ pub offset_bounds-out-t : goal.offset_bounds-out-t
 offset_bounds-out-t c = omega (arith, within (goal.at.offset_bounds-out-t c).In-loop-high)
 
 pub bounds-out-t : goal.bounds-out-t
-bounds-out-t c = omega (arith, within (goal.at.bounds-out-t c).In-loop-high, c.loop-high.invariant.1.size)
+bounds-out-t c = omega (arith, within (goal.at.bounds-out-t c).In-loop-high, c.loop-high.invariant.size)
 
 pub loop-high-preserved : goal.loop-high-preserved
 loop-high-preserved c =
-    let o = c.loop-high in (
-      omega (arith, number (goal.at.loop-high-preserved c).At-loop-high),
-      (let near : o.high * 64 + c.args.low < 2 ^ c.args.n = within (goal.at.loop-high-preserved c).In-loop-high in
-          elim c.if-has_few.branch [
-            | then-has_few a ↦
-                low-more _ c.args.w c.args.low o.high _ _ _ c.requires.1 o.invariant.1 _ (omega (arith, near)) a.shift_by_blocks.ensures a.out-is
-            | else-has_few a ↦ low-skip _ c.args.w c.args.low o.high _ _ _ c.requires.1 o.invariant.1 (sym c.has_few.ensures ∙ a.if-has_few.false) a.out-is
-          ]),
-    )
+    let o = c.loop-high in
+    (let near : o.high * 64 + c.args.low < 2 ^ c.args.n = within (goal.at.loop-high-preserved c).In-loop-high in
+    elim c.if-has_few.branch [
+      | then-has_few a ↦
+          low-more _ c.args.w c.args.low o.high _ _ _ c.requires.1 o.invariant _ (omega (arith, near)) a.shift_by_blocks.ensures a.out-is
+      | else-has_few a ↦ low-skip _ c.args.w c.args.low o.high _ _ _ c.requires.1 o.invariant (sym c.has_few.ensures ∙ a.if-has_few.false) a.out-is
+    ])
 
 pub shape_of-out : goal.shape_of-out
-shape_of-out c = c.loop-high.invariant.1.size
+shape_of-out c = c.loop-high.invariant.size
 
 pub returns : goal.returns
 returns c =
     let end : c.loop-high.high * 64 ≡ 2 ^ c.args.n =
     omega (arith, number (goal.at.returns c).At-loop-high, whole c.args.n c.requires.0.least) in
-    rw end at c.loop-high.invariant.1
+    rw end at c.loop-high.invariant

@@ -1,5 +1,5 @@
 use mathlib.Core.Path.{◌≡◌, sym, ap, ◌∙◌}
-use Prim.Native.Nat.{ℕ, ◌<◌, ◌-◌, ◌+◌, ◌^◌}
+use Prim.Native.Nat.{ℕ, ◌<◌, ◌+◌, ◌^◌}
 use native.Mathlib.Nat.{add-zero}
 use native.Mathlib.Omega.{arith}
 use lib.Bits.{bit_xor, xor_lt}
@@ -10,9 +10,8 @@ use Rattle.sums.specs.Laws.{count-zero, count-more, count-le}
 use Rattle.block.specs.Words.{of_table}
 use Rattle.block.specs.Measure.{same, shift}
 use Rattle.table_values.specs.Points.{same-hole, same-miss, same-hit}
-use borrow.Author.Rules.{rules}
 use Rattle.table_values.proofs.shift_at.Goals as goal
-use Rattle.table_values.proofs.shift_at.Goals.{In-loop-x, then-w+then-table-x, then-w+else-table-x, else-w}
+use Rattle.table_values.proofs.shift_at.Goals.{In-loop-x, then-w+then-table-x, else-w, else-w-via-then-w+else-table-x, else-w-via-else-w}
 
 -- x XOR t is a point too
 within : (c : goal.In-loop-x) → bit_xor c.loop-x.x c.args.t < 2 ^ c.args.n
@@ -36,10 +35,7 @@ turn c r v h e =
     rw count-more (omega (arith, h))
 
 pub loop-x-init : goal.loop-x-init
-loop-x-init c = (search rules, sym (count-zero _))
-
-pub offset_bounds-table-x-then-w : goal.offset_bounds-table-x-then-w
-offset_bounds-table-x-then-w c = omega (arith, within (goal.at.offset_bounds-table-x-then-w c).In-loop-x)
+loop-x-init c = sym (count-zero _)
 
 pub bounds-table-x-then-w : goal.bounds-table-x-then-w
 bounds-table-x-then-w c = omega (arith, within (goal.at.bounds-table-x-then-w c).In-loop-x)
@@ -56,17 +52,20 @@ pub loop-x-preserved : goal.loop-x-preserved
 loop-x-preserved c =
     let l = c.args.table.now in
     let t = c.args.t in
-    let x = c.loop-x.x in (
-      search rules,
-      (let here : x < length l = omega arith in
-          let near : bit_xor x t < length l = near (goal.at.loop-x-preserved c).In-loop-x in
-          elim c.if-w.branch [
-            | then-w+then-table-x w ↦ turn (goal.at.loop-x-preserved c).In-loop-x _ 1 (same-hit l t x here near w.if-w.true w.if-table-x.true) w.r-is
-            | then-w+else-table-x w ↦ turn (goal.at.loop-x-preserved c).In-loop-x _ 0 (same-miss l t x here near w.if-table-x.false) (w.r-is ∙ sym (add-zero _))
-            | else-w w ↦ turn (goal.at.loop-x-preserved c).In-loop-x _ 0 (same-hole l t x here w.if-w.false) (w.r-is ∙ sym (add-zero _))
-          ]),
-    )
+    let x = c.loop-x.x in
+    let here : x < length l = omega arith in
+    let near : bit_xor x t < length l = near (goal.at.loop-x-preserved c).In-loop-x in
+    elim c.if-w.branch [
+      | then-w+then-table-x w ↦ turn (goal.at.loop-x-preserved c).In-loop-x _ 1 (same-hit l t x here near w.if-w.true w.if-table-x.true) w.r-is
+      | else-w w ↦
+          turn (goal.at.loop-x-preserved c).In-loop-x _ 0
+          (elim w.else-w.branch [
+            | else-w-via-then-w+else-table-x v ↦ same-miss l t x here near v.if-table-x.false
+            | else-w-via-else-w v ↦ same-hole l t x here v.if-w.false
+          ])
+          (w.r-is ∙ sym (add-zero _))
+    ]
 
 pub returns : goal.returns
 unfolding shift
-returns c = c.loop-x.invariant.1 ∙ ap (count (same _ _)) (omega arith)
+returns c = c.loop-x.invariant ∙ ap (count (same _ _)) (omega arith)

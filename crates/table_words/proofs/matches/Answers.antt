@@ -1,5 +1,5 @@
 use mathlib.Core.Path.{◌≡◌, sym, ap, ◌∙◌}
-use Prim.Native.Nat.{ℕ, ◌-◌, ◌+◌, ◌*◌}
+use Prim.Native.Nat.{ℕ, ◌+◌, ◌*◌}
 use native.Mathlib.Nat.{add-zero}
 use native.Mathlib.Omega.{arith}
 use borrow.Author.Tests.{eq-eqb, ne_eqb}
@@ -8,7 +8,6 @@ use Rattle.slices.specs.Places.{at}
 use Rattle.sums.specs.Sums.{one, count}
 use Rattle.sums.specs.Laws.{count-zero, count-more, count-le}
 use Rattle.table_words.specs.Matching.{matching}
-use borrow.Author.Rules.{rules}
 use Rattle.table_words.proofs.matches.Goals as goal
 use Rattle.table_words.proofs.matches.Goals.{In-loop-i, then-table-x, else-table-x}
 
@@ -23,7 +22,7 @@ turn c r v h e =
     rw count-more (omega (arith, h))
 
 pub loop-i-init : goal.loop-i-init
-loop-i-init c = (search rules, sym (count-zero _))
+loop-i-init c = sym (count-zero _)
 
 pub overflow_add-m : goal.overflow_add-m
 overflow_add-m c =
@@ -34,14 +33,12 @@ overflow_add-m c =
     )
 
 pub loop-i-preserved : goal.loop-i-preserved
-loop-i-preserved c = (
-  search rules,
-  elim c.if-table-x.branch [
-    | then-table-x w ↦ turn (goal.at.loop-i-preserved c).In-loop-i _ 1 (ap one (eq-eqb _ _ w.if-table-x.true)) w.m-is
-    | else-table-x w ↦ turn (goal.at.loop-i-preserved c).In-loop-i _ 0 (ap one (ne_eqb _ _ w.if-table-x.false)) (w.m-is ∙ sym (add-zero _))
-  ],
-)
+loop-i-preserved c =
+    elim c.if-table-x.branch [
+      | then-table-x w ↦ turn (goal.at.loop-i-preserved c).In-loop-i _ 1 (ap one (eq-eqb _ _ w.if-table-x.true)) w.m-is
+      | else-table-x w ↦ turn (goal.at.loop-i-preserved c).In-loop-i _ 0 (ap one (ne_eqb _ _ w.if-table-x.false)) (w.m-is ∙ sym (add-zero _))
+    ]
 
 pub returns : goal.returns
 unfolding matching
-returns c = c.loop-i.invariant.1 ∙ ap (count _) (omega arith)
+returns c = c.loop-i.invariant ∙ ap (count _) (omega arith)

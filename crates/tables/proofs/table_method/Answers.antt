@@ -26,7 +26,7 @@ returns-then-v-ne0 c =
     let x = measure f a.n in
     let y = measure (smaller_of f a.n a.w) a.n in
     record {
-      answer = measures-refused v x y c.if-v-ne0.true ∙ ap (λ (v : Answer). with_measures v x y) e;
+      answer = c.from.ensures ∙ measures-refused v x y c.if-v-ne0.true ∙ ap (λ (v : Answer). with_measures v x y) e;
       basis = kept v _ (basis_of f a.n a.w) a.basis.now e c.if-v-ne0.true;
       sigma = kept v _ (sigma_of f a.n a.w) a.sigma.now e c.if-v-ne0.true;
       smaller = kept v _ (smaller_table f a.n a.w) a.smaller.now e c.if-v-ne0.true;
@@ -65,8 +65,7 @@ returns c =
     let y = measure (smaller_of f a.n a.w) a.n in
     let done = c.linearize-measures.ensures in
     record {
-      answer = ap₂ (λ (x y : ℕ). record { number = v.number; a = v.a; b = v.b; before = x; after = y }) done.earlier done.later
-          ∙ measures-answered v x y l ∙ ap (λ (v : Answer). with_measures v x y) e;
+      answer = rw (c.from-2.ensures, done.earlier, done.later) (measures-answered v x y l ∙ ap (λ (v : Answer). with_measures v x y) e);
       basis = done.basis ∙ given v _ (basis_of f a.n a.w) a.basis.now e l;
       sigma = done.sigma ∙ given v _ (sigma_of f a.n a.w) a.sigma.now e l;
       smaller = done.smaller ∙ given v _ (smaller_table f a.n a.w) a.smaller.now e l;

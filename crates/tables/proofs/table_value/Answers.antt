@@ -15,7 +15,7 @@ returns-then-v-ne0 c =
     let a = c.args in
     let x = shift (of_table a.table.now) a.n a.t in
     let v = c.table_value_verdict-v in
-    record { answer = value-refused v.result x c.if-v-ne0.true ∙ ap (λ (v : Answer). with_value v x) v.ensures }
+    record { answer = c.from.ensures ∙ value-refused v.result x c.if-v-ne0.true ∙ ap (λ (v : Answer). with_value v x) v.ensures }
 
 pub shift_at-value-requires : goal.shift_at-value-requires
 shift_at-value-requires c =
@@ -30,7 +30,6 @@ returns c =
     let x = shift (of_table a.table.now) a.n a.t in
     let v = c.table_value_verdict-v.result in
     record {
-      answer = ap (λ (y : ℕ). record { number = v.number; a = v.a; b = v.b; value = y }) c.shift_at-value.ensures
-          ∙ value-answered v x c.if-v-ne0.false
-          ∙ ap (λ (v : Answer). with_value v x) c.table_value_verdict-v.ensures;
+      answer = rw (c.from-2.ensures, c.shift_at-value.ensures) (value-answered v x c.if-v-ne0.false
+          ∙ ap (λ (v : Answer). with_value v x) c.table_value_verdict-v.ensures);
     }

@@ -1,9 +1,8 @@
 use mathlib.Core.Path.{◌≡◌, refl, sym, ◌∙◌}
 use mathlib.Core.Bool.{true}
-use Prim.Native.Nat.{◌≤◌, ◌<◌, ◌+◌, ◌-◌, ◌^◌}
+use Prim.Native.Nat.{◌≤◌, ◌<◌, ◌+◌, ◌^◌}
 use native.Mathlib.Omega.{arith}
 use lib.ListN.{length}
-use lib.Pow.{pow_mono}
 use Rattle.candidates.specs.Light.{light}
 use Rattle.slices.specs.Laid.{laid_none, laid_more}
 use Rattle.walks.specs.Walk.{walk, walk_none, walk-taken, walk-past, walk-room}
@@ -22,23 +21,9 @@ room c h =
 pub loop-t-init : goal.loop-t-init
 loop-t-init c = (search rules, c.size-size.ensures, rw walk_none (laid_none _))
 
-pub overflow_cast-t : goal.overflow_cast-t
-overflow_cast-t c = omega (arith, pow_mono c.requires.1)
-
-pub overflow_cast-out : goal.overflow_cast-out
-overflow_cast-out c = omega (arith, pow_mono c.requires.1)
-
-pub offset_bounds-out-count : goal.offset_bounds-out-count
-offset_bounds-out-count c =
-    omega (arith, room (goal.at.offset_bounds-out-count c).Then-is_light (sym c.is_light.ensures ∙ c.if-is_light.true))
-
 pub bounds-out-count : goal.bounds-out-count
 bounds-out-count c =
     omega (arith, room (goal.at.bounds-out-count c).Then-is_light (sym c.is_light.ensures ∙ c.if-is_light.true), c.loop-t.invariant.2.size)
-
-pub overflow_add-count : goal.overflow_add-count
-overflow_add-count c =
-    omega (arith, room (goal.at.overflow_add-count c).Then-is_light (sym c.is_light.ensures ∙ c.if-is_light.true))
 
 pub loop-t-preserved-then-is_light : goal.loop-t-preserved-then-is_light
 loop-t-preserved-then-is_light c =
@@ -49,23 +34,11 @@ loop-t-preserved-then-is_light c =
       rw (walk-taken _ p.t taken) (laid_more _ _ _ _ _ _ p.t p.invariant.2 (omega (arith, room (goal.at.loop-t-preserved-then-is_light c).Then-is_light taken)) refl refl),
     )
 
-pub overflow_cast-t-else-is_light : goal.overflow_cast-t-else-is_light
-overflow_cast-t-else-is_light c = omega (arith, pow_mono c.requires.1)
-
-pub stride-t-requires : goal.stride-t-requires
-stride-t-requires c = (search rules, sym c.is_light.ensures ∙ c.if-is_light.false)
-
 -- where the next number stands
 past : (c : goal.After-stride-t) → c.loop-t.t + c.stride-t.result ≤ c.size-size.result
 past c =
     let n = c.args.n in
     omega (arith, c.stride-t.ensures.inside n (omega arith))
-
-pub overflow_add-t-else-is_light : goal.overflow_add-t-else-is_light
-overflow_add-t-else-is_light c = omega (arith, past (goal.at.overflow_add-t-else-is_light c).After-stride-t, pow_mono c.requires.1)
-
-pub loop-t-smaller : goal.loop-t-smaller
-loop-t-smaller c = omega (arith, c.stride-t.ensures.some)
 
 pub loop-t-preserved : goal.loop-t-preserved
 loop-t-preserved c =

@@ -1,10 +1,6 @@
--- `walks::next_place` meets its contract, which is the loop's invariant. The measure is what is left. Assumes nothing.
-use Prim.Native.Nat.{◌-◌}
+-- `walks::next_place` meets its contract, which is the loop's invariant. Assumes nothing.
 use Rattle.walks.specs.Next.{NextPlace}
 use Rattle.walks.proofs.next_place.Given as goal
 
 abbrev pub invariant-loop-place : goal.invariant-loop-place
 invariant-loop-place l = NextPlace l.values l.from l.count l.top l.place
-
-abbrev pub decreases-loop-place : goal.decreases-loop-place
-decreases-loop-place l = l.count - l.place

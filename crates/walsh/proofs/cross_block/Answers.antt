@@ -1,14 +1,12 @@
 use mathlib.Core.Path.{◌≡◌}
-use Prim.Native.Nat.{◌+◌, ◌*◌, ◌-◌, ◌≤◌}
+use Prim.Native.Nat.{◌+◌, ◌*◌, ◌≤◌}
 use native.Mathlib.Omega.{arith}
 use lib.IntN.{ℤ, nat_abs}
-use lib.ListN.{length-set}
 use mir.Syntax.{w32}
 use mir.Val.{to_z, of_z}
 use Rattle.walsh_laws.specs.Walsh.{most_number}
-use Rattle.walsh_laws.specs.Passes.{val, crossed-none, crossed-more, crossed-small}
-use Rattle.walsh_laws.specs.Machine.{back, sum_fits, sum_back, difference-fits, difference-back}
-use borrow.Author.Rules.{rules}
+use Rattle.walsh_laws.specs.Passes.{val, crossed-more, crossed-small}
+use Rattle.walsh_laws.specs.Machine.{back, sum_back, difference-back}
 use Rattle.walsh.proofs.cross_block.Goals as goal
 use Rattle.walsh.proofs.cross_block.Goals.{In-loop-j}
 
@@ -25,7 +23,7 @@ lower c =
 module _ (c : goal.In-loop-j) where
   small : (nat_abs (upper c) ≤ most_number) × (nat_abs (lower c) ≤ most_number)
   small =
-      crossed-small c.args.s.now _ _ _ _ c.requires.0 c.loop-j-test.true c.loop-j.invariant.1 c.requires.1
+      crossed-small c.args.s.now _ _ _ _ c.requires.0 c.loop-j-test.true c.loop-j.invariant c.requires.1
 
   read_upper : to_z w32 (of_z w32 (upper c)) ≡ upper c
   read_upper = back (upper c) (omega (arith, small.0))
@@ -36,40 +34,9 @@ module _ (c : goal.In-loop-j) where
   both : nat_abs (upper c) + nat_abs (lower c) ≤ 4 * most_number
   both = omega (arith, small.0, small.1)
 
-pub loop-j-init : goal.loop-j-init
-loop-j-init c = (search rules, crossed-none _ _ _)
-
-pub slice_copy_out-a : goal.slice_copy_out-a
-slice_copy_out-a c = omega (arith, c.loop-j.invariant.1.long)
-
-pub slice_copy_out-b : goal.slice_copy_out-b
-slice_copy_out-b c = omega (arith, c.loop-j.invariant.1.long)
-
-pub overflow_add-s : goal.overflow_add-s
-overflow_add-s c = sum_fits (read_upper (goal.at.overflow_add-s c).In-loop-j) (read_lower (goal.at.overflow_add-s c).In-loop-j) (both (goal.at.overflow_add-s c).In-loop-j)
-
-pub bounds-s-at : goal.bounds-s-at
-bounds-s-at c = omega (arith, c.loop-j.invariant.1.long)
-
-pub overflow_sub-s : goal.overflow_sub-s
-overflow_sub-s c = difference-fits (read_upper (goal.at.overflow_sub-s c).In-loop-j) (read_lower (goal.at.overflow_sub-s c).In-loop-j) (both (goal.at.overflow_sub-s c).In-loop-j)
-
-pub bounds-s-at-in-loop-j : goal.bounds-s-at-in-loop-j
-bounds-s-at-in-loop-j c = simp length-set (omega (arith, c.loop-j.invariant.1.long))
-
 pub loop-j-preserved : goal.loop-j-preserved
 loop-j-preserved c =
-    let a = c.args in (
-      search rules,
-      crossed-more a.s.now _ _ _ _ _ _ c.requires.0 c.loop-j-test.true c.loop-j.invariant.1
-          (sum_back (read_upper (goal.at.loop-j-preserved c).In-loop-j) (read_lower (goal.at.loop-j-preserved c).In-loop-j) (both (goal.at.loop-j-preserved c).In-loop-j))
-          (difference-back (read_upper (goal.at.loop-j-preserved c).In-loop-j) (read_lower (goal.at.loop-j-preserved c).In-loop-j) (both (goal.at.loop-j-preserved c).In-loop-j)),
-    )
-
-pub shape_of-s : goal.shape_of-s
-shape_of-s c = c.loop-j.invariant.1.long
-
-pub returns : goal.returns
-returns c =
-    let end : c.loop-j.j ≡ c.args.h = omega arith in
-    rw end at c.loop-j.invariant.1
+    let a = c.args in
+    crossed-more a.s.now _ _ _ _ _ _ c.requires.0 c.loop-j-test.true c.loop-j.invariant
+    (sum_back (read_upper (goal.at.loop-j-preserved c).In-loop-j) (read_lower (goal.at.loop-j-preserved c).In-loop-j) (both (goal.at.loop-j-preserved c).In-loop-j))
+    (difference-back (read_upper (goal.at.loop-j-preserved c).In-loop-j) (read_lower (goal.at.loop-j-preserved c).In-loop-j) (both (goal.at.loop-j-preserved c).In-loop-j))

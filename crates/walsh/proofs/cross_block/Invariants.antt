@@ -1,11 +1,6 @@
--- `walsh::cross_block` meets its contract. The loop's invariant: the first j butterflies are done. The measure is what is left.
--- Assumes nothing.
-use Prim.Native.Nat.{◌-◌, ◌≤◌}
+-- `walsh::cross_block` meets its contract. The loop's invariant: the first j butterflies are done.
 use Rattle.walsh_laws.specs.Passes.{Crossed}
 use Rattle.walsh.proofs.cross_block.Given as goal
 
 abbrev pub invariant-loop-j : goal.invariant-loop-j
-invariant-loop-j l = (l.j ≤ l.h) × Crossed l.initial.s l.s l.at l.h l.j
-
-abbrev pub decreases-loop-j : goal.decreases-loop-j
-decreases-loop-j l = l.h - l.j
+invariant-loop-j l = Crossed l.initial.s l.s l.at l.h l.j

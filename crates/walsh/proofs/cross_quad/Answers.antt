@@ -1,14 +1,13 @@
 use mathlib.Core.Path.{◌≡◌, ap, ◌∙◌}
-use Prim.Native.Nat.{ℕ, ◌+◌, ◌*◌, ◌-◌, ◌≤◌, ◌<◌}
+use Prim.Native.Nat.{ℕ, ◌+◌, ◌*◌, ◌≤◌, ◌<◌}
 use native.Mathlib.Omega.{arith}
 use lib.IntN.{nat_abs}
 use lib.ListN.{length-set}
 use mir.Syntax.{w32}
 use mir.Val.{to_z, of_z}
 use Rattle.walsh_laws.specs.Walsh.{most_number}
-use Rattle.walsh_laws.specs.Passes.{val, Same, crossed-twice-none, crossed-twice-same, crossed-twice-more}
-use Rattle.walsh_laws.specs.Machine.{back, sum_fits, difference-fits, first_fits, first_back, second_fits, second_back, third-fits, third_back, fourth-fits, fourth-back}
-use borrow.Author.Rules.{rules}
+use Rattle.walsh_laws.specs.Passes.{val, Same, crossed-twice-same, crossed-twice-more}
+use Rattle.walsh_laws.specs.Machine.{back, first_fits, first_back, second_fits, second_back, third-fits, third_back, fourth-fits, fourth-back}
 use Rattle.walsh.proofs.cross_quad.Goals as goal
 use Rattle.walsh.proofs.cross_quad.Goals.{In-loop-j}
 
@@ -28,7 +27,7 @@ module _ (c : goal.In-loop-j) where
   read x a b e = ap (λ z. to_z w32 (of_z w32 z)) e ∙ back (val c.args.s.now x) (omega (arith, small x a b))
 
   same : Same c.args.s.now c.loop-j.s place width
-  same = crossed-twice-same c.args.s.now _ _ _ _ c.requires.0 c.loop-j-test.true c.loop-j.invariant.1
+  same = crossed-twice-same c.args.s.now _ _ _ _ c.requires.0 c.loop-j-test.true c.loop-j.invariant
 
   read_a : to_z w32 (of_z w32 (val c.loop-j.s place)) ≡ val c.args.s.now place
   read_a = read place (omega arith) (omega arith) same.0
@@ -55,69 +54,23 @@ module _ (c : goal.In-loop-j) where
         small (place + width + width + width) (omega arith) (omega arith),
       )
 
-pub loop-j-init : goal.loop-j-init
-loop-j-init c = (search rules, crossed-twice-none _ _ _)
-
-pub slice_copy_out-a : goal.slice_copy_out-a
-slice_copy_out-a c = omega (arith, c.loop-j.invariant.1.long)
-
-pub slice_copy_out-b : goal.slice_copy_out-b
-slice_copy_out-b c = omega (arith, c.loop-j.invariant.1.long)
-
-pub slice_copy_out-c : goal.slice_copy_out-c
-slice_copy_out-c c = omega (arith, c.loop-j.invariant.1.long)
-
-pub slice_copy_out-d : goal.slice_copy_out-d
-slice_copy_out-d c = omega (arith, c.loop-j.invariant.1.long)
-
-pub overflow_add-left_sum : goal.overflow_add-left_sum
-overflow_add-left_sum c = sum_fits (read_a (goal.at.overflow_add-left_sum c).In-loop-j) (read-b (goal.at.overflow_add-left_sum c).In-loop-j) (omega (arith, few (goal.at.overflow_add-left_sum c).In-loop-j))
-
-pub overflow_sub-left_difference : goal.overflow_sub-left_difference
-overflow_sub-left_difference c = difference-fits (read_a (goal.at.overflow_sub-left_difference c).In-loop-j) (read-b (goal.at.overflow_sub-left_difference c).In-loop-j) (omega (arith, few (goal.at.overflow_sub-left_difference c).In-loop-j))
-
-pub overflow_add-right_sum : goal.overflow_add-right_sum
-overflow_add-right_sum c = sum_fits (read-c (goal.at.overflow_add-right_sum c).In-loop-j) (read-d (goal.at.overflow_add-right_sum c).In-loop-j) (omega (arith, few (goal.at.overflow_add-right_sum c).In-loop-j))
-
-pub overflow_sub-right_difference : goal.overflow_sub-right_difference
-overflow_sub-right_difference c = difference-fits (read-c (goal.at.overflow_sub-right_difference c).In-loop-j) (read-d (goal.at.overflow_sub-right_difference c).In-loop-j) (omega (arith, few (goal.at.overflow_sub-right_difference c).In-loop-j))
-
 pub overflow_add-s : goal.overflow_add-s
 overflow_add-s c = first_fits (read_a (goal.at.overflow_add-s c).In-loop-j) (read-b (goal.at.overflow_add-s c).In-loop-j) (read-c (goal.at.overflow_add-s c).In-loop-j) (read-d (goal.at.overflow_add-s c).In-loop-j) (few (goal.at.overflow_add-s c).In-loop-j)
-
-pub bounds-s-first : goal.bounds-s-first
-bounds-s-first c = omega (arith, c.loop-j.invariant.1.long)
 
 pub overflow_add-s-in-loop-j : goal.overflow_add-s-in-loop-j
 overflow_add-s-in-loop-j c = second_fits (read_a (goal.at.overflow_add-s-in-loop-j c).In-loop-j) (read-b (goal.at.overflow_add-s-in-loop-j c).In-loop-j) (read-c (goal.at.overflow_add-s-in-loop-j c).In-loop-j) (read-d (goal.at.overflow_add-s-in-loop-j c).In-loop-j) (few (goal.at.overflow_add-s-in-loop-j c).In-loop-j)
 
-pub bounds-s-second : goal.bounds-s-second
-bounds-s-second c = simp length-set (omega (arith, c.loop-j.invariant.1.long))
-
 pub overflow_sub-s : goal.overflow_sub-s
 overflow_sub-s c = third-fits (read_a (goal.at.overflow_sub-s c).In-loop-j) (read-b (goal.at.overflow_sub-s c).In-loop-j) (read-c (goal.at.overflow_sub-s c).In-loop-j) (read-d (goal.at.overflow_sub-s c).In-loop-j) (few (goal.at.overflow_sub-s c).In-loop-j)
-
-pub bounds-s-third : goal.bounds-s-third
-bounds-s-third c = simp length-set (omega (arith, c.loop-j.invariant.1.long))
 
 pub overflow_sub-s-in-loop-j : goal.overflow_sub-s-in-loop-j
 overflow_sub-s-in-loop-j c = fourth-fits (read_a (goal.at.overflow_sub-s-in-loop-j c).In-loop-j) (read-b (goal.at.overflow_sub-s-in-loop-j c).In-loop-j) (read-c (goal.at.overflow_sub-s-in-loop-j c).In-loop-j) (read-d (goal.at.overflow_sub-s-in-loop-j c).In-loop-j) (few (goal.at.overflow_sub-s-in-loop-j c).In-loop-j)
 
 pub bounds-s-fourth : goal.bounds-s-fourth
-bounds-s-fourth c = simp length-set (omega (arith, c.loop-j.invariant.1.long))
+bounds-s-fourth c = simp length-set (omega (arith, c.loop-j.invariant.long))
 
 pub loop-j-preserved : goal.loop-j-preserved
-loop-j-preserved c = (
-  search rules,
-  crossed-twice-more c.args.s.now _ _ _ _ c.requires.0 c.loop-j-test.true c.loop-j.invariant.1 _ _ _ _
-      (first_back (read_a (goal.at.loop-j-preserved c).In-loop-j) (read-b (goal.at.loop-j-preserved c).In-loop-j) (read-c (goal.at.loop-j-preserved c).In-loop-j) (read-d (goal.at.loop-j-preserved c).In-loop-j) (few (goal.at.loop-j-preserved c).In-loop-j)) (second_back (read_a (goal.at.loop-j-preserved c).In-loop-j) (read-b (goal.at.loop-j-preserved c).In-loop-j) (read-c (goal.at.loop-j-preserved c).In-loop-j) (read-d (goal.at.loop-j-preserved c).In-loop-j) (few (goal.at.loop-j-preserved c).In-loop-j))
-      (third_back (read_a (goal.at.loop-j-preserved c).In-loop-j) (read-b (goal.at.loop-j-preserved c).In-loop-j) (read-c (goal.at.loop-j-preserved c).In-loop-j) (read-d (goal.at.loop-j-preserved c).In-loop-j) (few (goal.at.loop-j-preserved c).In-loop-j)) (fourth-back (read_a (goal.at.loop-j-preserved c).In-loop-j) (read-b (goal.at.loop-j-preserved c).In-loop-j) (read-c (goal.at.loop-j-preserved c).In-loop-j) (read-d (goal.at.loop-j-preserved c).In-loop-j) (few (goal.at.loop-j-preserved c).In-loop-j)),
-)
-
-pub shape_of-s : goal.shape_of-s
-shape_of-s c = c.loop-j.invariant.1.long
-
-pub returns : goal.returns
-returns c =
-    let end : c.loop-j.j ≡ c.args.h = omega arith in
-    rw end at c.loop-j.invariant.1
+loop-j-preserved c =
+    crossed-twice-more c.args.s.now _ _ _ _ c.requires.0 c.loop-j-test.true c.loop-j.invariant _ _ _ _
+    (first_back (read_a (goal.at.loop-j-preserved c).In-loop-j) (read-b (goal.at.loop-j-preserved c).In-loop-j) (read-c (goal.at.loop-j-preserved c).In-loop-j) (read-d (goal.at.loop-j-preserved c).In-loop-j) (few (goal.at.loop-j-preserved c).In-loop-j)) (second_back (read_a (goal.at.loop-j-preserved c).In-loop-j) (read-b (goal.at.loop-j-preserved c).In-loop-j) (read-c (goal.at.loop-j-preserved c).In-loop-j) (read-d (goal.at.loop-j-preserved c).In-loop-j) (few (goal.at.loop-j-preserved c).In-loop-j))
+    (third_back (read_a (goal.at.loop-j-preserved c).In-loop-j) (read-b (goal.at.loop-j-preserved c).In-loop-j) (read-c (goal.at.loop-j-preserved c).In-loop-j) (read-d (goal.at.loop-j-preserved c).In-loop-j) (few (goal.at.loop-j-preserved c).In-loop-j)) (fourth-back (read_a (goal.at.loop-j-preserved c).In-loop-j) (read-b (goal.at.loop-j-preserved c).In-loop-j) (read-c (goal.at.loop-j-preserved c).In-loop-j) (read-d (goal.at.loop-j-preserved c).In-loop-j) (few (goal.at.loop-j-preserved c).In-loop-j))

@@ -17,7 +17,7 @@ pub returns-then-v-ne0 : goal.returns-then-v-ne0
 unfolding write_text
 returns-then-v-ne0 c =
     let e = c.write_checks-v.ensures in
-    record { answer = rw (← e, ne_eqb _ _ c.if-v-ne0.true); text = rw (← e, ne_eqb _ _ c.if-v-ne0.true) }
+    record { answer = rw (c.from.ensures, ← e, ne_eqb _ _ c.if-v-ne0.true); text = rw (← e, ne_eqb _ _ c.if-v-ne0.true) }
 
 pub put_text-count-requires : goal.put_text-count-requires
 put_text-count-requires c =
@@ -38,7 +38,7 @@ returns c =
     let e = c.write_checks-v.ensures in
     let w = writable a.n a.k a.block_type a.type_line rs (length a.out.now) (ap (λ v. v.number) (sym e) ∙ c.if-v-ne0.false) in
     record {
-      answer = rw (← e, eq-eqb _ _ c.if-v-ne0.false, c.put_text-count.ensures.place ∙ zero-add _);
+      answer = rw (c.from-2.ensures, ← e, eq-eqb _ _ c.if-v-ne0.false, c.put_text-count.ensures.place ∙ zero-add _);
       text = rw (← e, eq-eqb _ _ c.if-v-ne0.false)
           (put-over (omega (arith, text-le a.n a.k a.block_type a.type_line rs w.inputs.1 w.outputs.1 w.count.1)) c.put_text-count.ensures);
     }

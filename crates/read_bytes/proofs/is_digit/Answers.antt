@@ -1,9 +1,0 @@
--- `read_bytes::is_digit` meets its contract. Assumes nothing.
-use borrow.Author.Tests.{le-leb, lt-leb}
-use Rattle.read_bytes.proofs.is_digit.Goals as goal
-
-pub returns-then-b-lt48 : goal.returns-then-b-lt48
-returns-then-b-lt48 c = rw (lt-leb _ _ c.if-b-lt48.true)
-
-pub returns : goal.returns
-returns c = rw (le-leb _ _ c.if-b-lt48.false)
