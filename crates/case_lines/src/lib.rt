@@ -4,8 +4,10 @@
 // the order of the line, and compared with those due. All functions here are inner: a program that runs cases calls them.
 #![tactic(auto)]
 
-ghost use Rattle.std.specs.Prelude.{◌≡◌, ◌≤◌, length};
-ghost use Rattle.case_lines.specs.Room.{rows_most};
+ghost use Rattle.std.specs.Prelude.{ℕ, List, ◌≡◌, ◌≤◌, length, take};
+ghost use Rattle.case_lines.specs.Room.{numbers_most, rows_most};
+
+use std::marker::Model;
 
 // Room for the numbers of a line: those of a table of 13 inputs, and of 600 rows.
 pub const NUMBERS: usize = 8300;
@@ -170,6 +172,15 @@ pub struct Numbers {
     count: usize,
 }
 
+// In a clause they are the list of those that are there, never more than there is room for.
+impl Model for Numbers {
+    ghost Value = { List ℕ };
+
+    ghost view = { λ s. take s.count s.room };
+
+    ghost invariant = { λ s. s.count ≤ numbers_most };
+}
+
 impl Numbers {
     // None yet.
     pub fn new() -> Numbers {
@@ -179,8 +190,11 @@ impl Numbers {
         }
     }
 
-    pub fn as_slice(&self) -> &[u64] {
-        saying::part(&self.room, self.count)
+    pub fn as_slice(&self) -> &[u64]
+        ensures is_whole { result.now ≡ self.now }
+        ensures has_room { length result.now ≤ numbers_most }
+    {
+        &self.room[..self.count]
     }
 
     // One number more.
@@ -299,7 +313,9 @@ pub fn every(numbers: &[u64], from: usize, step: usize) -> [u32; ROWS]
 }
 
 // The numbers as entries of a table.
-pub fn entries(numbers: &[u64]) -> [u16; NUMBERS] {
+pub fn entries(numbers: &[u64]) -> [u16; NUMBERS]
+    ensures { numbers_most ≡ length result }
+{
     let mut out = [0u16; NUMBERS];
     for (entry, number) in out.iter_mut().zip(numbers) {
         *entry = (*number % 65536) as u16;

@@ -2,7 +2,7 @@
 // names in them outlast a power cut. All functions here are inner.
 #![tactic(auto)]
 
-ghost use Rattle.std.specs.Prelude.{◌≤◌, length};
+ghost use Rattle.std.specs.Prelude.{◌≡◌, ◌≤◌, ◌++◌, length};
 ghost use Rattle.import_paths.specs.Room.{name_most};
 
 use file_facts::{Facts, facts_of};
@@ -12,7 +12,9 @@ use std::env::Env;
 use std::fs::{Files, OpenFile};
 
 // The name of the folder, with the "/" at its end, and the last part of a name, after it.
-pub fn split_name(name: &[u8]) -> (&[u8], &[u8]) {
+pub fn split_name(name: &[u8]) -> (&[u8], &[u8])
+    ensures { name.now ≡ result.0.now ++ result.1.now }
+{
     match name.iter().rposition(|b| *b == b'/') {
         Some(slash) => name.split_at(slash + 1),
         None => (b"", name),

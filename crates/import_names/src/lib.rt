@@ -1,7 +1,7 @@
 // The names that a bulk import gives, told from those of lists, and where the names of lists begin. All functions here are inner.
 #![tactic(auto)]
 
-ghost use Rattle.std.specs.Prelude.{◌≤◌, length};
+ghost use Rattle.std.specs.Prelude.{◌≡◌, ◌≤◌, length, take};
 
 use std::env::Env;
 
@@ -15,7 +15,8 @@ pub fn ends_in_both(name: &[u8], first: &[u8], second: &[u8]) -> bool {
 
 // A name without the digits at its end.
 pub fn before_digits(name: &[u8]) -> &[u8]
-    ensures { length result.now ≤ length name.now }
+    ensures is_prefix { result.now ≡ take (length result.now) name.now }
+    ensures has_bound { length result.now ≤ length name.now }
 {
     match name.iter().rposition(|b| !b.is_ascii_digit()) {
         Some(last) => &name[..last + 1],
