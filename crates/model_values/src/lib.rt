@@ -102,17 +102,25 @@ pub fn value_checked(
     then_patterns(matrix, n, count, masks, values)
 }
 
+// The first of `count` patterns from a place on that z lies under, or their number.
+pub fn first_driving(masks: &[u32], values: &[u32], from: usize, count: usize, z: u32) -> usize
+    requires { (from + count ≤ length masks.now) × (from + count ≤ length values.now) }
+    ensures { result ≡ first count (λ i. driven_at masks.now values.now z (from + i)) }
+{
+    for i in 0..count {
+        if masks[from + i] & z == values[from + i] {
+            return i;
+        }
+    }
+    count
+}
+
 // Whether z lies under one of `count` patterns from a place on.
 pub fn is_driven(masks: &[u32], values: &[u32], from: usize, count: usize, z: u32) -> bool
     requires { (from + count ≤ length masks.now) × (from + count ≤ length values.now) }
     ensures { result ≡ ltb (first count (λ i. driven_at masks.now values.now z (from + i))) count }
 {
-    for i in 0..count {
-        if masks[from + i] & z == values[from + i] {
-            return true;
-        }
-    }
-    false
+    first_driving(masks, values, from, count, z) < count
 }
 
 // A power where something holds, and else 0.

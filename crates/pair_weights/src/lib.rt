@@ -14,6 +14,13 @@ ghost use Rattle.pair_laws.specs.Theorem.{counts, often};
 ghost use Rattle.pair_laws.specs.Symmetric.{cube, hit};
 ghost use Rattle.pair_weights.specs.Places.{cube_of};
 
+// Whether two words are equal, in all their columns; word 0 is a word like any other.
+fn same_word(a: u32, b: u32) -> bool
+    ensures { result ≡ eqb a b }
+{
+    a == b
+}
+
 // 1 where missing points count, because their word is an output, and else 0.
 pub fn missing_counts(missing: u32) -> u32
     ensures { result ≡ counts missing }
@@ -22,7 +29,7 @@ pub fn missing_counts(missing: u32) -> u32
 }
 
 // How often the points of a pair of rows with the words a and b count: not at all where one of the words is that of a missing point; else
-// once for equal words, and `more` times for any two. Words are equal in all their columns, and word 0 is a word like any other.
+// once for equal words, and `more` times for any two.
 pub fn times_of(a: u32, b: u32, missing: u32, more: u32) -> u32
     requires { more ≤ 1 }
     ensures value { result ≡ often missing more a b }
@@ -31,7 +38,7 @@ pub fn times_of(a: u32, b: u32, missing: u32, more: u32) -> u32
     if (a == missing) | (b == missing) {
         return 0;
     }
-    if a == b { more + 1 } else { more }
+    if same_word(a, b) { more + 1 } else { more }
 }
 
 // What a pair of rows weighs, by the masks of their fixed inputs: 2 to the number of inputs that neither fixes, once for a row with
