@@ -25,9 +25,10 @@ pub fn put_bytes(out: &mut [u8], at: usize, s: &[u8]) -> usize
     requires { at + length s.now ≤ length out.old }
     ensures { Put out.old at s.now out.new result }
 {
-    let end = at + s.len();
-    out[at..end].copy_from_slice(s);
-    end
+    for (i, b) in s.iter().enumerate() {
+        out[at + i] = *b;
+    }
+    at + s.len()
 }
 
 // Puts the last count digits of v in a base, highest first: by hand, since the promise is over the bytes of a lent slice, and the library's

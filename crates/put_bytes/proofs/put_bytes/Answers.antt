@@ -1,7 +1,9 @@
--- `put_bytes::put_bytes` meets its contract: the part that it copies to holds s. Assumes nothing.
-use Rattle.std.proofs.Common.{refl}
-use Rattle.put_bytes.specs.Puts.{copied}
+use Rattle.std.proofs.Common.{arith}
+use Rattle.put_bytes.specs.Puts.{copy_more}
 use Rattle.put_bytes.proofs.put_bytes.Goals as goal
 
-pub returns : goal.returns
-returns c = record { place = refl; stored = copied _ _ _ _ c.requires c.copy_from_slice.ensures.after }
+pub loop-i-preserved : goal.loop-i-preserved
+loop-i-preserved c =
+    let l = c.loop-i in
+    let a = c.args in
+    rw l.invariant (copy_more a.out.now a.s.now a.at l.i (omega arith) (omega arith))
