@@ -3,7 +3,9 @@
 // the list finds the next pair, and after a join the joined row is looked at, which may join an earlier one. Every function here is inner.
 #![tactic(auto)]
 
-ghost use Rattle.std.specs.Prelude.{◌≡◌, ◌≤◌, ◌<◌, length};
+ghost use Rattle.std.specs.Prelude.{◌≡◌, ◌&&◌, ◌≤◌, ◌<◌, eqb, length};
+ghost use Rattle.std.specs.Int.Bits.{bit_xor};
+ghost use Rattle.std.specs.Int.Count.{ones};
 ghost use Rattle.block.specs.Words.{row};
 ghost use Rattle.block.specs.Joins.{joins};
 ghost use Rattle.flat_rows.specs.Listing.{rows_from};
@@ -18,15 +20,23 @@ pub struct Pair {
     pub second: usize,
 }
 
+// Whether two rows have the same fixed inputs, and values that differ in exactly one.
+pub fn is_one_apart(mask: u32, values: u32, mask2: u32, values2: u32) -> bool
+    ensures { result ≡ (eqb mask mask2 && eqb (ones (bit_xor values values2)) 1) }
+{
+    mask == mask2 && u32::count_ones(values ^ values2) == 1
+}
+
 // Whether two rows are written as one: equal words, the same fixed inputs, and values that differ in exactly one.
 #[tactic(auto, unfolding(block::specs::Joins::joins))]
 pub fn is_joined(mask: u32, values: u32, word: u32, mask2: u32, values2: u32, word2: u32) -> bool
     ensures { result ≡ joins (row mask values word) (row mask2 values2 word2) }
 {
-    word == word2 && mask == mask2 && u32::count_ones(values ^ values2) == 1
+    word == word2 && is_one_apart(mask, values, mask2, values2)
 }
 
-// The least of the first p rows that is written as one with row c, or p where there is none.
+// The least of the first p rows that is written as one with row c, or p where there is none. Most rows are not one apart,
+// and of those the word is not read.
 pub fn find_nearest(c: usize, p: usize, masks: &[u32], values: &[u32], words: &[u32]) -> usize
     requires { (c < p) × (p ≤ length masks.now) × (p ≤ length values.now) × (p ≤ length words.now) }
     ensures { result ≡ nearest (rows_from p masks.now values.now words.now) c }
@@ -35,7 +45,9 @@ pub fn find_nearest(c: usize, p: usize, masks: &[u32], values: &[u32], words: &[
     let value = values[c];
     let word = words[c];
     for q in 0..p {
-        if is_joined(masks[q], values[q], words[q], mask, value, word) {
+        if is_one_apart(masks[q], values[q], mask, value)
+            && is_joined(masks[q], values[q], words[q], mask, value, word)
+        {
             return q;
         }
     }

@@ -1,6 +1,6 @@
 -- The test of a table by the lowest zero of each number. Assumes nothing.
-use Rattle.std.specs.Prelude.{◌≡◌, refl, Bool, true, false, List, ℕ, suc, ◌+◌, ◌-◌, ◌*◌, ◌^◌, ◌≤◌, ◌<◌, length, get_or}
-use Rattle.std.proofs.Common.{sym, ap, ◌∙◌, mul-le-mul, add-one, arith, below_more, pow_mono}
+use Rattle.std.specs.Prelude.{◌≡◌, refl, Bool, true, false, List, ℕ, suc, ◌+◌, ◌-◌, ◌*◌, ◌/◌, ◌^◌, ◌≤◌, ◌<◌, length, get_or}
+use Rattle.std.proofs.Common.{sym, ap, ◌∙◌, mul-le-mul, add-one, arith, below_more, pow_mono, pow_pos}
 use Rattle.std.proofs.lemmas.Bool.{false≢true}
 use Rattle.std.proofs.Math.Decide.{dec_lt}
 use Rattle.std.specs.Int.Count.{ones}
@@ -10,6 +10,7 @@ use Rattle.block.specs.Symmetric.{is_symmetric}
 use Rattle.symmetric_laws.specs.Slices.{power-more}
 use Rattle.symmetric_laws.specs.Words.{passes-symmetric, with_zero, without_zero, ones-without}
 use Rattle.std.proofs.Math.Pow.{pow-add}
+use Rattle.std.proofs.Math.Nat.{mul-div_cancel}
 
 -- the entries at a number whose lowest zero stands at k and at the number without it are equal
 abbrev pub Repeated : List ℕ → ℕ → ℕ → ℕ → Type 0
@@ -33,7 +34,7 @@ pub record Looking (table : List ℕ) (n k with without : ℕ) : Type 0 where
   pub other : without ≡ without_zero k above
   pub before : (a : ℕ) → a < above → Repeated table n k a
 
-one_more : (a p : ℕ) → (a + 1) * p ≡ a * p + p
+pub one_more : (a p : ℕ) → (a + 1) * p ≡ a * p + p
 one_more a p = let e : a + 1 ≡ suc a = add-one a in ap (λ (i : ℕ). i * p) e ∙ omega arith
 
 module _ (table : List ℕ) (n k : ℕ) where
@@ -99,6 +100,14 @@ module _ (n k a s : ℕ) (e : s ≡ 2 ^ k) where
 
   pub stands-without : a * s + (s - 1) ≡ without_zero k a
   stands-without = omega (arith, e, ap (λ (p : ℕ). a * p) e)
+
+  -- so many stand below 2^n
+  pub stands-count : k < n → 2 ^ n / (s + s) ≡ 2 ^ (n - 1 - k)
+  stands-count h =
+      let whole : n - 1 - k + (k + 1) ≡ n = omega arith in
+      let two : s + s ≡ 2 ^ (k + 1) = omega (arith, e, power-more k) in
+      let parts : 2 ^ n ≡ 2 ^ (n - 1 - k) * (s + s) = ap (λ (i : ℕ). 2 ^ i) (sym whole) ∙ pow-add 2 (n - 1 - k) (k + 1) ∙ ap (λ (p : ℕ). 2 ^ (n - 1 - k) * p) (sym two) in
+      ap (λ (p : ℕ). p / (s + s)) parts ∙ mul-div_cancel (2 ^ (n - 1 - k)) (omega (arith, e, pow_pos k))
 
   -- all below 2^n, where a is below 2^(n - 1 - k)
   pub stands-below : k < n → a < 2 ^ (n - 1 - k) → a * (s + s) + (s + s) ≤ 2 ^ n

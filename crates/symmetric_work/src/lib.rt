@@ -107,12 +107,14 @@ fn is_unlike(table: &[u16], n: usize, k: usize) -> bool
     ensures { Looked table.now n k result }
 {
     let step = bit_work::size(k);
-    for a in 0..bit_work::size(n - 1 - k) {
-        let with = a * (step + step) + (step - 1);
-        let without = a * step + (step - 1);
+    let mut with = step - 1;
+    let mut without = step - 1;
+    for _ in 0..table.len() / (step + step) {
         if table[with] != table[without] {
             return true;
         }
+        with += step + step;
+        without += step;
     }
     false
 }
